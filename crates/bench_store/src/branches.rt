@@ -1,0 +1,70 @@
+//! A node that refers to any number of others.
+
+ghost use Rattle.std.specs.Prelude.{vec_len, ◌<◌, ◌-◌, ◌^◌};
+
+use ref_store::{NoMemory, Node};
+use std::mem;
+
+/// A node with a list of edges, which are set once and for all, and one slot, 0, with an edge that may be set.
+#[derive(Drop)]
+pub struct Branch {
+    pub level: u32,
+    pub targets: Vec<u32>,
+    pub link: Option<u32>,
+    ghost few: { vec_len targets < 2 ^ 32 - 1 },
+}
+
+impl Node for Branch {
+    ghost use Rattle.std.specs.Prelude.{◌==◌, ◌++◌, true, refl};
+    ghost use Rattle.ref_store.specs.Counts.{as_list};
+    ghost use Rattle.bench_store.specs.OneSlot.{is_edge_of, moves_of, no_other};
+
+    ghost rank = { λ b. b.level };
+
+    ghost edges = { λ b. b.targets.items ++ as_list b.link };
+
+    ghost edge_at = { λ b _. b.link };
+
+    ghost has_slot = { λ _ slot. slot == 0 };
+
+    ghost fixed = { λ _ _. true };
+
+    ghost after = { λ b _ _ target. record b { link = target } };
+
+    ghost same_rank = { λ b slot note target. refl };
+
+    ghost new_edge = { λ b slot note target h. refl };
+
+    ghost other_edges = { λ b slot note target other h k ne. absurd (no_other slot other h k ne) };
+
+    ghost is_edge = { λ b slot n. is_edge_of b.targets.items b.link n };
+
+    ghost moves = { λ b slot note target n h. moves_of b.targets.items b.link target n };
+
+    fn rank(&self) -> u32 {
+        self.level
+    }
+
+    fn edge_count(&self) -> u32 {
+        self.targets.len() as u32 + u32::from(self.link.is_some())
+    }
+
+    fn edge(&self, k: u32) -> u32 {
+        match self.targets.get(k as usize) {
+            Some(target) => *target,
+            None => match self.link {
+                Some(last) => last,
+                None => unreachable!(),
+            },
+        }
+    }
+
+    fn set_edge(
+        &mut self,
+        _slot: u64,
+        _note: u64,
+        target: Option<u32>,
+    ) -> Result<Option<u32>, NoMemory> {
+        Ok(mem::replace(&mut self.link, target))
+    }
+}

@@ -1,0 +1,4 @@
+pub mod TextLaws
+pub mod SessionLaws
+pub mod AnswerLaws
+pub mod SaysLaws

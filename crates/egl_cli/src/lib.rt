@@ -1,0 +1,12 @@
+//! The program's commands: words and a source in, a status and a sink's bytes out.
+#![tactic(auto)]
+
+mod answers;
+mod recordings;
+mod respond;
+mod sessions;
+mod statuses;
+mod texts;
+
+pub use respond::plain;
+pub use statuses::Status;

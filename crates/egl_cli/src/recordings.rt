@@ -1,0 +1,153 @@
+//! The text of a run.
+ghost use Rattle.std.specs.Prelude.{◌≡◌, ℕ, ◌+◌, ◌<◌, ◌/◌, ◌%◌, [], ◌∷◌, ◌++◌, codes, decimal, IfOk, OnOk, map};
+ghost use Rattle.std.specs.List.{flat_map};
+ghost use Rattle.trace_model.specs.Recording.{number_text, outcome_text, list_text, hex_digit, hex_byte, bytes_text, entry_line, entry_lines, census_line, recording_of};
+
+use crate::texts::{put_decimal, put_text};
+use driver_core::Driver;
+use egl_calls::{Bytes, Entry, Journal, NoMemory, Outcome};
+use egl_names::name_of;
+use std::alloc::Global;
+
+#[tactic(auto, unfolding(trace_model::specs::Recording::number_text))]
+fn put_number(alloc: Global, out: &mut Bytes, z: i64) -> Result<(), NoMemory>
+    ensures { OnOk result (out.new ≡ out.old ++ number_text z) }
+{
+    match name_of(z) {
+        Some(name) => out.extend(name.as_bytes()),
+        None => match format!(in alloc; "{z}") {
+            Ok(text) => out.extend(text.as_bytes()),
+            Err(_) => Err(NoMemory),
+        },
+    }
+}
+
+#[tactic(auto, unfolding(trace_model::specs::Recording::outcome_text))]
+fn put_outcome(alloc: Global, out: &mut Bytes, outcome: Outcome) -> Result<(), NoMemory>
+    ensures { OnOk result (out.new ≡ out.old ++ outcome_text outcome) }
+{
+    match outcome {
+        Outcome::Done => put_text(out, "ok"),
+        Outcome::Egl(error) => put_number(alloc, out, i64::from(error.code())),
+        Outcome::Gl(error) => put_number(alloc, out, i64::from(error.code())),
+        Outcome::Waiting => put_text(out, "waiting"),
+        Outcome::InWait | Outcome::NoWait => put_text(out, ""),
+    }
+}
+
+/// A comma before each number.
+fn put_more_numbers(alloc: Global, out: &mut Bytes, numbers: &[i64]) -> Result<(), NoMemory>
+    ensures { OnOk result (out.new ≡ out.old ++ flat_map (λ z. codes "," ++ number_text z) numbers.now) }
+{
+    'each: for z in numbers {
+        put_text(out, ",")?;
+        put_number(alloc, out, *z)?;
+    }
+    Ok(())
+}
+
+#[tactic(auto, using(crate::proofs::TextLaws::list_put))]
+fn put_some_numbers(
+    alloc: Global,
+    out: &mut Bytes,
+    first: i64,
+    more: &[i64],
+) -> Result<(), NoMemory>
+    ensures { OnOk result (out.new ≡ out.old ++ list_text (first ∷ more.now)) }
+{
+    put_text(out, "[")?;
+    put_number(alloc, out, first)?;
+    put_more_numbers(alloc, out, more)?;
+    put_text(out, "]")
+}
+
+#[tactic(auto, using(crate::proofs::TextLaws::list_none))]
+fn put_list(alloc: Global, out: &mut Bytes, numbers: &[i64]) -> Result<(), NoMemory>
+    ensures { OnOk result (out.new ≡ out.old ++ list_text numbers.now) }
+{
+    match numbers {
+        [] => put_text(out, "[]"),
+        [first, more @ ..] => put_some_numbers(alloc, out, *first, more),
+    }
+}
+
+fn hex_digit(d: u8) -> u8
+    requires { d < 16 }
+    ensures { result ≡ hex_digit d }
+{
+    if d < 10 { b'0' + d } else { 87 + d }
+}
+
+fn put_hex(out: &mut Bytes, bytes: &[u8]) -> Result<(), NoMemory>
+    ensures { OnOk result (out.new ≡ out.old ++ flat_map hex_byte bytes.now) }
+{
+    'each: for b in bytes {
+        out.extend(&[hex_digit(*b / 16), hex_digit(*b % 16)])?;
+    }
+    Ok(())
+}
+
+#[tactic(auto, unfolding(trace_model::specs::Recording::bytes_text))]
+fn put_bytes(out: &mut Bytes, bytes: &[u8]) -> Result<(), NoMemory>
+    ensures { OnOk result (out.new ≡ out.old ++ bytes_text bytes.now) }
+{
+    match bytes {
+        [] => put_text(out, "-"),
+        [_, ..] => put_hex(out, bytes),
+    }
+}
+
+/// An entry's line without its line feed.
+#[tactic(auto, unfolding(trace_model::specs::Recording::entry_line))]
+fn put_entry(alloc: Global, out: &mut Bytes, entry: &Entry) -> Result<(), NoMemory>
+    ensures { OnOk result (out.new ≡ out.old ++ entry_line entry.now) }
+{
+    put_decimal(alloc, out, u64::from(entry.thread))?;
+    put_text(out, " ")?;
+    put_decimal(alloc, out, entry.mark)?;
+    put_text(out, " ")?;
+    let reply = &entry.reply;
+    put_outcome(alloc, out, reply.outcome)?;
+    put_text(out, " ")?;
+    put_number(alloc, out, reply.value)?;
+    put_text(out, " ")?;
+    put_list(alloc, out, reply.list.as_slice())?;
+    put_text(out, " ")?;
+    put_bytes(out, reply.bytes.as_slice())
+}
+
+#[tactic(auto, unfolding(trace_model::specs::Recording::entry_lines))]
+fn put_entries(alloc: Global, out: &mut Bytes, entries: &[Entry]) -> Result<(), NoMemory>
+    ensures { OnOk result (out.new ≡ out.old ++ entry_lines entries.now) }
+{
+    'each: for entry in entries {
+        put_entry(alloc, out, entry)?;
+        put_text(out, "\n")?;
+    }
+    Ok(())
+}
+
+#[tactic(auto, unfolding(trace_model::specs::Recording::census_line))]
+fn put_census(alloc: Global, out: &mut Bytes, census: &[u64]) -> Result<(), NoMemory>
+    ensures { OnOk result (out.new ≡ out.old ++ census_line census.now) }
+{
+    put_text(out, "census")?;
+    'each: for n in census {
+        put_text(out, " ")?;
+        put_decimal(alloc, out, *n)?;
+    }
+    Ok(())
+}
+
+/// The recording of a journal, behind which a driver stands.
+#[tactic(auto, unfolding(trace_model::specs::Recording::recording_of))]
+pub fn recording(alloc: Global, journal: &Journal, driver: &Driver) -> Result<Bytes, NoMemory>
+    ensures { IfOk result (λ b. b ≡ recording_of journal.now.entries driver.now.state) }
+{
+    let mut out = Bytes::new(alloc);
+    put_text(&mut out, "recording\n")?;
+    put_entries(alloc, &mut out, journal.as_slice())?;
+    put_census(alloc, &mut out, &driver.census())?;
+    put_text(&mut out, "\nend\n")?;
+    Ok(out)
+}

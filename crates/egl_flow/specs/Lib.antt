@@ -1,0 +1,3 @@
+pub mod Flow
+pub mod Causes
+pub mod Memory

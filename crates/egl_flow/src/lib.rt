@@ -1,0 +1,14 @@
+//! Bytes in and out of a program, with counted faults: what a contract may say of input and output.
+#![tactic(auto)]
+
+mod memory;
+mod reading;
+mod streams;
+#[cfg(test)]
+mod tests;
+mod writing;
+
+pub use memory::{MemorySink, MemorySource};
+pub use reading::{Failed, ReadError, Source, read_all};
+pub use streams::{StdSink, StdSource};
+pub use writing::{Sink, WriteFault, write_all};

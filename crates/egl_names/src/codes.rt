@@ -1,0 +1,383 @@
+//! The codes of the names, and the numbers of the words that stand for one, as constants.
+
+// The errors of EGL and of OpenGL ES.
+pub const EGL_SUCCESS: u64 = 3_000_000_000;
+
+pub const EGL_NOT_INITIALIZED: u64 = 3_000_000_001;
+
+pub const EGL_BAD_ACCESS: u64 = 3_000_000_002;
+
+pub const EGL_BAD_ALLOC: u64 = 3_000_000_003;
+
+pub const EGL_BAD_ATTRIBUTE: u64 = 3_000_000_004;
+
+pub const EGL_BAD_CONFIG: u64 = 3_000_000_005;
+
+pub const EGL_BAD_CONTEXT: u64 = 3_000_000_006;
+
+pub const EGL_BAD_CURRENT_SURFACE: u64 = 3_000_000_007;
+
+pub const EGL_BAD_DISPLAY: u64 = 3_000_000_008;
+
+pub const EGL_BAD_MATCH: u64 = 3_000_000_009;
+
+pub const EGL_BAD_NATIVE_PIXMAP: u64 = 3_000_000_010;
+
+pub const EGL_BAD_NATIVE_WINDOW: u64 = 3_000_000_011;
+
+pub const EGL_BAD_PARAMETER: u64 = 3_000_000_012;
+
+pub const EGL_BAD_SURFACE: u64 = 3_000_000_013;
+
+pub const EGL_CONTEXT_LOST: u64 = 3_000_000_014;
+
+pub const GL_NO_ERROR: u64 = 3_000_000_015;
+
+pub const GL_INVALID_ENUM: u64 = 3_000_000_016;
+
+pub const GL_INVALID_VALUE: u64 = 3_000_000_017;
+
+pub const GL_INVALID_OPERATION: u64 = 3_000_000_018;
+
+pub const GL_OUT_OF_MEMORY: u64 = 3_000_000_019;
+
+pub const GL_INVALID_FRAMEBUFFER_OPERATION_OES: u64 = 3_000_000_020;
+
+// The attributes of a config.
+pub const EGL_BUFFER_SIZE: u64 = 3_000_000_021;
+
+pub const EGL_RED_SIZE: u64 = 3_000_000_022;
+
+pub const EGL_GREEN_SIZE: u64 = 3_000_000_023;
+
+pub const EGL_BLUE_SIZE: u64 = 3_000_000_024;
+
+pub const EGL_ALPHA_SIZE: u64 = 3_000_000_025;
+
+pub const EGL_LUMINANCE_SIZE: u64 = 3_000_000_026;
+
+pub const EGL_ALPHA_MASK_SIZE: u64 = 3_000_000_027;
+
+pub const EGL_DEPTH_SIZE: u64 = 3_000_000_028;
+
+pub const EGL_STENCIL_SIZE: u64 = 3_000_000_029;
+
+pub const EGL_SAMPLE_BUFFERS: u64 = 3_000_000_030;
+
+pub const EGL_SAMPLES: u64 = 3_000_000_031;
+
+pub const EGL_BIND_TO_TEXTURE_RGB: u64 = 3_000_000_032;
+
+pub const EGL_BIND_TO_TEXTURE_RGBA: u64 = 3_000_000_033;
+
+pub const EGL_CONFIG_CAVEAT: u64 = 3_000_000_034;
+
+pub const EGL_CONFIG_ID: u64 = 3_000_000_035;
+
+pub const EGL_MAX_SWAP_INTERVAL: u64 = 3_000_000_036;
+
+pub const EGL_MIN_SWAP_INTERVAL: u64 = 3_000_000_037;
+
+pub const EGL_NATIVE_RENDERABLE: u64 = 3_000_000_038;
+
+pub const EGL_NATIVE_VISUAL_ID: u64 = 3_000_000_039;
+
+pub const EGL_NATIVE_VISUAL_TYPE: u64 = 3_000_000_040;
+
+pub const EGL_TRANSPARENT_TYPE: u64 = 3_000_000_041;
+
+pub const EGL_TRANSPARENT_RED_VALUE: u64 = 3_000_000_042;
+
+pub const EGL_TRANSPARENT_GREEN_VALUE: u64 = 3_000_000_043;
+
+pub const EGL_TRANSPARENT_BLUE_VALUE: u64 = 3_000_000_044;
+
+pub const EGL_COLOR_BUFFER_TYPE: u64 = 3_000_000_045;
+
+pub const EGL_LEVEL: u64 = 3_000_000_046;
+
+pub const EGL_SURFACE_TYPE: u64 = 3_000_000_047;
+
+pub const EGL_RENDERABLE_TYPE: u64 = 3_000_000_048;
+
+pub const EGL_CONFORMANT: u64 = 3_000_000_049;
+
+pub const EGL_MAX_PBUFFER_WIDTH: u64 = 3_000_000_050;
+
+pub const EGL_MAX_PBUFFER_HEIGHT: u64 = 3_000_000_051;
+
+pub const EGL_MAX_PBUFFER_PIXELS: u64 = 3_000_000_052;
+
+// The other names of EGL.
+pub const EGL_NONE: u64 = 3_000_000_053;
+
+pub const EGL_SLOW_CONFIG: u64 = 3_000_000_054;
+
+pub const EGL_NON_CONFORMANT_CONFIG: u64 = 3_000_000_055;
+
+pub const EGL_RGB_BUFFER: u64 = 3_000_000_056;
+
+pub const EGL_LUMINANCE_BUFFER: u64 = 3_000_000_057;
+
+pub const EGL_TRANSPARENT_RGB: u64 = 3_000_000_058;
+
+pub const EGL_WIDTH: u64 = 3_000_000_059;
+
+pub const EGL_HEIGHT: u64 = 3_000_000_060;
+
+pub const EGL_LARGEST_PBUFFER: u64 = 3_000_000_061;
+
+pub const EGL_RENDER_BUFFER: u64 = 3_000_000_062;
+
+pub const EGL_BACK_BUFFER: u64 = 3_000_000_063;
+
+pub const EGL_SINGLE_BUFFER: u64 = 3_000_000_064;
+
+pub const EGL_SWAP_BEHAVIOR: u64 = 3_000_000_065;
+
+pub const EGL_BUFFER_PRESERVED: u64 = 3_000_000_066;
+
+pub const EGL_BUFFER_DESTROYED: u64 = 3_000_000_067;
+
+pub const EGL_DRAW: u64 = 3_000_000_068;
+
+pub const EGL_READ: u64 = 3_000_000_069;
+
+pub const EGL_OPENGL_ES_API: u64 = 3_000_000_070;
+
+pub const EGL_OPENVG_API: u64 = 3_000_000_071;
+
+pub const EGL_OPENGL_API: u64 = 3_000_000_072;
+
+pub const EGL_CONTEXT_CLIENT_TYPE: u64 = 3_000_000_073;
+
+pub const EGL_CONTEXT_CLIENT_VERSION: u64 = 3_000_000_074;
+
+pub const EGL_CONTEXT_MINOR_VERSION: u64 = 3_000_000_075;
+
+pub const EGL_SYNC_FENCE: u64 = 3_000_000_076;
+
+pub const EGL_SYNC_TYPE: u64 = 3_000_000_077;
+
+pub const EGL_SYNC_STATUS: u64 = 3_000_000_078;
+
+pub const EGL_SYNC_CONDITION: u64 = 3_000_000_079;
+
+pub const EGL_SYNC_PRIOR_COMMANDS_COMPLETE: u64 = 3_000_000_080;
+
+pub const EGL_SIGNALED: u64 = 3_000_000_081;
+
+pub const EGL_UNSIGNALED: u64 = 3_000_000_082;
+
+pub const EGL_CONDITION_SATISFIED: u64 = 3_000_000_083;
+
+pub const EGL_TIMEOUT_EXPIRED: u64 = 3_000_000_084;
+
+pub const EGL_GL_TEXTURE_2D: u64 = 3_000_000_085;
+
+pub const EGL_GL_RENDERBUFFER: u64 = 3_000_000_086;
+
+pub const EGL_GL_TEXTURE_LEVEL: u64 = 3_000_000_087;
+
+pub const EGL_IMAGE_PRESERVED: u64 = 3_000_000_088;
+
+// The names of OpenGL ES.
+pub const GL_TEXTURE_2D: u64 = 3_000_000_089;
+
+pub const GL_SCISSOR_TEST: u64 = 3_000_000_090;
+
+pub const GL_DITHER: u64 = 3_000_000_091;
+
+pub const GL_BLEND: u64 = 3_000_000_092;
+
+pub const GL_DEPTH_TEST: u64 = 3_000_000_093;
+
+pub const GL_ALPHA_TEST: u64 = 3_000_000_094;
+
+pub const GL_STENCIL_TEST: u64 = 3_000_000_095;
+
+pub const GL_CULL_FACE: u64 = 3_000_000_096;
+
+pub const GL_LIGHTING: u64 = 3_000_000_097;
+
+pub const GL_FOG: u64 = 3_000_000_098;
+
+pub const GL_TEXTURE_ENV: u64 = 3_000_000_099;
+
+pub const GL_TEXTURE_ENV_MODE: u64 = 3_000_000_100;
+
+pub const GL_MODULATE: u64 = 3_000_000_101;
+
+pub const GL_REPLACE: u64 = 3_000_000_102;
+
+pub const GL_UNPACK_ALIGNMENT: u64 = 3_000_000_103;
+
+pub const GL_PACK_ALIGNMENT: u64 = 3_000_000_104;
+
+pub const GL_TEXTURE_MIN_FILTER: u64 = 3_000_000_105;
+
+pub const GL_TEXTURE_MAG_FILTER: u64 = 3_000_000_106;
+
+pub const GL_TEXTURE_WRAP_S: u64 = 3_000_000_107;
+
+pub const GL_TEXTURE_WRAP_T: u64 = 3_000_000_108;
+
+pub const GL_NEAREST: u64 = 3_000_000_109;
+
+pub const GL_LINEAR: u64 = 3_000_000_110;
+
+pub const GL_NEAREST_MIPMAP_NEAREST: u64 = 3_000_000_111;
+
+pub const GL_LINEAR_MIPMAP_NEAREST: u64 = 3_000_000_112;
+
+pub const GL_NEAREST_MIPMAP_LINEAR: u64 = 3_000_000_113;
+
+pub const GL_LINEAR_MIPMAP_LINEAR: u64 = 3_000_000_114;
+
+pub const GL_REPEAT: u64 = 3_000_000_115;
+
+pub const GL_CLAMP_TO_EDGE: u64 = 3_000_000_116;
+
+pub const GL_TEXTURE_CROP_RECT_OES: u64 = 3_000_000_117;
+
+pub const GL_ALPHA: u64 = 3_000_000_118;
+
+pub const GL_RGB: u64 = 3_000_000_119;
+
+pub const GL_RGBA: u64 = 3_000_000_120;
+
+pub const GL_LUMINANCE: u64 = 3_000_000_121;
+
+pub const GL_LUMINANCE_ALPHA: u64 = 3_000_000_122;
+
+pub const GL_UNSIGNED_BYTE: u64 = 3_000_000_123;
+
+pub const GL_UNSIGNED_SHORT_5_6_5: u64 = 3_000_000_124;
+
+pub const GL_UNSIGNED_SHORT_4_4_4_4: u64 = 3_000_000_125;
+
+pub const GL_UNSIGNED_SHORT_5_5_5_1: u64 = 3_000_000_126;
+
+pub const GL_ARRAY_BUFFER: u64 = 3_000_000_127;
+
+pub const GL_ELEMENT_ARRAY_BUFFER: u64 = 3_000_000_128;
+
+pub const GL_STATIC_DRAW: u64 = 3_000_000_129;
+
+pub const GL_DYNAMIC_DRAW: u64 = 3_000_000_130;
+
+pub const GL_BUFFER_SIZE: u64 = 3_000_000_131;
+
+pub const GL_BUFFER_USAGE: u64 = 3_000_000_132;
+
+pub const GL_FRAMEBUFFER_OES: u64 = 3_000_000_133;
+
+pub const GL_RENDERBUFFER_OES: u64 = 3_000_000_134;
+
+pub const GL_RGB565_OES: u64 = 3_000_000_135;
+
+pub const GL_RGBA4_OES: u64 = 3_000_000_136;
+
+pub const GL_RGB5_A1_OES: u64 = 3_000_000_137;
+
+pub const GL_RGBA8_OES: u64 = 3_000_000_138;
+
+pub const GL_DEPTH_COMPONENT16_OES: u64 = 3_000_000_139;
+
+pub const GL_STENCIL_INDEX8_OES: u64 = 3_000_000_140;
+
+pub const GL_COLOR_ATTACHMENT0_OES: u64 = 3_000_000_141;
+
+pub const GL_DEPTH_ATTACHMENT_OES: u64 = 3_000_000_142;
+
+pub const GL_STENCIL_ATTACHMENT_OES: u64 = 3_000_000_143;
+
+pub const GL_FRAMEBUFFER_COMPLETE_OES: u64 = 3_000_000_144;
+
+pub const GL_FRAMEBUFFER_INCOMPLETE_ATTACHMENT_OES: u64 = 3_000_000_145;
+
+pub const GL_FRAMEBUFFER_INCOMPLETE_MISSING_ATTACHMENT_OES: u64 = 3_000_000_146;
+
+pub const GL_FRAMEBUFFER_INCOMPLETE_DIMENSIONS_OES: u64 = 3_000_000_147;
+
+pub const GL_FRAMEBUFFER_UNSUPPORTED_OES: u64 = 3_000_000_148;
+
+pub const GL_FRAMEBUFFER_ATTACHMENT_OBJECT_TYPE_OES: u64 = 3_000_000_149;
+
+pub const GL_FRAMEBUFFER_ATTACHMENT_OBJECT_NAME_OES: u64 = 3_000_000_150;
+
+pub const GL_NONE_OES: u64 = 3_000_000_151;
+
+pub const GL_TEXTURE: u64 = 3_000_000_152;
+
+pub const GL_RENDERBUFFER_WIDTH_OES: u64 = 3_000_000_153;
+
+pub const GL_RENDERBUFFER_HEIGHT_OES: u64 = 3_000_000_154;
+
+pub const GL_TEXTURE_BINDING_2D: u64 = 3_000_000_155;
+
+pub const GL_ARRAY_BUFFER_BINDING: u64 = 3_000_000_156;
+
+pub const GL_ELEMENT_ARRAY_BUFFER_BINDING: u64 = 3_000_000_157;
+
+pub const GL_FRAMEBUFFER_BINDING_OES: u64 = 3_000_000_158;
+
+pub const GL_RENDERBUFFER_BINDING_OES: u64 = 3_000_000_159;
+
+pub const GL_VIEWPORT: u64 = 3_000_000_160;
+
+pub const GL_SCISSOR_BOX: u64 = 3_000_000_161;
+
+pub const GL_MAX_TEXTURE_SIZE: u64 = 3_000_000_162;
+
+// The words that stand for a number and are no bits.
+pub const EGL_FALSE: i64 = 0;
+
+pub const GL_FALSE: i64 = 0;
+
+pub const EGL_DEFAULT_DISPLAY: i64 = 0;
+
+pub const EGL_NO_DISPLAY: i64 = 0;
+
+pub const EGL_NO_CONTEXT: i64 = 0;
+
+pub const EGL_NO_SURFACE: i64 = 0;
+
+pub const EGL_NO_SYNC: i64 = 0;
+
+pub const EGL_NO_IMAGE: i64 = 0;
+
+pub const EGL_TRUE: i64 = 1;
+
+pub const GL_TRUE: i64 = 1;
+
+pub const EGL_DONT_CARE: i64 = -1;
+
+pub const EGL_FOREVER: i64 = -1;
+
+pub const EGL_CONTEXT_MAJOR_VERSION: i64 = 3_000_000_074;
+
+// The bits.
+pub const EGL_PBUFFER_BIT: u64 = 1;
+
+pub const EGL_PIXMAP_BIT: u64 = 2;
+
+pub const EGL_WINDOW_BIT: u64 = 4;
+
+pub const EGL_SWAP_BEHAVIOR_PRESERVED_BIT: u64 = 8;
+
+pub const EGL_OPENGL_ES_BIT: u64 = 1;
+
+pub const EGL_OPENVG_BIT: u64 = 2;
+
+pub const EGL_OPENGL_ES2_BIT: u64 = 4;
+
+pub const EGL_OPENGL_BIT: u64 = 8;
+
+pub const EGL_SYNC_FLUSH_COMMANDS_BIT: u64 = 1;
+
+pub const GL_COLOR_BUFFER_BIT: u64 = 1;
+
+pub const GL_DEPTH_BUFFER_BIT: u64 = 2;
+
+pub const GL_STENCIL_BUFFER_BIT: u64 = 4;

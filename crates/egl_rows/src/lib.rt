@@ -1,0 +1,9 @@
+//! Worked examples of whole runs, as tests over the program's calls.
+#![tactic(auto)]
+
+#[cfg(test)]
+mod faults;
+#[cfg(test)]
+mod playing;
+#[cfg(test)]
+mod serial;

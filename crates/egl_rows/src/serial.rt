@@ -1,0 +1,119 @@
+//! `serial` on traces and on bytes that are none.
+use crate::playing::serial;
+use std::test::Fail;
+
+#[test]
+fn traces_are_played(rt: HostRuntime) -> Result<(), Fail> {
+    let rows = [
+        (
+            "egl-trace 1 1",
+            "recording\ncensus 0 0 0 0 0 0 0 0 0 0 0\nend\n",
+        ),
+        (
+            "egl-trace 1 1\n0 $d = eglGetDisplay 0\n0 eglInitialize $d\n0 eglGetError\n0 eglGetError",
+            "recording\n0 2 ok 1 [] -\n0 3 ok 1 [] -\n0 4 ok EGL_SUCCESS [] -\n0 5 ok EGL_SUCCESS [] -\ncensus 0 0 0 0 0 0 0 0 0 0 0\nend\n",
+        ),
+        // A refused call sets its thread's error, which eglGetError answers once; a variable keeps the value of its own line.
+        (
+            "egl-trace 1 1\r\n# displays\n  \n0 $a = eglGetDisplay 1\n0  $b = eglGetDisplay 7 \n0 eglTerminate $b\n0 $e = eglGetError\n0 eglGetError\n0 eglInitialize $a\n0 eglInitialize -1\n0 eglTerminate $e\n",
+            "recording\n0 4 ok 2 [] -\n0 5 ok 0 [] -\n0 6 EGL_BAD_DISPLAY 0 [] -\n0 7 ok EGL_BAD_DISPLAY [] -\n0 8 ok EGL_SUCCESS [] -\n0 9 ok 1 [] -\n0 10 EGL_BAD_DISPLAY 0 [] -\n0 11 EGL_BAD_DISPLAY 0 [] -\ncensus 0 0 0 0 0 0 0 0 0 0 0\nend\n",
+        ),
+    ];
+    for (input, recording) in rows {
+        let (status, sink) = serial(rt.alloc(), input.as_bytes())?;
+        assert_eq!(rt; status, 0, "{input}");
+        assert_eq!(rt; sink.taken(), recording.as_bytes(), "{input}");
+    }
+    Ok(())
+}
+
+#[test]
+fn the_first_defect_is_named(rt: HostRuntime) -> Result<(), Fail> {
+    let rows = [
+        ("", "malformed 1 Header\n"),
+        ("egl-trace 1", "malformed 1 Header\n"),
+        ("egl-trace 2 1", "malformed 1 Header\n"),
+        ("egl-trace 1 01", "malformed 1 Header\n"),
+        ("egl-trace 1 -1", "malformed 1 Header\n"),
+        ("egl-trace 1 0", "malformed 1 Limit\n"),
+        ("egl-trace 1 2", "malformed 1 Limit\n"),
+        ("egl-trace 1 17", "malformed 1 Limit\n"),
+        ("egl-trace 1 1\n1 eglInit", "malformed 2 Thread\n"),
+        ("egl-trace 1 1\n00 eglGetError", "malformed 2 Thread\n"),
+        ("egl-trace 1 1\nvideo 64", "malformed 2 Thread\n"),
+        ("egl-trace 1 1\n0 eglInit", "malformed 2 Name\n"),
+        ("egl-trace 1 1\n0", "malformed 2 Name\n"),
+        ("egl-trace 1 1\n0 $v =", "malformed 2 Name\n"),
+        ("egl-trace 1 1\n0 $v eglGetError", "malformed 2 Name\n"),
+        ("egl-trace 1 1\n0 eglSwapBuffers 1 3", "malformed 2 Name\n"),
+        (
+            "egl-trace 1 1\n0 eglGetError 1 EGL_NONE",
+            "malformed 2 Name\n",
+        ),
+        ("egl-trace 1 1\n0 eglGetDisplay", "malformed 2 Argument\n"),
+        ("egl-trace 1 1\n0 eglGetError 1", "malformed 2 Argument\n"),
+        (
+            "egl-trace 1 1\n0 eglGetDisplay 0x1",
+            "malformed 2 Argument\n",
+        ),
+        (
+            "egl-trace 1 1\n0 eglGetDisplay [1]",
+            "malformed 2 Argument\n",
+        ),
+        (
+            "egl-trace 1 1\n0 eglGetDisplay 00",
+            "malformed 2 Argument\n",
+        ),
+        (
+            "egl-trace 1 1\n0 eglGetDisplay -0",
+            "malformed 2 Argument\n",
+        ),
+        (
+            "egl-trace 1 1\n0 eglGetDisplay +1",
+            "malformed 2 Argument\n",
+        ),
+        (
+            "egl-trace 1 1\n0 eglGetDisplay 4294967296",
+            "malformed 2 Argument\n",
+        ),
+        (
+            "egl-trace 1 1\n0 eglGetDisplay -2147483649",
+            "malformed 2 Argument\n",
+        ),
+        (
+            "egl-trace 1 1\n0 eglGetDisplay $v",
+            "malformed 2 Argument\n",
+        ),
+        (
+            "egl-trace 1 1\n0 eglInitialize $v",
+            "malformed 2 Variable\n",
+        ),
+        (
+            "egl-trace 1 1\n0 $v = eglInitialize $v",
+            "malformed 2 Variable\n",
+        ),
+        (
+            "egl-trace 1 1\n0 $v = eglGetError\n0 eglInitialize $v.0",
+            "malformed 3 Variable\n",
+        ),
+        (
+            "egl-trace 1 1\n0 $V = eglGetError",
+            "malformed 2 Variable\n",
+        ),
+        ("egl-trace 1 1\n0 $ = eglGetError", "malformed 2 Variable\n"),
+        (
+            "egl-trace 1 1\n0 $a = eglGetError\n0 $a = eglGetError",
+            "malformed 3 Variable\n",
+        ),
+        (
+            "egl-trace 1 1\n\n# x\n0 eglGetDisplay\n0 eglInit",
+            "malformed 4 Argument\n",
+        ),
+    ];
+    for (input, text) in rows {
+        let (status, sink) = serial(rt.alloc(), input.as_bytes())?;
+        assert_eq!(rt; status, 4, "{input}");
+        assert_eq!(rt; sink.taken(), text.as_bytes(), "{input}");
+    }
+    Ok(())
+}

@@ -1,0 +1,15 @@
+pub mod CountLaws
+pub mod SoundLaws
+pub mod GoingLaws
+pub mod ValueLaws
+pub mod OutLaws
+pub mod KeptCounts
+pub mod CostLaws
+pub mod ReleaseLaws
+pub mod LinkLaws
+pub mod LinkFacts
+pub mod AddLaws
+pub mod FreesLaws
+pub mod ReachedLaws
+pub mod PlacedLaws
+pub mod TwoSlotLaws

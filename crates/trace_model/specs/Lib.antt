@@ -1,0 +1,4 @@
+pub mod Resolve
+pub mod Serial
+pub mod Follows
+pub mod Recording

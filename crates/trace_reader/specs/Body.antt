@@ -1,0 +1,98 @@
+-- Body lines.
+use Rattle.std.specs.Prelude.{ℕ, ◌+◌, ◌-◌, Bool, true, ◌&&◌, ◌||◌, ◌==◌, nat_lt, List, [], ◌∷◌, ◌++◌, if◌then◌else◌, length, drop, codes, is_none, option_to_list, Option, Result, Ok, Err, None, Some}
+use Rattle.std.specs.List.{list_any, list_all}
+use Rattle.std.specs.Str.{bytes_eq}
+use Rattle.egl_calls.specs.declared.kinds.Kind.{Kind}
+use Rattle.trace_reader.specs.declared.traces.Reason.{Reason}
+use Rattle.trace_reader.specs.declared.traces.Reason.TheVariants.{Thread, Name, Argument, Variable, Limit}
+use Rattle.trace_reader.specs.declared.traces.Defect.{Defect}
+use Rattle.trace_reader.specs.declared.traces.Line.{Line}
+use Rattle.trace_reader.specs.Words.{words, word_at, begins_with}
+use Rattle.trace_reader.specs.Numerals.{numeral}
+use Rattle.trace_reader.specs.CallNames.{kind_of, forms_of}
+use Rattle.trace_reader.specs.Variables.{is_variable, variable_in}
+use Rattle.trace_reader.specs.Arguments.{is_unknown_name, are_arguments, is_known, call_of, references}
+
+infixl 10 ◌>>=◌
+abbrev pub ◌>>=◌ : {A B : Type 0} → Result A Reason → (A → Result B Reason) → Result B Reason
+(Ok x) >>= f = f x
+(Err e) >>= f = Err e
+
+abbrev pub or_reason : {A : Type 0} → Option A → Reason → Result A Reason
+or_reason None r = Err r
+or_reason (Some x) r = Ok x
+
+-- where the test fails, the reason; else what follows
+abbrev pub provided : {A : Type 0} → Bool → Reason → Result A Reason → Result A Reason
+provided b r more = if b then more else Err r
+
+-- THREAD $VARIABLE = CALL .., or else THREAD CALL ..
+abbrev pub is_assignment : List (List ℕ) → Bool
+is_assignment ws = begins_with 36 (word_at ws 1) && bytes_eq (word_at ws 2) (codes "=")
+
+abbrev pub call_place : List (List ℕ) → ℕ
+call_place ws = if is_assignment ws then 3 else 1
+
+-- the word that names the call, and those behind it
+abbrev pub call_word : List (List ℕ) → List ℕ
+call_word ws = word_at ws (call_place ws)
+
+abbrev pub argument_words : List (List ℕ) → List (List ℕ)
+argument_words ws = drop (call_place ws + 1) ws
+
+-- the word that stands where a variable is assigned
+abbrev pub target_of : List (List ℕ) → Option (List ℕ)
+target_of ws = if is_assignment ws then Some (word_at ws 1) else None
+
+unfoldable pub thread_of : ℕ → List ℕ → Result ℕ Reason
+thread_of threads w = or_reason (numeral (threads - 1) w) Thread
+
+-- the kind of call, where no word among the arguments is an unknown name
+unfoldable pub kind_in : List ℕ → List (List ℕ) → Result Kind Reason
+kind_in call arguments = if list_any is_unknown_name arguments then Err Name else or_reason (kind_of call) Name
+
+-- nothing is assigned, or a variable that no line before has assigned
+abbrev pub is_assignable : List (List ℕ) → Option (List ℕ) → Bool
+is_assignable variables None = true
+is_assignable variables (Some w) = is_variable w && is_none (variable_in variables w)
+
+abbrev pub assigned : List (List ℕ) → Option (List ℕ) → Option ℕ
+assigned variables None = None
+assigned variables (Some w) = Some (length variables)
+
+-- the line of a call with these arguments, or its first defect
+unfoldable pub line_in : List (List ℕ) → ℕ → ℕ → Kind → Option (List ℕ) → List (List ℕ) → Result Line Reason
+line_in variables number thread kind target arguments =
+    provided (are_arguments (forms_of kind) arguments) Argument (
+    provided (is_assignable variables target) Variable (
+    provided (list_all (is_known variables) arguments) Variable (
+    Ok (record { number = number; thread = thread; assigns = assigned variables target; call = call_of kind arguments; uses = references variables 0 arguments }))))
+
+-- the body line of these words with this number, after lines that assigned these variables; or its first defect
+unfoldable pub body_of : ℕ → List (List ℕ) → ℕ → List (List ℕ) → Result Line Reason
+body_of threads variables number ws = do
+  thread ← thread_of threads (word_at ws 0)
+  kind ← kind_in (call_word ws) (argument_words ws)
+  line_in variables number thread kind (target_of ws) (argument_words ws)
+
+-- a trace has at most 100,000 body lines; count stand before this one
+abbrev pub within_limit : ℕ → Result Line Reason → Result Line Reason
+within_limit count (Ok l) = if nat_lt count 100000 then Ok l else Err Limit
+within_limit count (Err r) = Err r
+
+-- a line that says nothing: no words, or a comment
+abbrev pub is_skipped : List ℕ → Bool
+is_skipped line = (length (words line) == 0) || begins_with 35 line
+
+-- what follows a body line with this number
+abbrev pub body_then : ℕ → Result Line Reason → (Line → Result (List Line) Defect) → Result (List Line) Defect
+body_then n (Ok l) more = more l
+body_then n (Err r) more = Err (record { line = n; reason = r })
+
+-- the body lines of the lines from this number on, behind those that were read and the variables that those assigned; or the first defect
+abbrev pub read_body : ℕ → ℕ → List (List ℕ) → List Line → List (List ℕ) → Result (List Line) Defect
+read_body threads n variables read [] = Ok read
+read_body threads n variables read (line ∷ rest) =
+    if is_skipped line then read_body threads (n + 1) variables read rest
+    else body_then n (within_limit (length read) (body_of threads variables n (words line)))
+    (λ l. read_body threads (n + 1) (variables ++ option_to_list (target_of (words line))) (read ++ l ∷ []) rest)

@@ -1,0 +1,11 @@
+pub mod Traces
+pub mod Words
+pub mod Numerals
+pub mod CallNames
+pub mod Variables
+pub mod Arguments
+pub mod Header
+pub mod Body
+pub mod Reading
+pub mod Grammar
+pub mod Order

@@ -1,0 +1,57 @@
+-- The order that the lines of each trace have.
+use Rattle.std.specs.Prelude.{◌≡◌, ℕ, ◌+◌, ◌<◌, ◌≤◌, true, false, List, [], ◌∷◌, All, Option, None, Some}
+use Rattle.egl_calls.specs.Kinds.{is_built}
+use Rattle.trace_reader.specs.declared.traces.Line.{Line}
+use Rattle.trace_reader.specs.declared.traces.Reference.{Reference}
+use Rattle.trace_reader.specs.Header.{most_threads}
+use Rattle.trace_reader.specs.Traces.{TraceValue}
+
+-- a variable is the next behind so many, where one is assigned
+abbrev pub IsNext : ℕ → Option ℕ → Type 0
+IsNext v None = Unit {0}
+IsNext v (Some w) = w ≡ v
+
+-- how many variables there are behind this line, where v stand before it
+abbrev pub more_variables : ℕ → Option ℕ → ℕ
+more_variables v None = v
+more_variables v (Some w) = v + 1
+
+-- a reference among the arguments to the value of one of the first v variables
+pub record IsReferenceTo (v : ℕ) (r : Reference) : Type 0 where
+  pub variable : r.variable < v
+  pub place : r.place < 8
+  pub argument : r.in_list ≡ false
+  pub value : r.item ≡ None
+
+-- a line with this number, behind lines that assign v variables
+pub record IsLineAt (number v : ℕ) (l : Line) : Type 0 where
+  pub number_is : l.number ≡ number
+  pub built : is_built l.call.kind ≡ true
+  pub assigns : IsNext v l.assigns
+  pub uses : All (IsReferenceTo v) l.uses
+
+-- numbers rise, threads are those of the trace, calls are built, variables are numbered in the order of the lines that assign them, and references lead to earlier lines
+abbrev pub AreInOrder : ℕ → ℕ → ℕ → List Line → Type 0
+AreInOrder threads n v [] = Unit {0}
+AreInOrder threads n v (l ∷ ls) = (n ≤ l.number) × (l.thread < threads) × IsLineAt l.number v l × AreInOrder threads (l.number + 1) (more_variables v l.assigns) ls
+
+-- the least number that may follow lines, and how many variables there are behind them
+abbrev pub number_after_lines : ℕ → List Line → ℕ
+number_after_lines n [] = n
+number_after_lines n (l ∷ ls) = number_after_lines (l.number + 1) ls
+
+abbrev pub variables_after_lines : ℕ → List Line → ℕ
+variables_after_lines v [] = v
+variables_after_lines v (l ∷ ls) = variables_after_lines (more_variables v l.assigns) ls
+
+-- what each trace is
+pub record IsTrace (t : TraceValue) : Type 0 where
+  pub threads : t.threads ≤ most_threads
+  pub video : t.video ≤ 1073741824
+  pub lines : AreInOrder t.threads 2 0 t.lines
+
+-- these lines stand before a line with number n, and v variables are assigned in them
+pub record AreBefore (threads n v : ℕ) (ls : List Line) : Type 0 where
+  pub lines : AreInOrder threads 2 0 ls
+  pub number : number_after_lines 2 ls ≤ n
+  pub variables : variables_after_lines 0 ls ≡ v

@@ -1,0 +1,29 @@
+-- What reading gives where memory doesn't run out.
+use Rattle.std.specs.Prelude.{◌≡◌, ℕ, ◌+◌, List, ◌∷◌, Result, Ok, Err}
+use Rattle.trace_reader.specs.declared.traces.Line.{Line}
+use Rattle.trace_reader.specs.declared.traces.Reason.{Reason}
+use Rattle.trace_reader.specs.declared.traces.Defect.{Defect}
+use Rattle.trace_reader.specs.declared.traces.TraceError.{TraceError}
+use Rattle.trace_reader.specs.declared.traces.TraceError.TheVariants.{Malformed, NoMemory}
+use Rattle.trace_reader.specs.declared.body.LineError.{LineError}
+use Rattle.trace_reader.specs.declared.body.LineError.TheVariants.{Defective, NoMemory as LineMemory}
+use Rattle.trace_reader.specs.Body.{read_body}
+
+abbrev pub GivesLine : Result Line LineError → Result Line Reason → Type 0
+GivesLine (Ok l) read = read ≡ Ok l
+GivesLine (Err (Defective r)) read = read ≡ Err r
+GivesLine (Err LineMemory) read = Unit {0}
+
+abbrev pub FailsWith : {A : Type 0} → TraceError → Result A Defect → Type 0
+FailsWith (Malformed n r) read = read ≡ Err (record { line = n; reason = r })
+FailsWith NoMemory read = Unit {0}
+
+-- what the line with this number gives behind those that were read and the variables that they assigned
+abbrev pub GivesNext : ℕ → ℕ → List ℕ → List (List ℕ) → List Line → List (List ℕ) → List Line → Result (Unit {0}) TraceError → Type 0
+GivesNext threads number line variables read variables' read' (Ok x) = (rest : List (List ℕ)) → read_body threads number variables read (line ∷ rest) ≡ read_body threads (number + 1) variables' read' rest
+GivesNext threads number line variables read variables' read' (Err e) = (rest : List (List ℕ)) → FailsWith e (read_body threads number variables read (line ∷ rest))
+
+-- what was read is what these bytes or lines spell, by a view of the value
+abbrev pub Gives : {X A : Type 0} → (X → A) → Result X TraceError → Result A Defect → Type 0
+Gives view (Ok x) read = read ≡ Ok (view x)
+Gives view (Err e) read = FailsWith e read

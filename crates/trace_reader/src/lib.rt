@@ -1,0 +1,16 @@
+//! Reads a trace: the bytes spell one, or the first defective line is named with its reason.
+#![tactic(auto)]
+
+mod arguments;
+mod body;
+mod call_names;
+mod header;
+mod line_cuts;
+mod numerals;
+mod reading;
+mod traces;
+mod variables;
+mod word_cuts;
+
+pub use call_names::Form;
+pub use traces::{Defect, Line, Reason, Reference, Trace, TraceError, Uses};

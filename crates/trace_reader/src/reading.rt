@@ -1,0 +1,136 @@
+//! Whole traces.
+ghost use Rattle.std.specs.Prelude.{◌≡◌, ℕ, ◌+◌, ◌<◌, ◌≤◌, ◌^◌, [], ◌∷◌, ◌++◌, length, map, true, IfOk, OnOk, option_to_list};
+ghost use Rattle.std.specs.Option.{option_map};
+ghost use Rattle.trace_reader.specs.Words.{words as words_in};
+ghost use Rattle.trace_reader.specs.Body.{is_assignable, is_skipped, read_body};
+ghost use Rattle.trace_reader.specs.Grammar.{trace};
+ghost use Rattle.trace_reader.specs.Reading.{Gives, GivesNext};
+ghost use Rattle.trace_reader.specs.Order.{AreInOrder, AreBefore};
+
+use crate::body::{LineError, body_of, target_of};
+use crate::header::header_of;
+use crate::line_cuts::lines;
+use crate::traces::{Line, Reason, Trace, TraceError};
+use crate::variables::Variables;
+use crate::word_cuts::words;
+use egl_calls::{Bytes, NoMemory};
+use std::alloc::Global;
+
+/// How many bytes of pixels and buffers there may be where the trace doesn't say.
+const VIDEO: u64 = 67_108_864;
+
+fn is_skipped(line: &[u8], words: &[&[u8]]) -> bool
+    requires { map (λ w. w.now) words.now ≡ words_in line.now }
+    ensures { result ≡ is_skipped line.now }
+{
+    words.is_empty() || (!line.is_empty() && line[0] == b'#')
+}
+
+/// Adds the variable that a line assigns.
+fn add_target<'a>(variables: &mut Variables<'a>, target: Option<&'a [u8]>) -> Result<(), NoMemory>
+    requires few { length variables.old < 100000 }
+    requires new { is_assignable variables.old (option_map (λ w. w.now) target) ≡ true }
+    ensures { OnOk result (variables.new ≡ variables.old ++ option_to_list (option_map (λ w. w.now) target.entry)) }
+{
+    match target {
+        Some(word) => variables.add(word),
+        None => Ok(()),
+    }
+}
+
+/// Reads a line behind the header.
+#[tactic(auto, using(crate::proofs::BodyLaws::next_skipped, crate::proofs::BodyLaws::next_taken, crate::proofs::BodyLaws::next_defective, crate::proofs::BodyLaws::next_past_limit, crate::proofs::OrderLaws::before_more, crate::proofs::OrderLaws::before_skipped))]
+fn next_line<'a>(
+    alloc: Global,
+    threads: u32,
+    number: u64,
+    line: &'a [u8],
+    variables: &mut Variables<'a>,
+    read: &mut Vec<Line>,
+) -> Result<(), TraceError>
+    requires some { 0 < threads }
+    requires few { length variables.old ≤ length read.old.items }
+    requires order { AreBefore threads number (length variables.old) read.old.items }
+    ensures next { GivesNext threads number line.now variables.old read.old.items variables.new read.new.items result }
+    ensures few { OnOk result (length variables.new ≤ length read.new.items) }
+    ensures order { OnOk result (AreBefore threads (number + 1) (length variables.new) read.new.items) }
+{
+    let Ok(parts) = words(alloc, line) else {
+        return Err(TraceError::NoMemory);
+    };
+    if is_skipped(line, &parts) {
+        return Ok(());
+    }
+    match body_of(alloc, threads, variables, number, &parts) {
+        Ok(body) => {
+            if read.len() >= 100_000 {
+                return Err(TraceError::Malformed {
+                    line: number,
+                    reason: Reason::Limit,
+                });
+            }
+            let Ok(()) = add_target(variables, target_of(&parts)) else {
+                return Err(TraceError::NoMemory);
+            };
+            let Ok(()) = read.push(body) else {
+                return Err(TraceError::NoMemory);
+            };
+            Ok(())
+        }
+        Err(LineError::Defective(reason)) => Err(TraceError::Malformed {
+            line: number,
+            reason,
+        }),
+        Err(LineError::NoMemory) => Err(TraceError::NoMemory),
+    }
+}
+
+fn read_lines(alloc: Global, threads: u32, lines: &[&[u8]]) -> Result<Vec<Line>, TraceError>
+    requires some { 0 < threads }
+    requires long { length lines.now < 2 ^ 62 }
+    ensures value { Gives (λ v. v.items) result (read_body threads 2 [] [] (map (λ w. w.now) lines.now)) }
+    ensures order { IfOk result (λ v. AreInOrder threads 2 0 v.items) }
+{
+    let mut variables = Variables::new(alloc);
+    let mut read = Vec::new(alloc);
+    let mut number = 2u64;
+    'each: for line in lines {
+        next_line(alloc, threads, number, *line, &mut variables, &mut read)?;
+        number += 1;
+    }
+    Ok(read)
+}
+
+impl Trace {
+    /// Reads a trace: the one that the bytes spell, or its first defective line and what is wrong with that first.
+    #[tactic(auto, unfolding(crate::specs::Grammar::trace))]
+    pub fn read(alloc: Global, bytes: &Bytes) -> Result<Trace, TraceError>
+        requires { length bytes.now < 2 ^ 60 }
+        ensures { Gives (λ t. t) result (trace bytes.now) }
+    {
+        let Ok(parts) = lines(alloc, bytes.as_slice()) else {
+            return Err(TraceError::NoMemory);
+        };
+        let header_defect = TraceError::Malformed {
+            line: 1,
+            reason: Reason::Header,
+        };
+        let [first, rest @ ..] = parts.as_slice() else {
+            return Err(header_defect);
+        };
+        let Ok(words) = words(alloc, *first) else {
+            return Err(TraceError::NoMemory);
+        };
+        match header_of(&words) {
+            Ok(threads) => {
+                let lines = read_lines(alloc, threads, rest)?;
+                Ok(Trace {
+                    threads,
+                    video: VIDEO,
+                    lines,
+                })
+            }
+            Err(reason) => Err(TraceError::Malformed { line: 1, reason }),
+        }
+    }
+}
