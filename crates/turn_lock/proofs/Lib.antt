@@ -1,0 +1,11 @@
+pub mod Tallies
+pub mod Lists
+pub mod Owners
+pub mod Slots
+pub mod Drawing
+pub mod Looking
+pub mod Passing
+pub mod Splitting
+pub mod Joining
+pub mod Ends
+pub mod Returning
