@@ -18,6 +18,11 @@ fn traces_are_played(rt: HostRuntime) -> Result<(), Fail> {
             "egl-trace 1 1\r\n# displays\n  \n0 $a = eglGetDisplay 1\n0  $b = eglGetDisplay 7 \n0 eglTerminate $b\n0 $e = eglGetError\n0 eglGetError\n0 eglInitialize $a\n0 eglInitialize -1\n0 eglTerminate $e\n",
             "recording\n0 4 ok 2 [] -\n0 5 ok 0 [] -\n0 6 EGL_BAD_DISPLAY 0 [] -\n0 7 ok EGL_BAD_DISPLAY [] -\n0 8 ok EGL_SUCCESS [] -\n0 9 ok 1 [] -\n0 10 EGL_BAD_DISPLAY 0 [] -\n0 11 EGL_BAD_DISPLAY 0 [] -\ncensus 0 0 0 0 0 0 0 0 0 0 0\nend\n",
         ),
+        // A name stands for its code, words of the second list for their numbers, and bits are joined bit by bit.
+        (
+            "egl-trace 1 1\n0 eglGetDisplay EGL_DEFAULT_DISPLAY\n0 eglGetDisplay EGL_TRUE\n0 eglGetDisplay EGL_NONE\n0 eglGetDisplay EGL_PBUFFER_BIT|EGL_SYNC_FLUSH_COMMANDS_BIT\n0 eglInitialize EGL_WINDOW_BIT|EGL_PIXMAP_BIT\n0 eglInitialize EGL_PIXMAP_BIT",
+            "recording\n0 2 ok 1 [] -\n0 3 ok 2 [] -\n0 4 ok 0 [] -\n0 5 ok 2 [] -\n0 6 EGL_BAD_DISPLAY 0 [] -\n0 7 ok 1 [] -\ncensus 0 0 0 0 0 0 0 0 0 0 0\nend\n",
+        ),
     ];
     for (input, recording) in rows {
         let (status, sink) = serial(rt.alloc(), input.as_bytes())?;
@@ -47,8 +52,32 @@ fn the_first_defect_is_named(rt: HostRuntime) -> Result<(), Fail> {
         ("egl-trace 1 1\n0 $v eglGetError", "malformed 2 Name\n"),
         ("egl-trace 1 1\n0 eglSwapBuffers 1 3", "malformed 2 Name\n"),
         (
-            "egl-trace 1 1\n0 eglGetError 1 EGL_NONE",
+            "egl-trace 1 1\n0 eglGetError 1 EGL_NOTHING",
             "malformed 2 Name\n",
+        ),
+        (
+            "egl-trace 1 1\n0 eglGetDisplay EGL_PBUFFER_BIT|foo",
+            "malformed 2 Name\n",
+        ),
+        (
+            "egl-trace 1 1\n0 eglGetError 1 EGL_NONE",
+            "malformed 2 Argument\n",
+        ),
+        (
+            "egl-trace 1 1\n0 eglGetDisplay EGL_PBUFFER_BIT|EGL_NONE",
+            "malformed 2 Argument\n",
+        ),
+        (
+            "egl-trace 1 1\n0 eglGetDisplay EGL_PBUFFER_BIT|",
+            "malformed 2 Argument\n",
+        ),
+        (
+            "egl-trace 1 1\n0 eglGetDisplay |foo",
+            "malformed 2 Argument\n",
+        ),
+        (
+            "egl-trace 1 1\n0 eglGetDisplay 0|EGL_PBUFFER_BIT",
+            "malformed 2 Argument\n",
         ),
         ("egl-trace 1 1\n0 eglGetDisplay", "malformed 2 Argument\n"),
         ("egl-trace 1 1\n0 eglGetError 1", "malformed 2 Argument\n"),

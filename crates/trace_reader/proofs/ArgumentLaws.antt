@@ -8,7 +8,7 @@ use Rattle.egl_calls.specs.declared.kinds.Kind.{Kind}
 use Rattle.egl_calls.specs.Ranges.{IsArgument, AreArguments}
 use Rattle.egl_calls.proofs.RangeLaws.{number_fits}
 use Rattle.trace_reader.specs.declared.call_names.Form.{Form}
-use Rattle.trace_reader.specs.Numerals.{number_or_zero}
+use Rattle.trace_reader.specs.NumberWords.{number_or_zero}
 use Rattle.trace_reader.specs.Arguments.{is_argument, are_arguments, padded}
 
 and_false : (b : Bool) → (b && false) ≡ false

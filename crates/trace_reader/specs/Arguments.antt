@@ -6,24 +6,15 @@ use Rattle.trace_reader.specs.declared.call_names.Form.{Form}
 use Rattle.trace_reader.specs.declared.call_names.Form.TheVariants.{Number, NumberOrVariable}
 use Rattle.trace_reader.specs.declared.traces.Reference.{Reference}
 use Rattle.trace_reader.specs.Words.{begins_with}
-use Rattle.trace_reader.specs.Numerals.{signed_number, number_or_zero}
+use Rattle.trace_reader.specs.NumberWords.{argument_number, number_or_zero}
 use Rattle.trace_reader.specs.Variables.{variable_in}
-
--- a letter or an underscore
-abbrev pub begins_name : ℕ → Bool
-begins_name b = (nat_le 65 b && nat_le b 90) || (nat_le 97 b && nat_le b 122) || (b == 95)
-
--- a word that stands for a name and is none; no name of a number is known so far
-abbrev pub is_unknown_name : List ℕ → Bool
-is_unknown_name [] = false
-is_unknown_name (b ∷ bs) = begins_name b
 
 abbrev pub is_reference : List ℕ → Bool
 is_reference w = begins_with 36 w
 
 abbrev pub is_argument : Form → List ℕ → Bool
-is_argument Number w = is_some (signed_number w)
-is_argument NumberOrVariable w = is_reference w || is_some (signed_number w)
+is_argument Number w = is_some (argument_number w)
+is_argument NumberOrVariable w = is_reference w || is_some (argument_number w)
 
 -- an argument for each form, and no further one
 abbrev pub are_arguments : List Form → List (List ℕ) → Bool

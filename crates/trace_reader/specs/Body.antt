@@ -11,7 +11,8 @@ use Rattle.trace_reader.specs.Words.{words, word_at, begins_with}
 use Rattle.trace_reader.specs.Numerals.{numeral}
 use Rattle.trace_reader.specs.CallNames.{kind_of, forms_of}
 use Rattle.trace_reader.specs.Variables.{is_variable, variable_in}
-use Rattle.trace_reader.specs.Arguments.{is_unknown_name, are_arguments, is_known, call_of, references}
+use Rattle.trace_reader.specs.NumberWords.{is_unknown_name}
+use Rattle.trace_reader.specs.Arguments.{are_arguments, is_known, call_of, references}
 
 infixl 10 ◌>>=◌
 abbrev pub ◌>>=◌ : {A B : Type 0} → Result A Reason → (A → Result B Reason) → Result B Reason

@@ -1,6 +1,7 @@
 pub mod Traces
 pub mod Words
 pub mod Numerals
+pub mod NumberWords
 pub mod CallNames
 pub mod Variables
 pub mod Arguments

@@ -1,27 +1,17 @@
 //! The arguments of a line.
 ghost use Rattle.std.specs.Prelude.{◌≡◌, ℕ, ◌+◌, ◌<◌, ◌≤◌, [], ◌++◌, length, map, true, All, IfOk, OnOk};
 ghost use Rattle.std.specs.List.{list_any, list_all};
-ghost use Rattle.trace_reader.specs.Arguments.{is_unknown_name, is_argument, are_arguments, is_reference, call_of, reference_at, references, is_known};
+ghost use Rattle.trace_reader.specs.NumberWords.{is_unknown_name};
+ghost use Rattle.trace_reader.specs.Arguments.{is_argument, are_arguments, is_reference, call_of, reference_at, references, is_known};
 ghost use Rattle.trace_reader.specs.Order.{IsReferenceTo};
 
 use crate::call_names::Form;
-use crate::numerals::{number_or_zero, signed_number};
+use crate::number_words::{argument_number, is_unknown_name, number_or_zero};
 use crate::traces::{Reference, Uses};
 use crate::variables::Variables;
 use crate::word_cuts::begins_with;
 use egl_calls::{Call, Kind, NoMemory, Numbers, set_argument};
 use std::alloc::Global;
-
-/// Whether a word stands where a name could and is none. No name of a number is known so far.
-fn is_unknown_name(word: &[u8]) -> bool
-    ensures { result ≡ is_unknown_name word.now }
-{
-    if word.is_empty() {
-        return false;
-    }
-    let b = word[0];
-    (b >= b'A' && b <= b'Z') || (b >= b'a' && b <= b'z') || b == b'_'
-}
 
 pub fn has_unknown_name(words: &[&[u8]]) -> bool
     ensures { result ≡ list_any is_unknown_name (map (λ w. w.now) words.now) }
@@ -38,8 +28,8 @@ fn is_argument(form: Form, word: &[u8]) -> bool
     ensures { result ≡ is_argument form word.now }
 {
     match form {
-        Form::Number => signed_number(word).is_some(),
-        Form::NumberOrVariable => begins_with(word, b'$') || signed_number(word).is_some(),
+        Form::Number => argument_number(word).is_some(),
+        Form::NumberOrVariable => begins_with(word, b'$') || argument_number(word).is_some(),
     }
 }
 

@@ -6,6 +6,7 @@ mod body;
 mod call_names;
 mod header;
 mod line_cuts;
+mod number_words;
 mod numerals;
 mod reading;
 mod traces;

@@ -2,7 +2,7 @@
 ghost use Rattle.std.specs.Prelude.{◌≡◌, ℕ, ◌+◌, ◌-◌, ◌*◌, ◌<◌, ◌≤◌, ◌^◌, length, IfSome, pos, negsuc};
 ghost use Rattle.egl_calls.specs.Ranges.{IsNumber};
 ghost use Rattle.std.specs.List.{list_all};
-ghost use Rattle.trace_reader.specs.Numerals.{is_digit, numeral, is_numeral, has_leading_zero, negated, signed_number, number_or_zero, number_after};
+ghost use Rattle.trace_reader.specs.Numerals.{is_digit, numeral, is_numeral, has_leading_zero, negated, signed_number, number_after};
 
 use crate::word_cuts::begins_with;
 
@@ -97,16 +97,5 @@ pub fn signed_number(word: &[u8]) -> Option<i64>
     match numeral(4_294_967_295, word) {
         Some(n) => Some(positive(n)),
         None => None,
-    }
-}
-
-/// A decimal number, and 0 for every other word.
-pub fn number_or_zero(word: &[u8]) -> i64
-    ensures value { result ≡ number_or_zero word.now }
-    ensures number { IsNumber result }
-{
-    match signed_number(word) {
-        Some(z) => z,
-        None => 0,
     }
 }

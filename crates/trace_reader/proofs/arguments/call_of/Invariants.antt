@@ -1,7 +1,7 @@
 use Rattle.std.proofs.Common.{◌≡◌, take, map}
 use Rattle.egl_calls.specs.declared.kinds.Kind.{Kind}
 use Rattle.egl_calls.specs.Ranges.{AreArguments}
-use Rattle.trace_reader.specs.Numerals.{number_or_zero}
+use Rattle.trace_reader.specs.NumberWords.{number_or_zero}
 use Rattle.trace_reader.specs.Arguments.{padded}
 use Rattle.trace_reader.proofs.arguments.call_of.Given as goal
 

@@ -1,6 +1,6 @@
 use Rattle.std.proofs.Common.{◌≡◌, drop, map}
 use Rattle.std.specs.List.{list_any}
-use Rattle.trace_reader.specs.Arguments.{is_unknown_name}
+use Rattle.trace_reader.specs.NumberWords.{is_unknown_name}
 use Rattle.trace_reader.proofs.arguments.has_unknown_name.Given as goal
 
 abbrev pub invariant-loop-word : goal.invariant-loop-word

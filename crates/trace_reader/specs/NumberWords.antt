@@ -1,0 +1,49 @@
+-- The words that may stand for a number.
+use Rattle.std.specs.Prelude.{ℕ, Bool, true, false, ◌&&◌, ◌||◌, ◌==◌, nat_le, ℤ, pos, negsuc, int_lt, List, [], ◌∷◌, if◌then◌else◌, Option, None, Some}
+use Rattle.std.specs.Option.{option_or}
+use Rattle.egl_names.specs.Joined.{joined_word}
+use Rattle.egl_names.specs.declared.joined.Word.{Word}
+use Rattle.egl_names.specs.declared.joined.Word.TheVariants.{Number, UnknownName, BadForm}
+use Rattle.trace_reader.specs.Numerals.{signed_number}
+
+-- a letter or an underscore
+abbrev pub begins_name : ℕ → Bool
+begins_name b = (nat_le 65 b && nat_le b 90) || (nat_le 97 b && nat_le b 122) || (b == 95)
+
+-- a word that stands where a name may stand
+abbrev pub is_name_word : List ℕ → Bool
+is_name_word [] = false
+is_name_word (b ∷ bs) = begins_name b
+
+abbrev pub is_unknown : Word → Bool
+is_unknown (Number z) = false
+is_unknown UnknownName = true
+is_unknown BadForm = false
+
+-- a word that stands for a name, or joined words of which one does, and is none
+abbrev pub is_unknown_name : List ℕ → Bool
+is_unknown_name w = is_name_word w && is_unknown (joined_word w)
+
+-- a number that an argument may have
+abbrev pub ranged : ℤ → Option ℤ
+ranged z = if int_lt z (negsuc 2147483647) || int_lt (pos 4294967295) z then None else Some z
+
+abbrev pub number_in : Word → Option ℤ
+number_in (Number z) = ranged z
+number_in UnknownName = None
+number_in BadForm = None
+
+-- the code of a name, the number of a word that stands for one, or joined bits
+abbrev pub named_number : List ℕ → Option ℤ
+named_number w = if is_name_word w then number_in (joined_word w) else None
+
+-- a decimal number, or such a word
+unfoldable pub argument_number : List ℕ → Option ℤ
+argument_number w = option_or (signed_number w) (named_number w)
+
+abbrev pub or_zero : Option ℤ → ℤ
+or_zero None = pos 0
+or_zero (Some z) = z
+
+abbrev pub number_or_zero : List ℕ → ℤ
+number_or_zero w = or_zero (argument_number w)

@@ -1,0 +1,78 @@
+//! The words that may stand for a number.
+ghost use Rattle.std.specs.Prelude.{◌≡◌, IfSome};
+ghost use Rattle.egl_calls.specs.Ranges.{IsNumber};
+ghost use Rattle.trace_reader.specs.NumberWords.{is_name_word, is_unknown_name, ranged, named_number, argument_number, number_or_zero};
+
+use crate::numerals::signed_number;
+use egl_names::{Word, joined_word};
+
+/// Whether a word stands where a name may stand: it begins with a letter or an underscore.
+fn is_name_word(word: &[u8]) -> bool
+    ensures { result ≡ is_name_word word.now }
+{
+    if word.is_empty() {
+        return false;
+    }
+    let b = word[0];
+    (b >= b'A' && b <= b'Z') || (b >= b'a' && b <= b'z') || b == b'_'
+}
+
+/// Whether a word stands for a name, or one of joined words does, and is none.
+pub fn is_unknown_name(word: &[u8]) -> bool
+    ensures { result ≡ is_unknown_name word.now }
+{
+    if !is_name_word(word) {
+        return false;
+    }
+    match joined_word(word) {
+        Word::UnknownName => true,
+        Word::Number(_) | Word::BadForm => false,
+    }
+}
+
+fn ranged(z: i64) -> Option<i64>
+    ensures value { result ≡ ranged z }
+    ensures number { IfSome result IsNumber }
+{
+    if z < -2_147_483_648 || 4_294_967_295 < z {
+        None
+    } else {
+        Some(z)
+    }
+}
+
+fn named_number(word: &[u8]) -> Option<i64>
+    ensures value { result ≡ named_number word.now }
+    ensures number { IfSome result IsNumber }
+{
+    if !is_name_word(word) {
+        return None;
+    }
+    match joined_word(word) {
+        Word::Number(z) => ranged(z),
+        Word::UnknownName | Word::BadForm => None,
+    }
+}
+
+/// The number that an argument spells: in decimal, by a name's code, by a word that stands for a number, or by joined bits.
+#[tactic(auto, unfolding(crate::specs::NumberWords::argument_number))]
+pub fn argument_number(word: &[u8]) -> Option<i64>
+    ensures value { result ≡ argument_number word.now }
+    ensures number { IfSome result IsNumber }
+{
+    match signed_number(word) {
+        Some(z) => Some(z),
+        None => named_number(word),
+    }
+}
+
+/// That number, and 0 for every other word.
+pub fn number_or_zero(word: &[u8]) -> i64
+    ensures value { result ≡ number_or_zero word.now }
+    ensures number { IsNumber result }
+{
+    match argument_number(word) {
+        Some(z) => z,
+        None => 0,
+    }
+}
