@@ -1,0 +1,4 @@
+pub mod Covers
+pub mod LawsHold
+pub mod Lines
+pub mod Rewriting
