@@ -1,0 +1,5 @@
+pub mod Ranges
+pub mod Lists
+pub mod Places
+pub mod Causes
+pub mod Laws

@@ -1,0 +1,12 @@
+//! Attribute lists: which attributes and values the lists of a call may have, and the value that counts.
+#![tactic(auto)]
+
+mod allowed;
+pub mod laws;
+mod list;
+
+pub use allowed::{Allowed, is_allowed};
+pub use list::{AttribError, AttribList};
+
+#[cfg(test)]
+mod tests;

@@ -1,0 +1,3 @@
+pub mod MatchLaws
+pub mod SortLaws
+pub mod ChoiceLaws

@@ -1,0 +1,4 @@
+pub mod Table
+pub mod Keys
+pub mod Configs
+pub mod Laws

@@ -1,0 +1,16 @@
+//! The configs of the driver: their attributes, and which of them an attribute list chooses.
+#![tactic(auto)]
+
+mod choose;
+mod key;
+pub mod laws;
+mod matching;
+mod surface_bits;
+mod table;
+
+pub use choose::Configs;
+pub use surface_bits::SurfaceBits;
+pub use table::{Caveat, Config};
+
+#[cfg(test)]
+mod tests;

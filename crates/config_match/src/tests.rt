@@ -1,0 +1,250 @@
+//! Tables of choices and of attributes.
+use crate::Configs;
+use attrib_lists::AttribError;
+use egl_calls::Numbers;
+use egl_names::codes::{
+    EGL_ALPHA_MASK_SIZE, EGL_ALPHA_SIZE, EGL_BIND_TO_TEXTURE_RGB, EGL_BIND_TO_TEXTURE_RGBA,
+    EGL_BLUE_SIZE, EGL_BUFFER_SIZE, EGL_COLOR_BUFFER_TYPE, EGL_CONFIG_CAVEAT, EGL_CONFIG_ID,
+    EGL_CONFORMANT, EGL_DEPTH_SIZE, EGL_GREEN_SIZE, EGL_LEVEL, EGL_LUMINANCE_BUFFER,
+    EGL_LUMINANCE_SIZE, EGL_MAX_PBUFFER_HEIGHT, EGL_MAX_PBUFFER_PIXELS, EGL_MAX_PBUFFER_WIDTH,
+    EGL_MAX_SWAP_INTERVAL, EGL_MIN_SWAP_INTERVAL, EGL_NATIVE_RENDERABLE, EGL_NATIVE_VISUAL_ID,
+    EGL_NATIVE_VISUAL_TYPE, EGL_NON_CONFORMANT_CONFIG, EGL_NONE, EGL_OPENGL_ES2_BIT,
+    EGL_PBUFFER_BIT, EGL_PIXMAP_BIT, EGL_RED_SIZE, EGL_RENDERABLE_TYPE, EGL_RGB_BUFFER,
+    EGL_SAMPLE_BUFFERS, EGL_SAMPLES, EGL_SLOW_CONFIG, EGL_STENCIL_SIZE, EGL_SURFACE_TYPE,
+    EGL_SWAP_BEHAVIOR_PRESERVED_BIT, EGL_TRANSPARENT_BLUE_VALUE, EGL_TRANSPARENT_GREEN_VALUE,
+    EGL_TRANSPARENT_RED_VALUE, EGL_TRANSPARENT_RGB, EGL_TRANSPARENT_TYPE, EGL_WIDTH,
+    EGL_WINDOW_BIT,
+};
+
+fn choose(rt: &HostRuntime, items: &[i64]) -> Result<Numbers, AttribError> {
+    match items.to_vec(rt.alloc()) {
+        Ok(items) => Configs::standard().choose(rt.alloc(), &Numbers::from_vec(items)),
+        Err(_) => Err(AttribError::NoMemory),
+    }
+}
+
+/// The configs with a window, in the order that no list changes.
+static USUAL: [i64; 7] = [1, 6, 7, 2, 3, 4, 5];
+
+/// Lists, and the ids that they choose, in order.
+static CHOICES: [(&[i64], &[i64]); 28] = [
+    (&[], &[1, 6, 7, 2, 3, 4, 5]),
+    (
+        &[
+            EGL_RED_SIZE as i64,
+            1,
+            EGL_GREEN_SIZE as i64,
+            1,
+            EGL_BLUE_SIZE as i64,
+            1,
+        ],
+        &[3, 4, 5, 1, 2, 7, 6],
+    ),
+    (
+        &[
+            EGL_RED_SIZE as i64,
+            8,
+            EGL_GREEN_SIZE as i64,
+            8,
+            EGL_BLUE_SIZE as i64,
+            8,
+            EGL_ALPHA_SIZE as i64,
+            8,
+        ],
+        &[4, 5],
+    ),
+    (&[EGL_RED_SIZE as i64, 1], &[3, 4, 5, 1, 7, 2, 6]),
+    (&[EGL_ALPHA_SIZE as i64, 1], &[4, 5, 6, 7]),
+    (
+        &[EGL_RED_SIZE as i64, 1, EGL_ALPHA_SIZE as i64, 1],
+        &[4, 5, 6, 7],
+    ),
+    (
+        &[EGL_RED_SIZE as i64, -1, EGL_GREEN_SIZE as i64, 0],
+        &[1, 6, 7, 2, 3, 4, 5],
+    ),
+    (&[EGL_BUFFER_SIZE as i64, 17], &[3, 4, 5]),
+    (&[EGL_DEPTH_SIZE as i64, 1], &[2, 5]),
+    (
+        &[EGL_DEPTH_SIZE as i64, 17, EGL_DEPTH_SIZE as i64, 16],
+        &[2, 5],
+    ),
+    (
+        &[EGL_DEPTH_SIZE as i64, 1, EGL_DEPTH_SIZE as i64, 0],
+        &[1, 6, 7, 2, 3, 4, 5],
+    ),
+    (&[EGL_STENCIL_SIZE as i64, 9], &[]),
+    (
+        &[EGL_SURFACE_TYPE as i64, EGL_PBUFFER_BIT as i64],
+        &[1, 6, 7, 2, 3, 4, 5, 8],
+    ),
+    (&[EGL_SURFACE_TYPE as i64, -1], &[1, 6, 7, 2, 3, 4, 5, 8]),
+    (&[EGL_SURFACE_TYPE as i64, 5], &[1, 6, 7, 2, 3, 4, 5]),
+    (&[EGL_SURFACE_TYPE as i64, EGL_PIXMAP_BIT as i64], &[]),
+    (&[EGL_SURFACE_TYPE as i64, 6], &[]),
+    (
+        &[
+            EGL_SURFACE_TYPE as i64,
+            EGL_SWAP_BEHAVIOR_PRESERVED_BIT as i64,
+            EGL_CONFIG_CAVEAT as i64,
+            EGL_SLOW_CONFIG as i64,
+        ],
+        &[8],
+    ),
+    (
+        &[EGL_RENDERABLE_TYPE as i64, EGL_OPENGL_ES2_BIT as i64],
+        &[],
+    ),
+    (
+        &[EGL_CONFIG_CAVEAT as i64, EGL_NON_CONFORMANT_CONFIG as i64],
+        &[],
+    ),
+    (
+        &[EGL_COLOR_BUFFER_TYPE as i64, EGL_LUMINANCE_BUFFER as i64],
+        &[],
+    ),
+    (
+        &[
+            EGL_COLOR_BUFFER_TYPE as i64,
+            -1,
+            EGL_TRANSPARENT_TYPE as i64,
+            -1,
+            EGL_RENDERABLE_TYPE as i64,
+            -1,
+        ],
+        &[1, 6, 7, 2, 3, 4, 5],
+    ),
+    (
+        &[EGL_TRANSPARENT_TYPE as i64, EGL_TRANSPARENT_RGB as i64],
+        &[],
+    ),
+    (&[EGL_LEVEL as i64, -1], &[]),
+    (&[EGL_BIND_TO_TEXTURE_RGB as i64, 1], &[]),
+    (&[EGL_CONFIG_ID as i64, 8], &[8]),
+    (
+        &[
+            EGL_SURFACE_TYPE as i64,
+            EGL_WINDOW_BIT as i64,
+            EGL_CONFIG_ID as i64,
+            8,
+            EGL_DEPTH_SIZE as i64,
+            24,
+        ],
+        &[8],
+    ),
+    (&[EGL_CONFIG_ID as i64, 9], &[]),
+];
+
+#[test]
+fn choices(rt: HostRuntime) {
+    for row in &CHOICES {
+        match choose(&rt, row.0) {
+            Ok(ids) => assert_eq!(rt; ids.as_slice(), row.1),
+            Err(_) => assert!(rt; false),
+        }
+    }
+}
+
+/// Each attribute that is matched with its default, and each that is ignored with a value that no config has.
+static DEFAULTS: [(i64, i64); 32] = [
+    (EGL_BUFFER_SIZE as i64, 0),
+    (EGL_RED_SIZE as i64, 0),
+    (EGL_GREEN_SIZE as i64, 0),
+    (EGL_BLUE_SIZE as i64, 0),
+    (EGL_ALPHA_SIZE as i64, 0),
+    (EGL_LUMINANCE_SIZE as i64, 0),
+    (EGL_ALPHA_MASK_SIZE as i64, 0),
+    (EGL_DEPTH_SIZE as i64, 0),
+    (EGL_STENCIL_SIZE as i64, 0),
+    (EGL_SAMPLE_BUFFERS as i64, 0),
+    (EGL_SAMPLES as i64, 0),
+    (EGL_BIND_TO_TEXTURE_RGB as i64, -1),
+    (EGL_BIND_TO_TEXTURE_RGBA as i64, -1),
+    (EGL_CONFIG_CAVEAT as i64, -1),
+    (EGL_CONFIG_ID as i64, -1),
+    (EGL_MAX_SWAP_INTERVAL as i64, -1),
+    (EGL_MIN_SWAP_INTERVAL as i64, -1),
+    (EGL_NATIVE_RENDERABLE as i64, -1),
+    (EGL_COLOR_BUFFER_TYPE as i64, EGL_RGB_BUFFER as i64),
+    (EGL_LEVEL as i64, 0),
+    (EGL_TRANSPARENT_TYPE as i64, EGL_NONE as i64),
+    (EGL_SURFACE_TYPE as i64, EGL_WINDOW_BIT as i64),
+    (EGL_RENDERABLE_TYPE as i64, 1),
+    (EGL_CONFORMANT as i64, 0),
+    (EGL_MAX_PBUFFER_WIDTH as i64, 9_999),
+    (EGL_MAX_PBUFFER_HEIGHT as i64, 9_999),
+    (EGL_MAX_PBUFFER_PIXELS as i64, 99_999_999),
+    (EGL_NATIVE_VISUAL_ID as i64, 77),
+    (EGL_NATIVE_VISUAL_TYPE as i64, 77),
+    (EGL_TRANSPARENT_RED_VALUE as i64, 77),
+    (EGL_TRANSPARENT_GREEN_VALUE as i64, 77),
+    (EGL_TRANSPARENT_BLUE_VALUE as i64, 77),
+];
+
+#[test]
+fn defaults_and_ignored_attributes_change_nothing(rt: HostRuntime) {
+    for row in &DEFAULTS {
+        match choose(&rt, &[row.0, row.1]) {
+            Ok(ids) => assert_eq!(rt; ids.as_slice(), USUAL.as_slice()),
+            Err(_) => assert!(rt; false),
+        }
+    }
+}
+
+/// Lists that are refused, and the place of the bad attribute.
+static BAD: [(&[i64], u32); 4] = [
+    (&[EGL_WIDTH as i64, 1], 0),
+    (&[EGL_DEPTH_SIZE as i64, -2], 0),
+    (&[EGL_CONFIG_ID as i64, 8, EGL_DEPTH_SIZE as i64, -2], 2),
+    (&[EGL_RED_SIZE as i64, 1, EGL_GREEN_SIZE as i64], 2),
+];
+
+#[test]
+fn lists_that_are_refused(rt: HostRuntime) {
+    for row in &BAD {
+        match choose(&rt, row.0) {
+            Ok(_) => assert!(rt; false),
+            Err(error) => assert!(rt; error == AttribError::BadAttribute { place: row.1 }),
+        }
+    }
+}
+
+/// Attributes of configs, with their values.
+static VALUES: [(i64, i64, i64); 22] = [
+    (1, EGL_BUFFER_SIZE as i64, 16),
+    (2, EGL_DEPTH_SIZE as i64, 16),
+    (3, EGL_BUFFER_SIZE as i64, 24),
+    (5, EGL_BUFFER_SIZE as i64, 32),
+    (5, EGL_STENCIL_SIZE as i64, 8),
+    (6, EGL_RED_SIZE as i64, 4),
+    (7, EGL_GREEN_SIZE as i64, 5),
+    (7, EGL_ALPHA_SIZE as i64, 1),
+    (1, EGL_BLUE_SIZE as i64, 5),
+    (8, EGL_CONFIG_ID as i64, 8),
+    (8, EGL_CONFIG_CAVEAT as i64, EGL_SLOW_CONFIG as i64),
+    (4, EGL_CONFIG_CAVEAT as i64, EGL_NONE as i64),
+    (4, EGL_SURFACE_TYPE as i64, 13),
+    (8, EGL_SURFACE_TYPE as i64, 9),
+    (1, EGL_MAX_SWAP_INTERVAL as i64, 1),
+    (1, EGL_NATIVE_VISUAL_TYPE as i64, EGL_NONE as i64),
+    (1, EGL_COLOR_BUFFER_TYPE as i64, EGL_RGB_BUFFER as i64),
+    (1, EGL_CONFORMANT as i64, 1),
+    (1, EGL_MAX_PBUFFER_HEIGHT as i64, 2_048),
+    (1, EGL_MAX_PBUFFER_PIXELS as i64, 4_194_304),
+    (1, EGL_LEVEL as i64, 0),
+    (1, EGL_SAMPLES as i64, 0),
+];
+
+#[test]
+fn attributes(rt: HostRuntime) {
+    let configs = Configs::standard();
+    for row in &VALUES {
+        assert_eq!(rt; configs.attribute(row.0, row.1), Some(row.2));
+    }
+    for id in &[0, 9, -1, 4_294_967_297] {
+        assert_eq!(rt; configs.attribute(*id, EGL_STENCIL_SIZE as i64), None);
+    }
+    for name in &[EGL_WIDTH as i64, EGL_NONE as i64, 0, -1] {
+        assert_eq!(rt; configs.attribute(5, *name), None);
+    }
+}
