@@ -1,4 +1,6 @@
 //! Words that are no command, faults of reading and writing, and inputs at the limit.
+ghost use Rattle.std.specs.Prelude.{None};
+
 use crate::playing::{serial, sink, source, status_of};
 use egl_flow::{Failed, Sink};
 use std::test::Fail;
@@ -69,7 +71,7 @@ struct Slow {
 }
 
 impl Sink for Slow {
-    ghost taken = { λ s. Rattle.std.specs.Prelude.None };
+    ghost taken = { λ s. None };
 
     ghost faults = { λ s. s.faults };
 
