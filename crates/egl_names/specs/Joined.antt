@@ -14,6 +14,7 @@ known_word w = option_or (option_map pos (code_of w)) (number_word w)
 abbrev pub is_name_start : ℕ → Bool
 is_name_start b = (nat_le 65 b && nat_le b 90) || (nat_le 97 b && nat_le b 122) || (b == 95)
 
+-- an ASCII digit
 abbrev pub is_digit : ℕ → Bool
 is_digit b = nat_le 48 b && nat_le b 57
 
@@ -26,6 +27,7 @@ begins_with test (b ∷ bs) = test b
 abbrev pub is_unknown_name : List ℕ → Bool
 is_unknown_name w = begins_with is_name_start w && is_none (known_word w)
 
+-- the byte between joined words
 abbrev pub is_bar : ℕ → Bool
 is_bar b = b == 124
 

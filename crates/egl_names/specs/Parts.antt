@@ -17,6 +17,7 @@ single_word w = option_map_or Number (known_word w) (if begins_with is_name_star
 abbrev pub part_of : List ℕ → Part
 part_of w = option_map_or PartBit (bit_word w) (if is_unknown_name w then PartUnknownName else NoBit)
 
+-- whether a part is a name that nobody knows
 abbrev pub is_unknown_part : Part → Bool
 is_unknown_part (PartBit bit) = false
 is_unknown_part PartUnknownName = true
@@ -29,6 +30,7 @@ with_part (Some bits) PartUnknownName = None
 with_part (Some bits) NoBit = None
 with_part None p = None
 
+-- the word that bits stand for, where every part was one
 abbrev pub word_of_bits : Option ℕ → Word
 word_of_bits (Some bits) = Number (pos bits)
 word_of_bits None = BadForm
