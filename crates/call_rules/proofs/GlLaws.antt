@@ -1,0 +1,95 @@
+-- What no refusal of a call of OpenGL ES says.
+use Rattle.std.proofs.Common.{◌≡◌, ℕ, ℤ, pos, Bool, true, false, not, ◌||◌, ◌&&◌, None, refl, sym, ap, ◌∙◌, ◌⊎◌, inl, inr, bit_or}
+use Rattle.std.specs.Prelude.{int_lt, ◌==◌}
+use Rattle.std.proofs.lemmas.Bool.{not-false, or_parts, or_from, or_cases, and_parts, and_from}
+use Rattle.std.proofs.lemmas.Bool.Decides.{Decides-eqb}
+use Rattle.egl_calls.specs.Calls.{CallValue}
+use Rattle.egl_calls.specs.declared.kinds.Kind.{Kind}
+use Rattle.egl_calls.specs.declared.kinds.Kind.TheVariants.{Gl}
+use Rattle.egl_calls.specs.declared.kinds.GlKind.{GlKind}
+use Rattle.egl_calls.specs.declared.kinds.GlKind.TheVariants.{Clear, ReadPixels}
+use Rattle.egl_names.specs.Names.{unsigned}
+use Rattle.egl_names.specs.declared.codes.TheConstants.{GL_RGB, GL_RGBA, GL_UNSIGNED_BYTE, GL_UNSIGNED_SHORT_5_6_5}
+use Rattle.call_rules.specs.declared.gl_facts.GlFacts.{GlFacts}
+use Rattle.call_rules.specs.Rows.{first_error}
+use Rattle.call_rules.specs.Arguments.{signed}
+use Rattle.call_rules.specs.GlRules.{buffer_bits, is_no_side, is_read_format, is_read_type, is_read_pair, read_format, read_type, gl_rows, gl_refusal_by, gl_refusal}
+use Rattle.call_rules.specs.GlAllowed.{ClearAllowed, IsSide, ReadAllowed}
+use Rattle.call_rules.proofs.RowLaws.{AllOff, all_off, none_on}
+use Rattle.call_rules.proofs.TestLaws.{not_below, is_not_below}
+
+of_kind : (c : CallValue) (f : GlFacts) (k : GlKind) → c.kind ≡ Gl k → gl_refusal c f ≡ first_error (gl_rows k c f)
+unfolding gl_refusal
+of_kind c f k h = ap (λ (kind : Kind). gl_refusal_by kind c f) h
+
+rows_off : (c : CallValue) (f : GlFacts) (k : GlKind) → c.kind ≡ Gl k → gl_refusal c f ≡ None → AllOff (gl_rows k c f)
+rows_off c f k h n = all_off (gl_rows k c f) (sym (of_kind c f k h) ∙ n)
+
+refused_not : (c : CallValue) (f : GlFacts) (k : GlKind) → c.kind ≡ Gl k → AllOff (gl_rows k c f) → gl_refusal c f ≡ None
+refused_not c f k h a = of_kind c f k h ∙ none_on (gl_rows k c f) a
+
+off : (b : Bool) → b ≡ true → not b ≡ false
+off b h = ap not h
+
+pub clear_allowed : (c : CallValue) (f : GlFacts) → c.kind ≡ Gl Clear → gl_refusal c f ≡ None → ClearAllowed c f
+clear_allowed c f h n =
+    let a = rows_off c f Clear h n in
+    let m = and_parts (not (int_lt (signed c 0) (pos 0))) (bit_or (unsigned (signed c 0)) buffer_bits == buffer_bits) (not-false _ a.0) in
+    record {
+      mask = not_below (signed c 0) (pos 0) (unsigned_test (int_lt (signed c 0) (pos 0)) m.0);
+      bits = (Decides-eqb (bit_or (unsigned (signed c 0)) buffer_bits) buffer_bits).0 m.1;
+      complete = not-false _ a.1.0;
+    }
+  where
+    unsigned_test : (b : Bool) → not b ≡ true → b ≡ false
+    unsigned_test false e = refl
+    unsigned_test true e = absurd (let g : false ≡ true = e in cc)
+
+pub clear_passes : (c : CallValue) (f : GlFacts) → c.kind ≡ Gl Clear → ClearAllowed c f → gl_refusal c f ≡ None
+clear_passes c f h a = refused_not c f Clear h (
+  off _ (and_from _ _ (ap not (is_not_below (signed c 0) (pos 0) a.mask)) ((Decides-eqb (bit_or (unsigned (signed c 0)) buffer_bits) buffer_bits).1 a.bits)),
+  (off _ a.complete, tt),
+)
+
+side : (z : ℤ) → is_no_side z ≡ false → IsSide z
+side z h = let o = or_parts (int_lt z (pos 0)) (int_lt (pos 2048) z) h in record { low = not_below _ _ o.0; high = not_below _ _ o.1 }
+
+side_off : (z : ℤ) → IsSide z → is_no_side z ≡ false
+side_off z s = or_from _ _ (is_not_below z (pos 0) s.low) (is_not_below (pos 2048) z s.high)
+
+pair : (format kind a b x y : ℕ) → (((format == a) && (kind == x)) || ((format == b) && (kind == y))) ≡ true → ((format ≡ a) × (kind ≡ x)) ⊎ ((format ≡ b) × (kind ≡ y))
+pair format kind a b x y h = elim (or_cases ((format == a) && (kind == x)) ((format == b) && (kind == y)) h) [
+  | inl e ↦ let p = and_parts (format == a) (kind == x) e in inl ((Decides-eqb format a).0 p.0, (Decides-eqb kind x).0 p.1)
+  | inr e ↦ let p = and_parts (format == b) (kind == y) e in inr ((Decides-eqb format b).0 p.0, (Decides-eqb kind y).0 p.1)
+]
+
+pub read_allowed : (c : CallValue) (f : GlFacts) → c.kind ≡ Gl ReadPixels → gl_refusal c f ≡ None → ReadAllowed c f
+read_allowed c f h n =
+    let a = rows_off c f ReadPixels h n in
+    let sides = or_parts (is_no_side (signed c 2)) (is_no_side (signed c 3)) a.0 in
+    record {
+      width = side _ sides.0;
+      height = side _ sides.1;
+      pair = pair (read_format c) (read_type c) GL_RGBA GL_RGB GL_UNSIGNED_BYTE GL_UNSIGNED_SHORT_5_6_5 (not-false _ a.1.1.0);
+      complete = not-false _ a.1.1.1.0;
+    }
+
+pair_known : (format kind : ℕ) → ((format ≡ GL_RGBA) × (kind ≡ GL_UNSIGNED_BYTE)) ⊎ ((format ≡ GL_RGB) × (kind ≡ GL_UNSIGNED_SHORT_5_6_5)) → (is_read_format format && is_read_type kind) ≡ true
+pair_known format kind (inl p) = ap (λ n. is_read_format n && is_read_type kind) p.0 ∙ ap (λ n. is_read_format GL_RGBA && is_read_type n) p.1
+pair_known format kind (inr p) = ap (λ n. is_read_format n && is_read_type kind) p.0 ∙ ap (λ n. is_read_format GL_RGB && is_read_type n) p.1
+
+pair_read : (format kind : ℕ) → ((format ≡ GL_RGBA) × (kind ≡ GL_UNSIGNED_BYTE)) ⊎ ((format ≡ GL_RGB) × (kind ≡ GL_UNSIGNED_SHORT_5_6_5)) → is_read_pair format kind ≡ true
+pair_read format kind (inl p) = ap (λ n. is_read_pair n kind) p.0 ∙ ap (is_read_pair GL_RGBA) p.1
+pair_read format kind (inr p) = ap (λ n. is_read_pair n kind) p.0 ∙ ap (is_read_pair GL_RGB) p.1
+
+pub read_passes : (c : CallValue) (f : GlFacts) → c.kind ≡ Gl ReadPixels → ReadAllowed c f → gl_refusal c f ≡ None
+read_passes c f h a = refused_not c f ReadPixels h (
+  or_from _ _ (side_off _ a.width) (side_off _ a.height),
+  (
+    off _ (pair_known (read_format c) (read_type c) a.pair),
+    (
+      off _ (pair_read (read_format c) (read_type c) a.pair),
+      (off _ a.complete, tt),
+    ),
+  ),
+)

@@ -1,0 +1,47 @@
+-- What the first row that holds says of the others.
+use Rattle.std.proofs.Common.{◌≡◌, Bool, true, false, cond, List, [], ◌∷◌, ◌++◌, Option, None, Some, refl, sym, ap, ◌∙◌}
+use Rattle.call_rules.specs.Rows.{Row, first_error}
+
+-- no row holds
+abbrev pub AllOff : {E : Type 0} → List (Row E) → Type 0
+AllOff [] = Unit {0}
+AllOff (r ∷ rs) = (r.holds ≡ false) × AllOff rs
+
+off : {E : Type 0} (b : Bool) (e : E) (o : Option E) → cond b (Some e) o ≡ None → (b ≡ false) × (o ≡ None)
+off true e o h = absurd (let f : Some e ≡ None = h in cc)
+off false e o h = (refl, h)
+
+pub all_off : {E : Type 0} (rs : List (Row E)) → first_error rs ≡ None → AllOff rs
+all_off [] h = tt
+all_off (r ∷ rs) h = let o = off r.holds r.error (first_error rs) h in (o.0, all_off rs o.1)
+
+-- rows of which none holds say nothing before others
+pub past_off : {E : Type 0} (rs others : List (Row E)) → AllOff rs → first_error (rs ++ others) ≡ first_error others
+past_off [] others h = refl
+past_off (r ∷ rs) others h = ap (λ b. cond b (Some r.error) (first_error (rs ++ others))) h.0 ∙ past_off rs others h.1
+
+pub none_on : {E : Type 0} (rs : List (Row E)) → AllOff rs → first_error rs ≡ None
+none_on [] h = refl
+none_on (r ∷ rs) h = ap (λ b. cond b (Some r.error) (first_error rs)) h.0 ∙ none_on rs h.1
+
+-- no row has an error of this kind
+abbrev pub NoneSays : {E : Type 0} → (E → Bool) → List (Row E) → Type 0
+NoneSays p [] = Unit {0}
+NoneSays p (r ∷ rs) = (p r.error ≡ false) × NoneSays p rs
+
+said : {E : Type 0} → (E → Bool) → Option E → Bool
+said p (Some e) = p e
+said p None = false
+
+later : {E : Type 0} (p : E → Bool) (b : Bool) (x e : E) (o : Option E) → p x ≡ false → p e ≡ true → cond b (Some x) o ≡ Some e → (b ≡ false) × (o ≡ Some e)
+unfolding said
+later p true x e o n y h = absurd (let f : said p (Some x) ≡ said p (Some e) = ap (said p) h in let g : false ≡ true = sym n ∙ f ∙ y in cc)
+later p false x e o n y h = (refl, h)
+
+-- an error that no row of the first ones has comes from the others, and no row of the first ones holds
+pub from_others : {E : Type 0} (p : E → Bool) (e : E) (rs others : List (Row E)) → p e ≡ true → NoneSays p rs → first_error (rs ++ others) ≡ Some e → AllOff rs × (first_error others ≡ Some e)
+from_others p e [] others y n h = (tt, h)
+from_others p e (r ∷ rs) others y n h =
+    let o = later p r.holds r.error e (first_error (rs ++ others)) n.0 y h in
+    let rest = from_others p e rs others y n.1 o.1 in
+    ((o.0, rest.0), rest.1)

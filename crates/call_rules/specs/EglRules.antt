@@ -1,0 +1,140 @@
+-- When each EGL call is refused, and with which error: the first row that holds.
+use Rattle.std.specs.Prelude.{ℕ, ◌+◌, ℤ, pos, Bool, false, not, ◌&&◌, ◌||◌, List, [], ◌∷◌, ◌++◌, if◌then◌else◌, nat_lt, int_lt}
+use Rattle.std.specs.Ordering.{int_eq}
+use Rattle.std.specs.declared.option.Option.{Option}
+use Rattle.std.specs.declared.option.Option.TheVariants.{None}
+use Rattle.egl_calls.specs.Calls.{CallValue}
+use Rattle.egl_calls.specs.declared.kinds.Kind.{Kind}
+use Rattle.egl_calls.specs.declared.kinds.Kind.TheVariants.{Egl}
+use Rattle.egl_calls.specs.declared.kinds.EglKind.{EglKind}
+use Rattle.egl_calls.specs.declared.kinds.EglKind.TheVariants.{Initialize, Terminate, GetConfigs, ChooseConfig, GetConfigAttrib, CreatePbufferSurface, CreateContext, MakeCurrent}
+use Rattle.egl_calls.specs.declared.errors.EglError.{EglError}
+use Rattle.egl_calls.specs.declared.errors.EglError.TheVariants.{NotInitialized, BadAccess, BadAlloc, BadAttribute, BadConfig, BadContext, BadDisplay, BadMatch, BadParameter, BadSurface}
+use Rattle.call_rules.specs.declared.egl_facts.EglFacts.{EglFacts}
+use Rattle.call_rules.specs.Rows.{Row, ◌⇒◌, first_error}
+use Rattle.call_rules.specs.Arguments.{is_zero}
+
+-- the facts of a call that asks for none
+abbrev pub no_facts : EglFacts
+no_facts = record {
+  is_display = false;
+  is_initialized = false;
+  is_config = false;
+  is_attribute = false;
+  is_list_allowed = false;
+  width = pos 0;
+  height = pos 0;
+  is_largest = false;
+  live_bytes = 0;
+  new_bytes = 0;
+  video_limit = 0;
+  are_handles_used_up = false;
+  is_share = false;
+  is_share_here = false;
+  version = pos 0;
+  minor_version = pos 0;
+  is_draw = false;
+  is_read = false;
+  is_context = false;
+  is_compatible = false;
+  is_context_elsewhere = false;
+  is_surface_elsewhere = false;
+}
+
+-- the row of a call that works on any display (section 3.2)
+abbrev pub display_row : EglFacts → Row EglError
+display_row f = not f.is_display ⇒ BadDisplay
+
+-- the rows of a call that works on an initialised display (section 3.1)
+abbrev pub display_rows : EglFacts → List (Row EglError)
+display_rows f =
+    display_row f ∷
+    (not f.is_initialized ⇒ NotInitialized) ∷
+    []
+
+-- a side of a pbuffer above 2,048, the configs' EGL_MAX_PBUFFER_WIDTH and EGL_MAX_PBUFFER_HEIGHT (section 3.4)
+abbrev pub is_long : ℤ → Bool
+is_long side = int_lt (pos 2048) side
+
+-- OpenGL ES 2.0, 3.0, 3.1 or 3.2: versions that there are, and that no config supports (section 3.7.1)
+abbrev pub is_later_version : ℤ → ℤ → Bool
+is_later_version version minor =
+    (int_eq version (pos 2) && int_eq minor (pos 0))
+    || (int_eq version (pos 3) && (int_eq minor (pos 0) || int_eq minor (pos 1) || int_eq minor (pos 2)))
+
+-- OpenGL ES 1.0 or 1.1
+abbrev pub is_supported_version : ℤ → ℤ → Bool
+is_supported_version version minor = int_eq version (pos 1) && (int_eq minor (pos 0) || int_eq minor (pos 1))
+
+-- the rows of the calls that are judged by facts alone, whatever their numbers, in the order of the tests
+abbrev pub fact_rows : EglKind → EglFacts → List (Row EglError)
+-- EGL 1.5, section 3.2
+fact_rows Initialize f =
+    display_row f ∷
+    []
+fact_rows Terminate f =
+    display_row f ∷
+    []
+-- section 3.4
+fact_rows GetConfigs f = display_rows f
+fact_rows ChooseConfig f = display_rows f ++
+    (not f.is_list_allowed ⇒ BadAttribute) ∷
+    []
+fact_rows GetConfigAttrib f = display_rows f ++
+    (not f.is_config ⇒ BadConfig) ∷
+    (not f.is_attribute ⇒ BadAttribute) ∷
+    []
+-- section 3.5.2; the last three: no pbuffer of this size, no memory for its pixels, no number for its handle
+fact_rows CreatePbufferSurface f = display_rows f ++
+    (not f.is_config ⇒ BadConfig) ∷
+    (not f.is_list_allowed ⇒ BadAttribute) ∷
+    (int_lt f.width (pos 0) || int_lt f.height (pos 0) ⇒ BadParameter) ∷
+    ((is_long f.width || is_long f.height) && not f.is_largest ⇒ BadAlloc) ∷
+    (nat_lt f.video_limit (f.live_bytes + f.new_bytes) ⇒ BadAlloc) ∷
+    (f.are_handles_used_up ⇒ BadAlloc) ∷
+    []
+-- section 3.7.1
+fact_rows CreateContext f = display_rows f ++
+    (not f.is_config ⇒ BadConfig) ∷
+    (not f.is_list_allowed ⇒ BadAttribute) ∷
+    (not f.is_share ⇒ BadContext) ∷
+    (not f.is_share_here ⇒ BadMatch) ∷
+    (is_later_version f.version f.minor_version ⇒ BadConfig) ∷
+    (not (is_supported_version f.version f.minor_version) ⇒ BadMatch) ∷
+    (f.are_handles_used_up ⇒ BadAlloc) ∷
+    []
+-- a call that is never refused, is local to a thread, or isn't built
+fact_rows k f = []
+
+-- without draw surface, read surface and context: the current context is released (section 3.7.3)
+abbrev pub is_release : CallValue → Bool
+is_release c = is_zero c 1 && is_zero c 2 && is_zero c 3
+
+-- an argument that is given, and isn't what it has to be
+abbrev pub is_wrong : CallValue → ℕ → Bool → Bool
+is_wrong c k is_valid = not (is_zero c k) && not is_valid
+
+-- the rows of making a context current (section 3.7.3)
+abbrev pub current_rows : CallValue → EglFacts → List (Row EglError)
+current_rows c f = display_rows f ++
+    (is_wrong c 1 f.is_draw || is_wrong c 2 f.is_read ⇒ BadSurface) ∷
+    (is_wrong c 3 f.is_context ⇒ BadContext) ∷
+    (is_zero c 1 || is_zero c 2 || is_zero c 3 ⇒ BadMatch) ∷
+    (not f.is_compatible ⇒ BadMatch) ∷
+    (f.is_context_elsewhere ⇒ BadAccess) ∷
+    (f.is_surface_elsewhere ⇒ BadAccess) ∷
+    []
+
+-- the rows of each call
+abbrev pub egl_rows : EglKind → CallValue → EglFacts → List (Row EglError)
+egl_rows MakeCurrent c f = if is_release c then display_row f ∷ [] else current_rows c f
+egl_rows k c f = fact_rows k f
+
+-- a call that isn't EGL's has no row
+abbrev pub egl_refusal_by : Kind → CallValue → EglFacts → Option EglError
+egl_refusal_by (Egl k) c f = first_error (egl_rows k c f)
+egl_refusal_by k c f = None
+
+-- the error that a call of EGL answers, if it is refused
+unfoldable pub egl_refusal : CallValue → EglFacts → Option EglError
+egl_refusal c f = egl_refusal_by c.kind c f

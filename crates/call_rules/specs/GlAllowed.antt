@@ -1,0 +1,32 @@
+-- What is known where a call of OpenGL ES isn't refused.
+use Rattle.std.specs.Prelude.{◌≡◌, ℤ, pos, ◌≤ℤ◌, true, ◌⊎◌, bit_or}
+use Rattle.egl_calls.specs.Calls.{CallValue}
+use Rattle.egl_names.specs.Names.{unsigned}
+use Rattle.egl_names.specs.declared.codes.TheConstants.{GL_RGB, GL_RGBA, GL_UNSIGNED_BYTE, GL_UNSIGNED_SHORT_5_6_5}
+use Rattle.call_rules.specs.declared.gl_facts.GlFacts.{GlFacts}
+use Rattle.call_rules.specs.Arguments.{signed}
+use Rattle.call_rules.specs.GlRules.{buffer_bits, read_format, read_type}
+
+-- glClear (OpenGL ES 1.1, section 4.2.3): the mask adds no bit to those of the buffers
+pub record ClearAllowed (c : CallValue) (f : GlFacts) : Type 0 where
+  pub mask : pos 0 ≤ℤ signed c 0
+  pub bits : bit_or (unsigned (signed c 0)) buffer_bits ≡ buffer_bits
+  pub complete : f.is_framebuffer_complete ≡ true
+
+-- a width or height that something can have
+pub record IsSide (side : ℤ) : Type 0 where
+  pub low : pos 0 ≤ℤ side
+  pub high : side ≤ℤ pos 2048
+
+-- pixels are read as GL_RGBA in bytes, or as GL_RGB in shorts of 5, 6 and 5 bits
+abbrev pub IsReadPair : CallValue → Type 0
+IsReadPair c =
+    ((read_format c ≡ GL_RGBA) × (read_type c ≡ GL_UNSIGNED_BYTE))
+    ⊎ ((read_format c ≡ GL_RGB) × (read_type c ≡ GL_UNSIGNED_SHORT_5_6_5))
+
+-- glReadPixels (section 4.3.1)
+pub record ReadAllowed (c : CallValue) (f : GlFacts) : Type 0 where
+  pub width : IsSide (signed c 2)
+  pub height : IsSide (signed c 3)
+  pub pair : IsReadPair c
+  pub complete : f.is_framebuffer_complete ≡ true

@@ -1,0 +1,79 @@
+-- When each call of OpenGL ES is refused, and with which error: the first row that holds.
+use Rattle.std.specs.Prelude.{ℕ, ℤ, pos, Bool, not, ◌&&◌, ◌||◌, ◌==◌, List, [], ◌∷◌, bit_or, int_lt}
+use Rattle.std.specs.declared.option.Option.{Option}
+use Rattle.std.specs.declared.option.Option.TheVariants.{None}
+use Rattle.egl_calls.specs.Calls.{CallValue}
+use Rattle.egl_calls.specs.declared.kinds.Kind.{Kind}
+use Rattle.egl_calls.specs.declared.kinds.Kind.TheVariants.{Gl}
+use Rattle.egl_calls.specs.declared.kinds.GlKind.{GlKind}
+use Rattle.egl_calls.specs.declared.kinds.GlKind.TheVariants.{Clear, ReadPixels}
+use Rattle.egl_calls.specs.declared.errors.GlError.{GlError}
+use Rattle.egl_calls.specs.declared.errors.GlError.TheVariants.{InvalidEnum, InvalidValue, InvalidOperation, InvalidFramebufferOperation}
+use Rattle.egl_names.specs.Names.{unsigned}
+use Rattle.egl_names.specs.declared.codes.TheConstants.{GL_RGB, GL_RGBA, GL_UNSIGNED_BYTE, GL_UNSIGNED_SHORT_5_6_5, GL_COLOR_BUFFER_BIT, GL_DEPTH_BUFFER_BIT, GL_STENCIL_BUFFER_BIT}
+use Rattle.call_rules.specs.declared.gl_facts.GlFacts.{GlFacts}
+use Rattle.call_rules.specs.Rows.{Row, ◌⇒◌, first_error}
+use Rattle.call_rules.specs.Arguments.{signed}
+
+-- the bits of the buffers that glClear clears (OpenGL ES 1.1, section 4.2.3)
+abbrev pub buffer_bits : ℕ
+buffer_bits = bit_or (bit_or GL_COLOR_BUFFER_BIT GL_DEPTH_BUFFER_BIT) GL_STENCIL_BUFFER_BIT
+
+-- whether a mask has no bit besides those; a negative one has
+abbrev pub is_clear_mask : ℤ → Bool
+is_clear_mask mask = not (int_lt mask (pos 0)) && (bit_or (unsigned mask) buffer_bits == buffer_bits)
+
+-- a width or height that nothing can have
+abbrev pub is_no_side : ℤ → Bool
+is_no_side side = int_lt side (pos 0) || int_lt (pos 2048) side
+
+-- the formats of pixels that are read (OpenGL ES 1.1, section 4.3.1)
+abbrev pub is_read_format : ℕ → Bool
+is_read_format format = (format == GL_RGBA) || (format == GL_RGB)
+
+-- the types of their components
+abbrev pub is_read_type : ℕ → Bool
+is_read_type kind = (kind == GL_UNSIGNED_BYTE) || (kind == GL_UNSIGNED_SHORT_5_6_5)
+
+-- the type that goes with each format
+abbrev pub is_read_pair : ℕ → ℕ → Bool
+is_read_pair format kind =
+    ((format == GL_RGBA) && (kind == GL_UNSIGNED_BYTE)) || ((format == GL_RGB) && (kind == GL_UNSIGNED_SHORT_5_6_5))
+
+-- the code of the format that glReadPixels is given
+abbrev pub read_format : CallValue → ℕ
+read_format c = unsigned (signed c 4)
+
+-- the code of the type
+abbrev pub read_type : CallValue → ℕ
+read_type c = unsigned (signed c 5)
+
+-- OES_framebuffer_object: no framebuffer that isn't complete is written or read
+abbrev pub framebuffer_row : GlFacts → Row GlError
+framebuffer_row f = not f.is_framebuffer_complete ⇒ InvalidFramebufferOperation
+
+-- the rows of each call, in the order of the tests
+abbrev pub gl_rows : GlKind → CallValue → GlFacts → List (Row GlError)
+-- OpenGL ES 1.1, section 4.2.3
+gl_rows Clear c f =
+    (not (is_clear_mask (signed c 0)) ⇒ InvalidValue) ∷
+    framebuffer_row f ∷
+    []
+-- section 4.3.1
+gl_rows ReadPixels c f =
+    (is_no_side (signed c 2) || is_no_side (signed c 3) ⇒ InvalidValue) ∷
+    (not (is_read_format (read_format c) && is_read_type (read_type c)) ⇒ InvalidEnum) ∷
+    (not (is_read_pair (read_format c) (read_type c)) ⇒ InvalidOperation) ∷
+    framebuffer_row f ∷
+    []
+-- a call that is local to a thread, or isn't built
+gl_rows k c f = []
+
+-- a call that isn't one of OpenGL ES has no row
+abbrev pub gl_refusal_by : Kind → CallValue → GlFacts → Option GlError
+gl_refusal_by (Gl k) c f = first_error (gl_rows k c f)
+gl_refusal_by k c f = None
+
+-- the error that a call of OpenGL ES keeps, if it is refused
+unfoldable pub gl_refusal : CallValue → GlFacts → Option GlError
+gl_refusal c f = gl_refusal_by c.kind c f

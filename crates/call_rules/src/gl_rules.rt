@@ -1,0 +1,93 @@
+//! When each call of OpenGL ES is refused.
+ghost use Rattle.std.specs.Prelude.{◌≡◌};
+ghost use Rattle.egl_calls.specs.declared.kinds.GlKind.TheVariants.{Clear, ReadPixels};
+ghost use Rattle.call_rules.specs.Rows.{first_error};
+ghost use Rattle.call_rules.specs.GlRules.{gl_refusal, gl_rows, is_clear_mask, is_no_side, is_read_format, is_read_type, is_read_pair};
+
+use crate::gl_facts::GlFacts;
+use egl_calls::{Call, GlError, GlKind, Kind};
+use egl_names::codes::{
+    GL_COLOR_BUFFER_BIT, GL_DEPTH_BUFFER_BIT, GL_RGB, GL_RGBA, GL_STENCIL_BUFFER_BIT,
+    GL_UNSIGNED_BYTE, GL_UNSIGNED_SHORT_5_6_5,
+};
+use egl_names::unsigned;
+
+const BUFFER_BITS: u64 = GL_COLOR_BUFFER_BIT | GL_DEPTH_BUFFER_BIT | GL_STENCIL_BUFFER_BIT;
+
+fn is_clear_mask(mask: i64) -> bool
+    ensures { result ≡ is_clear_mask mask }
+{
+    mask >= 0 && (unsigned(mask) | BUFFER_BITS) == BUFFER_BITS
+}
+
+fn is_no_side(side: i64) -> bool
+    ensures { result ≡ is_no_side side }
+{
+    side < 0 || side > 2_048
+}
+
+fn is_read_format(format: u64) -> bool
+    ensures { result ≡ is_read_format format }
+{
+    format == GL_RGBA || format == GL_RGB
+}
+
+fn is_read_type(kind: u64) -> bool
+    ensures { result ≡ is_read_type kind }
+{
+    kind == GL_UNSIGNED_BYTE || kind == GL_UNSIGNED_SHORT_5_6_5
+}
+
+fn is_read_pair(format: u64, kind: u64) -> bool
+    ensures { result ≡ is_read_pair format kind }
+{
+    format == GL_RGBA && kind == GL_UNSIGNED_BYTE
+        || format == GL_RGB && kind == GL_UNSIGNED_SHORT_5_6_5
+}
+
+/// OpenGL ES 1.1, section 4.2.3.
+fn clear(call: &Call, facts: &GlFacts) -> Option<GlError>
+    ensures { result ≡ first_error (gl_rows Clear call.now facts.now) }
+{
+    if !is_clear_mask(call.args[0]) {
+        return Some(GlError::InvalidValue);
+    }
+    if !facts.is_framebuffer_complete {
+        return Some(GlError::InvalidFramebufferOperation);
+    }
+    None
+}
+
+/// OpenGL ES 1.1, section 4.3.1.
+fn read_pixels(call: &Call, facts: &GlFacts) -> Option<GlError>
+    ensures { result ≡ first_error (gl_rows ReadPixels call.now facts.now) }
+{
+    let [_, _, width, height, format, kind, ..] = call.args;
+    let format = unsigned(format);
+    let kind = unsigned(kind);
+    if is_no_side(width) || is_no_side(height) {
+        return Some(GlError::InvalidValue);
+    }
+    if !(is_read_format(format) && is_read_type(kind)) {
+        return Some(GlError::InvalidEnum);
+    }
+    if !is_read_pair(format, kind) {
+        return Some(GlError::InvalidOperation);
+    }
+    if !facts.is_framebuffer_complete {
+        return Some(GlError::InvalidFramebufferOperation);
+    }
+    None
+}
+
+/// The error that a call of OpenGL ES keeps in its context and comes out with, and None where it isn't refused. A call that is local to a thread, isn't built, or is of another interface has no row.
+#[tactic(auto, unfolding(crate::specs::GlRules::gl_refusal))]
+pub fn gl_refusal(call: &Call, facts: &GlFacts) -> Option<GlError>
+    ensures { result ≡ gl_refusal call.now facts.now }
+{
+    match call.kind {
+        Kind::Gl(GlKind::Clear) => clear(call, facts),
+        Kind::Gl(GlKind::ReadPixels) => read_pixels(call, facts),
+        _ => None,
+    }
+}

@@ -1,0 +1,59 @@
+//! What follows where a call isn't refused, and where EGL_BAD_ALLOC comes: the contracts of functions that do nothing.
+ghost use Rattle.std.specs.Prelude.{◌≡◌, ◌↔◌, true, false};
+ghost use Rattle.egl_calls.specs.Calls.{CallValue};
+ghost use Rattle.egl_calls.specs.declared.kinds.Kind.TheVariants.{Egl, Gl};
+ghost use Rattle.egl_calls.specs.declared.kinds.EglKind.TheVariants.{ChooseConfig, GetConfigAttrib, CreatePbufferSurface, CreateContext, MakeCurrent};
+ghost use Rattle.egl_calls.specs.declared.kinds.GlKind.TheVariants.{Clear, ReadPixels};
+ghost use Rattle.egl_calls.specs.declared.errors.EglError.TheVariants.{BadAlloc};
+ghost use Rattle.call_rules.specs.declared.egl_facts.EglFacts.{EglFacts as Facts};
+ghost use Rattle.call_rules.specs.declared.gl_facts.GlFacts.{GlFacts as GlesFacts};
+ghost use Rattle.call_rules.specs.EglRules.{egl_refusal, is_release};
+ghost use Rattle.call_rules.specs.GlRules.{gl_refusal};
+ghost use Rattle.call_rules.specs.EglAllowed.{ChoiceAllowed, AttributeAllowed, PbufferAsked, PbufferAllowed, PbufferWants, ContextAsked, ContextAllowed, CurrentAllowed};
+ghost use Rattle.call_rules.specs.GlAllowed.{ClearAllowed, ReadAllowed};
+
+/// eglChooseConfig goes through exactly with an initialised display and a list that is allowed (EGL 1.5, section 3.4.1).
+pub fn choice_is_allowed()
+    ensures { (c : CallValue) (f : Facts) → c.kind ≡ Egl ChooseConfig → (egl_refusal c f ≡ None) ↔ ChoiceAllowed f }
+{}
+
+/// eglGetConfigAttrib goes through exactly with an initialised display, a config and one of its attributes (section 3.4.3).
+pub fn attribute_is_allowed()
+    ensures { (c : CallValue) (f : Facts) → c.kind ≡ Egl GetConfigAttrib → (egl_refusal c f ≡ None) ↔ AttributeAllowed f }
+{}
+
+/// eglCreatePbufferSurface goes through exactly where the standard has the pbuffer and nothing wants (section 3.5.2).
+pub fn pbuffer_is_allowed()
+    ensures { (c : CallValue) (f : Facts) → c.kind ≡ Egl CreatePbufferSurface → (egl_refusal c f ≡ None) ↔ PbufferAllowed f }
+{}
+
+/// eglCreatePbufferSurface answers EGL_BAD_ALLOC exactly where no other error comes first, and a side is above 2,048 without EGL_LARGEST_PBUFFER, the pixels would be more than there may be, or the numbers of handles are used up.
+pub fn pbuffer_wants_size_memory_or_handles()
+    ensures { (c : CallValue) (f : Facts) → c.kind ≡ Egl CreatePbufferSurface → (egl_refusal c f ≡ Some BadAlloc) ↔ (PbufferAsked f × PbufferWants f) }
+{}
+
+/// eglCreateContext goes through exactly where this driver has the context and a number is left for it (section 3.7.1).
+pub fn context_is_allowed()
+    ensures { (c : CallValue) (f : Facts) → c.kind ≡ Egl CreateContext → (egl_refusal c f ≡ None) ↔ ContextAllowed f }
+{}
+
+/// eglCreateContext answers EGL_BAD_ALLOC exactly where no other error comes first and the numbers of handles are used up.
+pub fn context_wants_handles()
+    ensures { (c : CallValue) (f : Facts) → c.kind ≡ Egl CreateContext → (egl_refusal c f ≡ Some BadAlloc) ↔ (ContextAsked f × (f.are_handles_used_up ≡ true)) }
+{}
+
+/// eglMakeCurrent with 0 three times asks for a display alone; else it goes through exactly where all three fit and are free (section 3.7.3).
+pub fn current_is_allowed()
+    ensures release { (c : CallValue) (f : Facts) → c.kind ≡ Egl MakeCurrent → is_release c ≡ true → (egl_refusal c f ≡ None) ↔ (f.is_display ≡ true) }
+    ensures some { (c : CallValue) (f : Facts) → c.kind ≡ Egl MakeCurrent → is_release c ≡ false → (egl_refusal c f ≡ None) ↔ CurrentAllowed c f }
+{}
+
+/// glClear goes through exactly with no bit besides those of the buffers, and a complete framebuffer (OpenGL ES 1.1, section 4.2.3).
+pub fn clear_is_allowed()
+    ensures { (c : CallValue) (f : GlesFacts) → c.kind ≡ Gl Clear → (gl_refusal c f ≡ None) ↔ ClearAllowed c f }
+{}
+
+/// glReadPixels goes through exactly with sides from 0 to 2,048, one of the two pairs of format and type, and a complete framebuffer (section 4.3.1).
+pub fn read_is_allowed()
+    ensures { (c : CallValue) (f : GlesFacts) → c.kind ≡ Gl ReadPixels → (gl_refusal c f ≡ None) ↔ ReadAllowed c f }
+{}

@@ -1,0 +1,18 @@
+//! Which error a call of EGL or OpenGL ES answers first, given facts about the state and the call's own numbers.
+//!
+//! The calls are those that are built and aren't local to a thread. `specs/EglRules.antt` and `specs/GlRules.antt` have the standards' tables, a row for each condition and its error.
+#![tactic(auto)]
+
+mod egl_facts;
+mod egl_rules;
+mod gl_facts;
+mod gl_rules;
+pub mod laws;
+
+pub use egl_facts::EglFacts;
+pub use egl_rules::egl_refusal;
+pub use gl_facts::GlFacts;
+pub use gl_rules::gl_refusal;
+
+#[cfg(test)]
+mod tests;
