@@ -6,7 +6,7 @@ pub mod laws;
 mod list;
 
 pub use allowed::{Allowed, is_allowed};
-pub use list::{AttribError, AttribList};
+pub use list::{AttribError, AttribList, bad_place, value_of};
 
 #[cfg(test)]
 mod tests;

@@ -57,9 +57,9 @@ fn lone_place(list: &[i64]) -> Option<usize>
     }
 }
 
-/// The place of the first attribute that is not allowed, has a value outside its range, or has no value.
+/// The place of the first attribute that is not allowed, has a value outside its range, or has no value. It takes no memory.
 #[tactic(auto, unfolding(crate::specs::Lists::bad_place))]
-fn bad_place(list: &[i64], allowed: Allowed) -> Option<usize>
+pub fn bad_place(list: &[i64], allowed: Allowed) -> Option<usize>
     ensures { result ≡ bad_place allowed list.now }
 {
     let bad = bad_pair_place(list, allowed);
@@ -75,8 +75,8 @@ fn capped(place: usize) -> u32
     place.min(4_294_967_295) as u32
 }
 
-/// The value of the last pair with an attribute.
-fn value_of(list: &[i64], attribute: i64) -> Option<i64>
+/// The value of the last pair with an attribute. It takes no memory.
+pub fn value_of(list: &[i64], attribute: i64) -> Option<i64>
     ensures { result ≡ value_of list.now attribute }
 {
     let mut left = list.len() / 2;

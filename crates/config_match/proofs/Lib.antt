@@ -1,3 +1,4 @@
 pub mod MatchLaws
 pub mod SortLaws
 pub mod ChoiceLaws
+pub mod ConfigLaws

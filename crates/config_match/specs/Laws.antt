@@ -1,10 +1,11 @@
 -- What is true of the configs and of every choice.
-use Rattle.std.specs.Prelude.{◌≡◌, ℕ, ℤ, List, Some, map, filter, slice_get, ◌≤◌}
+use Rattle.std.specs.Prelude.{◌≡◌, ℕ, ℤ, pos, ◌&&◌, List, Some, map, filter, slice_get, ◌≤◌, int_le}
 use Rattle.std.specs.List.Sorted.{IsPermutation, IsSorted}
 use Rattle.std.specs.Ordering.{nat_cmp}
 use Rattle.std.specs.Cmp.Lexicographic.{slice_cmp}
 use Rattle.config_match.specs.declared.table.Config.{Config}
-use Rattle.config_match.specs.Table.{configs}
+use Rattle.config_match.specs.Table.{configs, is_config}
+use Rattle.config_match.specs.Compatible.{are_compatible}
 use Rattle.config_match.specs.Configs.{matches, key, id_of_key, requested_bits}
 
 -- no two configs have one key, whatever the list: so there is one rising order
@@ -21,3 +22,12 @@ pub record IsChoice (list ids : List ℤ) : Type 0 where
   pub ids_are : ids ≡ map id_of_key keys
   pub those : IsPermutation (map (key list) (filter (matches list) configs)) keys
   pub rise : IsSorted (slice_cmp nat_cmp) keys
+
+-- the ids are 1 to 8
+abbrev pub IdsAreOneToEight : Type 0
+IdsAreOneToEight = (id : ℤ) → is_config id ≡ (int_le (pos 1) id && int_le id (pos 8))
+
+-- a config is compatible with itself, and with those that are compatible with it
+pub record IsCompatibility : Type 0 where
+  pub itself : (id : ℤ) → are_compatible id id ≡ is_config id
+  pub either_way : (first second : ℤ) → are_compatible first second ≡ are_compatible second first

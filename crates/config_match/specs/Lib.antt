@@ -1,4 +1,5 @@
 pub mod Table
+pub mod Compatible
 pub mod Keys
 pub mod Configs
 pub mod Laws

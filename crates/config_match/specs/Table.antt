@@ -1,5 +1,5 @@
 -- The configs and their attributes.
-use Rattle.std.specs.Prelude.{ℕ, ◌+◌, ℤ, pos, List, [], ◌∷◌, Option, None, Some, ◌==◌, if◌then◌else◌, find}
+use Rattle.std.specs.Prelude.{ℕ, ◌+◌, ℤ, pos, Bool, List, [], ◌∷◌, Option, None, Some, ◌==◌, if◌then◌else◌, find, map, is_some}
 use Rattle.std.specs.Option.{option_map, option_or, option_and_then}
 use Rattle.egl_names.specs.Names.{unsigned}
 use Rattle.egl_names.specs.declared.codes.TheConstants.{EGL_BUFFER_SIZE, EGL_RED_SIZE, EGL_GREEN_SIZE, EGL_BLUE_SIZE, EGL_ALPHA_SIZE, EGL_LUMINANCE_SIZE, EGL_ALPHA_MASK_SIZE, EGL_DEPTH_SIZE, EGL_STENCIL_SIZE, EGL_SAMPLE_BUFFERS, EGL_SAMPLES, EGL_BIND_TO_TEXTURE_RGB, EGL_BIND_TO_TEXTURE_RGBA, EGL_CONFIG_CAVEAT, EGL_CONFIG_ID, EGL_MAX_SWAP_INTERVAL, EGL_MIN_SWAP_INTERVAL, EGL_NATIVE_RENDERABLE, EGL_NATIVE_VISUAL_ID, EGL_NATIVE_VISUAL_TYPE, EGL_TRANSPARENT_TYPE, EGL_TRANSPARENT_RED_VALUE, EGL_TRANSPARENT_GREEN_VALUE, EGL_TRANSPARENT_BLUE_VALUE, EGL_COLOR_BUFFER_TYPE, EGL_LEVEL, EGL_SURFACE_TYPE, EGL_RENDERABLE_TYPE, EGL_CONFORMANT, EGL_MAX_PBUFFER_WIDTH, EGL_MAX_PBUFFER_HEIGHT, EGL_MAX_PBUFFER_PIXELS, EGL_NONE, EGL_SLOW_CONFIG, EGL_NON_CONFORMANT_CONFIG, EGL_RGB_BUFFER}
@@ -106,3 +106,11 @@ attribute_in rows id name = option_and_then (λ c. attribute_of c name) (config_
 -- the same, for the eight configs and a call's numbers (EGL 1.5, section 3.4.3)
 unfoldable pub attribute : ℤ → ℤ → Option ℤ
 attribute id name = option_map pos (attribute_in configs (unsigned id) (unsigned name))
+
+-- whether a number is a config's id
+unfoldable pub is_config : ℤ → Bool
+is_config id = is_some (config_in configs (unsigned id))
+
+-- the ids of the configs, in the table's order (EGL 1.5, section 3.4.1)
+unfoldable pub all_ids : List ℤ
+all_ids = map (λ c. pos c.id) configs

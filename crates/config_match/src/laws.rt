@@ -1,7 +1,7 @@
 //! What is true of the configs and of every choice: the contracts of functions that do nothing.
 ghost use Rattle.std.specs.Prelude.{ℤ, List};
 ghost use Rattle.config_match.specs.Configs.{chosen};
-ghost use Rattle.config_match.specs.Laws.{KeysDiffer, BitsFit, IsChoice};
+ghost use Rattle.config_match.specs.Laws.{KeysDiffer, BitsFit, IsChoice, IdsAreOneToEight, IsCompatibility};
 
 /// No two configs have one key, so that there is one order.
 pub fn keys_differ()
@@ -16,4 +16,14 @@ pub fn requested_bits_fit()
 /// A choice has the id of each config that the list matches, once, and no other, in rising order of their keys.
 pub fn a_choice_has_those_that_match_in_order()
     ensures { (list : List ℤ) → IsChoice list (chosen list) }
+{}
+
+/// The ids of the configs are 1 to 8.
+pub fn ids_are_one_to_eight()
+    ensures { IdsAreOneToEight }
+{}
+
+/// A config is compatible with itself, and what is no config with nothing; compatibility goes either way.
+pub fn compatible_either_way()
+    ensures { IsCompatibility }
 {}

@@ -2,6 +2,7 @@
 #![tactic(auto)]
 
 mod choose;
+mod compatible;
 mod key;
 pub mod laws;
 mod matching;

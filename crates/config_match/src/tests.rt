@@ -248,3 +248,33 @@ fn attributes(rt: HostRuntime) {
         assert_eq!(rt; configs.attribute(5, *name), None);
     }
 }
+
+/// Whether two configs are compatible, by the table of their sizes: 4 and 8 alone differ in no size.
+fn expected(first: i64, second: i64) -> bool {
+    first == second || (first == 4 && second == 8) || (first == 8 && second == 4)
+}
+
+#[test]
+fn compatible_configs(rt: HostRuntime) {
+    let configs = Configs::standard();
+    for first in 1..9i64 {
+        assert!(rt; configs.is_config(first));
+        for second in 1..9i64 {
+            let answer = configs.are_compatible(first, second);
+            assert_eq!(rt; answer, expected(first, second), "{first} and {second}");
+        }
+    }
+    for id in &[0, 9, -1, 4_294_967_297] {
+        assert!(rt; !configs.is_config(*id));
+        assert!(rt; !configs.are_compatible(*id, *id));
+        assert!(rt; !configs.are_compatible(1, *id));
+    }
+}
+
+#[test]
+fn all_ids(rt: HostRuntime) {
+    match Configs::standard().all(rt.alloc()) {
+        Ok(ids) => assert_eq!(rt; ids.as_slice(), [1, 2, 3, 4, 5, 6, 7, 8].as_slice()),
+        Err(_) => assert!(rt; false),
+    }
+}

@@ -111,6 +111,7 @@ impl Image {
         requires { (x < self.old.width) × (y < self.old.height) }
         ensures ok { OnOk result (self.new ≡ painted self.old (is_at x y) (λ _ _. p) mask) }
         ensures shape { IsSameShape self.old self.new }
+        ensures whole { IsImage self.new }
         ensures err { OnErr result (self.new ≡ self.old) }
     {
         let (x, y) = (x as usize, y as usize);
@@ -131,6 +132,7 @@ impl Image {
         requires { IsInside rect self.old.width self.old.height }
         ensures ok { OnOk result (self.new ≡ painted self.old (is_in rect) (λ _ _. p) mask) }
         ensures shape { IsSameShape self.old self.new }
+        ensures whole { IsImage self.new }
         ensures err { OnErr result (self.new ≡ self.old) }
     {
         let block = block_of(rect, self.width, self.height);

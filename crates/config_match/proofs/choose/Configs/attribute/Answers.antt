@@ -6,12 +6,12 @@ use Rattle.config_match.specs.declared.table.Config.{Config}
 use Rattle.config_match.specs.Table.{attribute, attribute_in, configs}
 use Rattle.config_match.proofs.choose.Configs.attribute.Goals as goal
 
-pub returns : goal.returns
+pub returns-clause-value : goal.returns-clause-value
 unfolding attribute
-returns c =
+returns-clause-value c =
     let id : c.unsigned.result ≡ unsigned c.args.id = c.unsigned.ensures ∙ ap unsigned (to_z-of_z w64 c.args.id c.ranges.id) in
     let name : c.unsigned-2.result ≡ unsigned c.args.name = c.unsigned-2.ensures ∙ ap unsigned (to_z-of_z w64 c.args.name c.ranges.name) in
-    c.signed.ensures
+    c.signed.ensures.value
     ∙ ap (option_map pos)
     (c.attribute_in.ensures
     ∙ ap (λ (rows : List Config). attribute_in rows c.unsigned.result c.unsigned-2.result) c.self.invariant

@@ -11,3 +11,6 @@ returns-clause-ok c = rw (← c.self.view_is)
     (block_painted (record { format = c.self.inside.format; width = c.self.inside.width; height = c.self.inside.height; pixels = c.self.inside.pixels.items })
     _ _ _ _ _ _ _ c.fill_block.ensures c.mask_in-mask.ensures c.quantize-p.ensures
     (λ u v. ap (λ b. in_block_at b u v) c.block_of-block.ensures.block ∙ rect_is c.args.rect _ _ u v c.requires))
+
+pub returns-clause-whole : goal.returns-clause-whole
+returns-clause-whole c = whole_after _ _ _ _ _ _ _ c.self.invariant c.fill_block.ensures
