@@ -82,10 +82,6 @@ fn the_first_defect_is_named(rt: HostRuntime) -> Result<(), Fail> {
         ("egl-trace 1 1\n0 eglGetDisplay", "malformed 2 Argument\n"),
         ("egl-trace 1 1\n0 eglGetError 1", "malformed 2 Argument\n"),
         (
-            "egl-trace 1 1\n0 eglGetDisplay 0x1",
-            "malformed 2 Argument\n",
-        ),
-        (
             "egl-trace 1 1\n0 eglGetDisplay [1]",
             "malformed 2 Argument\n",
         ),

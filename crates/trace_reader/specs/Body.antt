@@ -1,8 +1,10 @@
 -- Body lines.
-use Rattle.std.specs.Prelude.{ℕ, ◌+◌, ◌-◌, Bool, true, ◌&&◌, ◌||◌, ◌==◌, nat_lt, List, [], ◌∷◌, ◌++◌, if◌then◌else◌, length, drop, codes, is_none, option_to_list, Option, Result, Ok, Err, None, Some}
+use Rattle.std.specs.Prelude.{ℕ, ◌+◌, ◌-◌, Bool, true, ◌&&◌, ◌||◌, ◌==◌, nat_le, nat_lt, List, [], ◌∷◌, ◌++◌, if◌then◌else◌, length, drop, codes, is_none, option_to_list, Option, Result, Ok, Err, None, Some}
 use Rattle.std.specs.List.{list_any, list_all}
 use Rattle.std.specs.Str.{bytes_eq}
+use Rattle.egl_calls.specs.Calls.{CallValue}
 use Rattle.egl_calls.specs.declared.kinds.Kind.{Kind}
+use Rattle.trace_reader.specs.declared.call_names.Form.{Form}
 use Rattle.trace_reader.specs.declared.traces.Reason.{Reason}
 use Rattle.trace_reader.specs.declared.traces.Reason.TheVariants.{Thread, Name, Argument, Variable, Limit}
 use Rattle.trace_reader.specs.declared.traces.Defect.{Defect}
@@ -11,8 +13,8 @@ use Rattle.trace_reader.specs.Words.{words, word_at, begins_with}
 use Rattle.trace_reader.specs.Numerals.{numeral}
 use Rattle.trace_reader.specs.CallNames.{kind_of, forms_of}
 use Rattle.trace_reader.specs.Variables.{is_variable, variable_in}
-use Rattle.trace_reader.specs.NumberWords.{is_unknown_name}
-use Rattle.trace_reader.specs.Arguments.{are_arguments, is_known, call_of, references}
+use Rattle.trace_reader.specs.Arguments.{has_unknown_name, is_known, call_of, references}
+use Rattle.trace_reader.specs.Pixels.{most_pixel_bytes, pixel_bytes}
 
 infixl 10 ◌>>=◌
 abbrev pub ◌>>=◌ : {A B : Type 0} → Result A Reason → (A → Result B Reason) → Result B Reason
@@ -48,9 +50,9 @@ target_of ws = if is_assignment ws then Some (word_at ws 1) else None
 unfoldable pub thread_of : ℕ → List ℕ → Result ℕ Reason
 thread_of threads w = or_reason (numeral (threads - 1) w) Thread
 
--- the kind of call, where no word among the arguments is an unknown name
+-- the kind of call, where no word among the arguments is or lists an unknown name
 unfoldable pub kind_in : List ℕ → List (List ℕ) → Result Kind Reason
-kind_in call arguments = if list_any is_unknown_name arguments then Err Name else or_reason (kind_of call) Name
+kind_in call arguments = if list_any has_unknown_name arguments then Err Name else or_reason (kind_of call) Name
 
 -- nothing is assigned, or a variable that no line before has assigned
 abbrev pub is_assignable : List (List ℕ) → Option (List ℕ) → Bool
@@ -61,13 +63,18 @@ abbrev pub assigned : List (List ℕ) → Option (List ℕ) → Option ℕ
 assigned variables None = None
 assigned variables (Some w) = Some (length variables)
 
--- the line of a call with these arguments, or its first defect
-unfoldable pub line_in : List (List ℕ) → ℕ → ℕ → Kind → Option (List ℕ) → List (List ℕ) → Result Line Reason
-line_in variables number thread kind target arguments =
-    provided (are_arguments (forms_of kind) arguments) Argument (
+-- the line of a call whose arguments have its forms, or its first defect
+abbrev pub line_with : List (List ℕ) → ℕ → ℕ → Option (List ℕ) → List Form → List (List ℕ) → CallValue → Result Line Reason
+line_with variables number thread target forms arguments call =
     provided (is_assignable variables target) Variable (
     provided (list_all (is_known variables) arguments) Variable (
-    Ok (record { number = number; thread = thread; assigns = assigned variables target; call = call_of kind arguments; uses = references variables 0 arguments }))))
+    Ok (record { number = number; thread = thread; assigns = assigned variables target; call = call; uses = references variables 0 forms arguments })))
+
+-- the line of a call with these arguments, or its first defect
+unfoldable pub line_in : List (List ℕ) → ℕ → ℕ → Kind → Option (List ℕ) → List (List ℕ) → Result Line Reason
+line_in variables number thread kind target arguments = do
+  call ← or_reason (call_of kind (forms_of kind) arguments) Argument
+  line_with variables number thread target (forms_of kind) arguments call
 
 -- the body line of these words with this number, after lines that assigned these variables; or its first defect
 unfoldable pub body_of : ℕ → List (List ℕ) → ℕ → List (List ℕ) → Result Line Reason
@@ -76,10 +83,14 @@ body_of threads variables number ws = do
   kind ← kind_in (call_word ws) (argument_words ws)
   line_in variables number thread kind (target_of ws) (argument_words ws)
 
--- a trace has at most 100,000 body lines; count stand before this one
-abbrev pub within_limit : ℕ → Result Line Reason → Result Line Reason
-within_limit count (Ok l) = if nat_lt count 100000 then Ok l else Err Limit
-within_limit count (Err r) = Err r
+-- a trace has at most 100,000 body lines, which ask for at most 134,217,728 bytes of pixels; count lines that ask for so many bytes stand before this one
+abbrev pub is_within : ℕ → ℕ → Line → Bool
+is_within count pixels l = nat_lt count 100000 && nat_le (pixels + pixel_bytes l.call) most_pixel_bytes
+
+-- a line without a defect that passes a limit has this one
+abbrev pub within_limits : ℕ → ℕ → Result Line Reason → Result Line Reason
+within_limits count pixels (Ok l) = if is_within count pixels l then Ok l else Err Limit
+within_limits count pixels (Err r) = Err r
 
 -- a line that says nothing: no words, or a comment
 abbrev pub is_skipped : List ℕ → Bool
@@ -90,10 +101,10 @@ abbrev pub body_then : ℕ → Result Line Reason → (Line → Result (List Lin
 body_then n (Ok l) more = more l
 body_then n (Err r) more = Err (record { line = n; reason = r })
 
--- the body lines of the lines from this number on, behind those that were read and the variables that those assigned; or the first defect
-abbrev pub read_body : ℕ → ℕ → List (List ℕ) → List Line → List (List ℕ) → Result (List Line) Defect
-read_body threads n variables read [] = Ok read
-read_body threads n variables read (line ∷ rest) =
-    if is_skipped line then read_body threads (n + 1) variables read rest
-    else body_then n (within_limit (length read) (body_of threads variables n (words line)))
-    (λ l. read_body threads (n + 1) (variables ++ option_to_list (target_of (words line))) (read ++ l ∷ []) rest)
+-- the body lines of the lines from this number on, behind those that were read, the variables that those assigned and the bytes of pixels that those ask for; or the first defect
+abbrev pub read_body : ℕ → ℕ → List (List ℕ) → ℕ → List Line → List (List ℕ) → Result (List Line) Defect
+read_body threads n variables pixels read [] = Ok read
+read_body threads n variables pixels read (line ∷ rest) =
+    if is_skipped line then read_body threads (n + 1) variables pixels read rest
+    else body_then n (within_limits (length read) pixels (body_of threads variables n (words line)))
+    (λ l. read_body threads (n + 1) (variables ++ option_to_list (target_of (words line))) (pixels + pixel_bytes l.call) (read ++ l ∷ []) rest)

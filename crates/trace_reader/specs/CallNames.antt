@@ -2,20 +2,42 @@
 use Rattle.std.specs.Prelude.{ℕ, List, [], ◌∷◌, if◌then◌else◌, codes, Option, None, Some}
 use Rattle.std.specs.Str.{bytes_eq}
 use Rattle.egl_calls.specs.declared.kinds.Kind.{Kind}
-use Rattle.egl_calls.specs.declared.kinds.Kind.TheVariants.{Egl}
-use Rattle.egl_calls.specs.declared.kinds.EglKind.TheVariants.{GetError, GetDisplay, Initialize, Terminate}
+use Rattle.egl_calls.specs.declared.kinds.Kind.TheVariants.{Egl, Gl}
+use Rattle.egl_calls.specs.declared.kinds.EglKind.TheVariants.{GetError, GetDisplay, Initialize, Terminate, GetConfigs, ChooseConfig, GetConfigAttrib, CreatePbufferSurface, CreateContext, MakeCurrent, GetCurrentContext}
+use Rattle.egl_calls.specs.declared.kinds.GlKind.TheVariants.{GetError as GlGetError, ClearColorx, Clear, ReadPixels}
 use Rattle.trace_reader.specs.declared.call_names.Form.{Form}
-use Rattle.trace_reader.specs.declared.call_names.Form.TheVariants.{Number, NumberOrVariable}
+use Rattle.trace_reader.specs.declared.call_names.Form.TheVariants.{Number, NumberOrVariable, NoShare, AttributeList}
 
 unfoldable pub kind_of : List ℕ → Option Kind
 kind_of w =
     if bytes_eq w (codes "eglGetError") then Some (Egl GetError) else (
     if bytes_eq w (codes "eglGetDisplay") then Some (Egl GetDisplay) else (
     if bytes_eq w (codes "eglInitialize") then Some (Egl Initialize) else (
-    if bytes_eq w (codes "eglTerminate") then Some (Egl Terminate) else None)))
+    if bytes_eq w (codes "eglTerminate") then Some (Egl Terminate) else (
+    if bytes_eq w (codes "eglGetConfigs") then Some (Egl GetConfigs) else (
+    if bytes_eq w (codes "eglChooseConfig") then Some (Egl ChooseConfig) else (
+    if bytes_eq w (codes "eglGetConfigAttrib") then Some (Egl GetConfigAttrib) else (
+    if bytes_eq w (codes "eglCreatePbufferSurface") then Some (Egl CreatePbufferSurface) else (
+    if bytes_eq w (codes "eglCreateContext") then Some (Egl CreateContext) else (
+    if bytes_eq w (codes "eglMakeCurrent") then Some (Egl MakeCurrent) else (
+    if bytes_eq w (codes "eglGetCurrentContext") then Some (Egl GetCurrentContext) else (
+    if bytes_eq w (codes "glGetError") then Some (Gl GlGetError) else (
+    if bytes_eq w (codes "glClearColorx") then Some (Gl ClearColorx) else (
+    if bytes_eq w (codes "glClear") then Some (Gl Clear) else (
+    if bytes_eq w (codes "glReadPixels") then Some (Gl ReadPixels) else None))))))))))))))
 
+-- in the order of the standards' parameters (EGL 1.5, chapter 3; OpenGL ES 1.1, chapters 2 and 4), without those that are answered
 abbrev pub forms_of : Kind → List Form
 forms_of (Egl GetDisplay) = Number ∷ []
 forms_of (Egl Initialize) = NumberOrVariable ∷ []
 forms_of (Egl Terminate) = NumberOrVariable ∷ []
+forms_of (Egl GetConfigs) = NumberOrVariable ∷ []
+forms_of (Egl ChooseConfig) = NumberOrVariable ∷ AttributeList ∷ []
+forms_of (Egl GetConfigAttrib) = NumberOrVariable ∷ Number ∷ Number ∷ []
+forms_of (Egl CreatePbufferSurface) = NumberOrVariable ∷ Number ∷ AttributeList ∷ []
+forms_of (Egl CreateContext) = NumberOrVariable ∷ Number ∷ NoShare ∷ AttributeList ∷ []
+forms_of (Egl MakeCurrent) = NumberOrVariable ∷ NumberOrVariable ∷ NumberOrVariable ∷ NumberOrVariable ∷ []
+forms_of (Gl ClearColorx) = Number ∷ Number ∷ Number ∷ Number ∷ []
+forms_of (Gl Clear) = Number ∷ []
+forms_of (Gl ReadPixels) = Number ∷ Number ∷ Number ∷ Number ∷ Number ∷ Number ∷ []
 forms_of k = []

@@ -19,7 +19,7 @@ with_threads threads (Ok ls) = Ok (record { threads = threads; video = default_v
 with_threads threads (Err d) = Err d
 
 abbrev pub behind_header : Result ℕ Reason → List (List ℕ) → Result TraceValue Defect
-behind_header (Ok threads) rest = with_threads threads (read_body threads 2 [] [] rest)
+behind_header (Ok threads) rest = with_threads threads (read_body threads 2 [] 0 [] rest)
 behind_header (Err r) rest = Err (record { line = 1; reason = r })
 
 abbrev pub trace_of_lines : List (List ℕ) → Result TraceValue Defect

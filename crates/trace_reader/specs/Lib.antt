@@ -1,10 +1,13 @@
 pub mod Traces
 pub mod Words
 pub mod Numerals
+pub mod Hexadecimals
 pub mod NumberWords
+pub mod Lists
 pub mod CallNames
 pub mod Variables
 pub mod Arguments
+pub mod Pixels
 pub mod Header
 pub mod Body
 pub mod Reading

@@ -1,19 +1,15 @@
 -- The words that may stand for a number.
-use Rattle.std.specs.Prelude.{ℕ, Bool, true, false, ◌&&◌, ◌||◌, ◌==◌, nat_le, ℤ, pos, negsuc, int_lt, List, [], ◌∷◌, if◌then◌else◌, Option, None, Some}
-use Rattle.std.specs.Option.{option_or}
-use Rattle.egl_names.specs.Joined.{joined_word}
+use Rattle.std.specs.Prelude.{ℕ, Bool, true, false, ◌&&◌, ◌||◌, ℤ, pos, negsuc, int_lt, List, if◌then◌else◌, Option, None, Some}
+use Rattle.std.specs.Option.{option_map, option_or}
+use Rattle.egl_names.specs.Joined.{is_name_start, begins_with, joined_word}
 use Rattle.egl_names.specs.declared.joined.Word.{Word}
 use Rattle.egl_names.specs.declared.joined.Word.TheVariants.{Number, UnknownName, BadForm}
 use Rattle.trace_reader.specs.Numerals.{signed_number}
-
--- a letter or an underscore
-abbrev pub begins_name : ℕ → Bool
-begins_name b = (nat_le 65 b && nat_le b 90) || (nat_le 97 b && nat_le b 122) || (b == 95)
+use Rattle.trace_reader.specs.Hexadecimals.{hexadecimal}
 
 -- a word that stands where a name may stand
 abbrev pub is_name_word : List ℕ → Bool
-is_name_word [] = false
-is_name_word (b ∷ bs) = begins_name b
+is_name_word w = begins_with is_name_start w
 
 abbrev pub is_unknown : Word → Bool
 is_unknown (Number z) = false
@@ -37,13 +33,6 @@ number_in BadForm = None
 abbrev pub named_number : List ℕ → Option ℤ
 named_number w = if is_name_word w then number_in (joined_word w) else None
 
--- a decimal number, or such a word
+-- a decimal number, a hexadecimal number, or such a word
 unfoldable pub argument_number : List ℕ → Option ℤ
-argument_number w = option_or (signed_number w) (named_number w)
-
-abbrev pub or_zero : Option ℤ → ℤ
-or_zero None = pos 0
-or_zero (Some z) = z
-
-abbrev pub number_or_zero : List ℕ → ℤ
-number_or_zero w = or_zero (argument_number w)
+argument_number w = option_or (signed_number w) (option_or (option_map pos (hexadecimal w)) (named_number w))

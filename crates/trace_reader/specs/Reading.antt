@@ -18,10 +18,10 @@ abbrev pub FailsWith : {A : Type 0} → TraceError → Result A Defect → Type 
 FailsWith (Malformed n r) read = read ≡ Err (record { line = n; reason = r })
 FailsWith NoMemory read = Unit {0}
 
--- what the line with this number gives behind those that were read and the variables that they assigned
-abbrev pub GivesNext : ℕ → ℕ → List ℕ → List (List ℕ) → List Line → List (List ℕ) → List Line → Result (Unit {0}) TraceError → Type 0
-GivesNext threads number line variables read variables' read' (Ok x) = (rest : List (List ℕ)) → read_body threads number variables read (line ∷ rest) ≡ read_body threads (number + 1) variables' read' rest
-GivesNext threads number line variables read variables' read' (Err e) = (rest : List (List ℕ)) → FailsWith e (read_body threads number variables read (line ∷ rest))
+-- what the line with this number gives behind those that were read, the variables that they assigned and the bytes of pixels that they ask for
+abbrev pub GivesNext : ℕ → ℕ → List ℕ → List (List ℕ) → ℕ → List Line → List (List ℕ) → ℕ → List Line → Result (Unit {0}) TraceError → Type 0
+GivesNext threads number line variables pixels read variables' pixels' read' (Ok x) = (rest : List (List ℕ)) → read_body threads number variables pixels read (line ∷ rest) ≡ read_body threads (number + 1) variables' pixels' read' rest
+GivesNext threads number line variables pixels read variables' pixels' read' (Err e) = (rest : List (List ℕ)) → FailsWith e (read_body threads number variables pixels read (line ∷ rest))
 
 -- what was read is what these bytes or lines spell, by a view of the value
 abbrev pub Gives : {X A : Type 0} → (X → A) → Result X TraceError → Result A Defect → Type 0

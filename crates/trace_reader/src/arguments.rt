@@ -1,69 +1,142 @@
 //! The arguments of a line.
-ghost use Rattle.std.specs.Prelude.{◌≡◌, ℕ, ◌+◌, ◌<◌, ◌≤◌, [], ◌++◌, length, map, true, All, IfOk, OnOk};
+ghost use Rattle.std.specs.Prelude.{◌≡◌, ℕ, ◌+◌, ◌<◌, ◌≤◌, [], ◌∷◌, ◌++◌, length, take, map, All, IfOk, OnOk, IfSome};
 ghost use Rattle.std.specs.List.{list_any, list_all};
-ghost use Rattle.trace_reader.specs.NumberWords.{is_unknown_name};
-ghost use Rattle.trace_reader.specs.Arguments.{is_argument, are_arguments, is_reference, call_of, reference_at, references, is_known};
+ghost use Rattle.egl_calls.specs.declared.kinds.Kind.{Kind as CallKind};
+ghost use Rattle.egl_calls.specs.Ranges.{AreArguments, IsNumber};
+ghost use Rattle.trace_reader.specs.declared.call_names.Form.TheVariants.{Number};
+ghost use Rattle.trace_reader.specs.Arguments.{has_unknown_name, argument_of, HasNumbers, values_in, list_behind, padded, call_of, reference_at, references, place_behind, is_known};
 ghost use Rattle.trace_reader.specs.Order.{IsReferenceTo};
 
 use crate::call_names::Form;
-use crate::number_words::{argument_number, is_unknown_name, number_or_zero};
+use crate::lists::{attribute_list, inside, is_bracketed, lists_unknown_name};
+use crate::number_words::{argument_number, is_unknown_name};
 use crate::traces::{Reference, Uses};
 use crate::variables::Variables;
 use crate::word_cuts::begins_with;
 use egl_calls::{Call, Kind, NoMemory, Numbers, set_argument};
 use std::alloc::Global;
 
-pub fn has_unknown_name(words: &[&[u8]]) -> bool
-    ensures { result ≡ list_any is_unknown_name (map (λ w. w.now) words.now) }
+fn has_unknown_name(word: &[u8]) -> bool
+    ensures { result ≡ has_unknown_name word.now }
+{
+    is_unknown_name(word) || (is_bracketed(word) && lists_unknown_name(inside(word)))
+}
+
+/// Whether one of the words is an unknown name, or a list with one among its items.
+pub fn have_unknown_name(words: &[&[u8]]) -> bool
+    ensures { result ≡ list_any has_unknown_name (map (λ w. w.now) words.now) }
 {
     for word in words {
-        if is_unknown_name(word) {
+        if has_unknown_name(word) {
             return true;
         }
     }
     false
 }
 
-fn is_argument(form: Form, word: &[u8]) -> bool
-    ensures { result ≡ is_argument form word.now }
+/// What an argument says.
+#[derive(Drop)]
+enum Argument {
+    /// A number, and 0 for a variable.
+    Value(i64),
+    /// Names of attributes and their values.
+    Attributes(Numbers),
+}
+
+fn number_argument(word: &[u8]) -> Option<Argument>
+    ensures value { result ≡ argument_of Number word.now }
+    ensures numbers { IfSome result HasNumbers }
+{
+    match argument_number(word) {
+        Some(number) => Some(Argument::Value(number)),
+        None => None,
+    }
+}
+
+/// What a word says as an argument of a form, where it has that form.
+fn argument_of(alloc: Global, form: Form, word: &[u8]) -> Result<Option<Argument>, NoMemory>
+    ensures value { IfOk result (λ a. a ≡ argument_of form word.now) }
+    ensures numbers { IfOk result (λ a. IfSome a HasNumbers) }
 {
     match form {
-        Form::Number => argument_number(word).is_some(),
-        Form::NumberOrVariable => begins_with(word, b'$') || argument_number(word).is_some(),
+        Form::Number => Ok(number_argument(word)),
+        Form::NumberOrVariable => {
+            if begins_with(word, b'$') {
+                Ok(Some(Argument::Value(0)))
+            } else {
+                Ok(number_argument(word))
+            }
+        }
+        Form::NoShare => {
+            if word == b"0".as_slice() {
+                Ok(Some(Argument::Value(0)))
+            } else {
+                Ok(None)
+            }
+        }
+        Form::AttributeList => match attribute_list(alloc, word)? {
+            Some(numbers) => Ok(Some(Argument::Attributes(numbers))),
+            None => Ok(None),
+        },
     }
 }
 
-/// Whether there is an argument for each form, of that form, and no further one.
-pub fn are_arguments(forms: &[Form], words: &[&[u8]]) -> bool
-    ensures value { result ≡ are_arguments forms.now (map (λ w. w.now) words.now) }
-    ensures count { result ≡ true → length words.now ≡ length forms.now }
+/// Adds an argument: a number at the next place, or a list in place of the one so far. Answers the place behind.
+fn add_argument(args: &mut [i64], place: usize, list: &mut Numbers, argument: Argument) -> usize
+    requires eight { length args.old ≡ 8 }
+    requires room { place < 8 }
+    requires numbers { HasNumbers argument }
+    ensures eight { length args.new ≡ 8 }
+    ensures values { take result args.new ≡ take place args.old ++ values_in (argument ∷ []) }
+    ensures zeros { args.old ≡ padded (take place args.old) → args.new ≡ padded (take result args.new) }
+    ensures fit { (kind : CallKind) → AreArguments kind 0 args.old → AreArguments kind 0 args.new }
+    ensures list { list.new ≡ list_behind list.old (argument ∷ []) }
+    ensures all { All IsNumber list.old → All IsNumber list.new }
+    ensures next { result ≤ place + 1 }
 {
-    if forms.len() != words.len() {
-        return false;
-    }
-    for k in 0..forms.len() {
-        if !is_argument(forms[k], words[k]) {
-            return false;
+    match argument {
+        Argument::Value(number) => {
+            set_argument(args, place, number);
+            place + 1
+        }
+        Argument::Attributes(numbers) => {
+            *list = numbers;
+            place
         }
     }
-    true
 }
 
-/// The call of these arguments, with 0 for each variable.
-pub fn call_of(alloc: Global, kind: Kind, words: &[&[u8]]) -> Call
-    requires { length words.now ≤ 8 }
-    ensures { result ≡ call_of kind (map (λ w. w.now) words.now) }
+/// The call of arguments of these forms, with 0 for each variable; nothing where one has another form, or there are too few or too many.
+#[tactic(auto, unfolding(crate::specs::Arguments::call_of))]
+pub fn call_of(
+    alloc: Global,
+    kind: Kind,
+    forms: &[Form],
+    words: &[&[u8]],
+) -> Result<Option<Call>, NoMemory>
+    requires { length forms.now ≤ 8 }
+    ensures value { IfOk result (λ c. c ≡ call_of kind forms.now (map (λ w. w.now) words.now)) }
+    ensures kind { IfOk result (λ c. IfSome c (λ d. d.kind ≡ kind)) }
+    ensures count { IfOk result (λ c. IfSome c (λ d. length words.now ≡ length forms.now)) }
 {
-    let mut args = [0i64; 8];
-    for k in 0..words.len() {
-        set_argument(&mut args, k, number_or_zero(words[k]));
+    if forms.len() != words.len() {
+        return Ok(None);
     }
-    Call {
+    let mut args = [0i64; 8];
+    let mut list = Numbers::new(alloc);
+    let mut place = 0usize;
+    for k in 0..forms.len() {
+        let Some(argument) = argument_of(alloc, forms[k], words[k])? else {
+            return Ok(None);
+        };
+        place = add_argument(&mut args, place, &mut list, argument);
+    }
+    Ok(Some(Call {
         kind,
         args,
-        list: Numbers::new(alloc),
+        list,
         bytes: None,
-    }
+    }))
 }
 
 /// Whether each variable among the arguments is one that a line has assigned.
@@ -102,19 +175,35 @@ fn push_reference(
     }
 }
 
-/// The references of the arguments.
+/// The place of the number behind an argument of a form.
+fn place_behind(place: u32, form: Form) -> u32
+    requires { place < 8 }
+    ensures value { result ≡ place_behind place form }
+    ensures near { result ≤ place + 1 }
+{
+    match form {
+        Form::Number | Form::NumberOrVariable | Form::NoShare => place + 1,
+        Form::AttributeList => place,
+    }
+}
+
+/// The references of arguments of these forms.
 pub fn references(
     alloc: Global,
     variables: &Variables<'_>,
+    forms: &[Form],
     words: &[&[u8]],
 ) -> Result<Uses, NoMemory>
-    requires { length words.now ≤ 8 }
-    ensures value { IfOk result (λ u. u ≡ references variables.now 0 (map (λ w. w.now) words.now)) }
+    requires few { length forms.now ≤ 8 }
+    requires count { length words.now ≡ length forms.now }
+    ensures value { IfOk result (λ u. u ≡ references variables.now 0 forms.now (map (λ w. w.now) words.now)) }
     ensures all { IfOk result (All (IsReferenceTo (length variables.now))) }
 {
     let mut uses = Uses::new(alloc);
-    for k in 0..words.len() {
-        push_reference(variables, k as u32, words[k], &mut uses)?;
+    let mut place = 0u32;
+    for k in 0..forms.len() {
+        push_reference(variables, place, words[k], &mut uses)?;
+        place = place_behind(place, forms[k]);
     }
     Ok(uses)
 }

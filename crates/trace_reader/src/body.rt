@@ -7,7 +7,7 @@ ghost use Rattle.trace_reader.specs.Reading.{GivesLine};
 ghost use Rattle.trace_reader.specs.Order.{IsNext, IsLineAt, more_variables};
 ghost use Rattle.egl_calls.specs.Kinds.{is_built};
 
-use crate::arguments::{are_arguments, are_known, call_of, has_unknown_name, references};
+use crate::arguments::{are_known, call_of, have_unknown_name, references};
 use crate::call_names::{forms_of, kind_of};
 use crate::numerals::numeral;
 use crate::traces::{Line, Reason};
@@ -78,7 +78,7 @@ fn kind_in(call: &[u8], arguments: &[&[u8]]) -> Result<Kind, Reason>
     ensures value { result ≡ kind_in call.now (map (λ w. w.now) arguments.now) }
     ensures built { IfOk result (λ k. is_built k ≡ true) }
 {
-    if has_unknown_name(arguments) {
+    if have_unknown_name(arguments) {
         return Err(Reason::Name);
     }
     match kind_of(call) {
@@ -125,23 +125,27 @@ fn line_in(
     ensures order { IfOk result (IsLineAt number (length variables.now)) }
     ensures count { IfOk result (λ l. more_variables (length variables.now) l.assigns ≡ length (variables.now ++ option_to_list (option_map (λ w. w.now) target.entry))) }
 {
-    if !are_arguments(forms_of(kind), arguments) {
+    let forms = forms_of(kind);
+    let Ok(found) = call_of(alloc, kind, forms, arguments) else {
+        return Err(LineError::NoMemory);
+    };
+    let Some(call) = found else {
         return Err(LineError::Defective(Reason::Argument));
-    }
+    };
     if !is_assignable(variables, target) {
         return Err(LineError::Defective(Reason::Variable));
     }
     if !are_known(variables, arguments) {
         return Err(LineError::Defective(Reason::Variable));
     }
-    let Ok(uses) = references(alloc, variables, arguments) else {
+    let Ok(uses) = references(alloc, variables, forms, arguments) else {
         return Err(LineError::NoMemory);
     };
     Ok(Line {
         number,
         thread,
         assigns: assigned(variables, target),
-        call: call_of(alloc, kind, arguments),
+        call,
         uses,
     })
 }

@@ -3,7 +3,7 @@ ghost use Rattle.std.specs.Prelude.{◌≡◌, ℕ, length, ◌≤◌, true, IfS
 ghost use Rattle.egl_calls.specs.Kinds.{is_built};
 ghost use Rattle.trace_reader.specs.CallNames.{kind_of, forms_of};
 
-use egl_calls::{EglKind, Kind};
+use egl_calls::{EglKind, GlKind, Kind};
 
 /// What an argument of a call may be.
 #[derive(Clone, Copy, Debug, PartialEq, Eq, Drop)]
@@ -12,6 +12,10 @@ pub enum Form {
     Number,
     /// A number or a variable.
     NumberOrVariable,
+    /// The context to share with: `0` alone, since share contexts aren't built.
+    NoShare,
+    /// Names of attributes and their values in brackets.
+    AttributeList,
 }
 
 /// The kind of the call that a word names.
@@ -28,6 +32,28 @@ pub fn kind_of(word: &[u8]) -> Option<Kind>
         Some(Kind::Egl(EglKind::Initialize))
     } else if word == b"eglTerminate".as_slice() {
         Some(Kind::Egl(EglKind::Terminate))
+    } else if word == b"eglGetConfigs".as_slice() {
+        Some(Kind::Egl(EglKind::GetConfigs))
+    } else if word == b"eglChooseConfig".as_slice() {
+        Some(Kind::Egl(EglKind::ChooseConfig))
+    } else if word == b"eglGetConfigAttrib".as_slice() {
+        Some(Kind::Egl(EglKind::GetConfigAttrib))
+    } else if word == b"eglCreatePbufferSurface".as_slice() {
+        Some(Kind::Egl(EglKind::CreatePbufferSurface))
+    } else if word == b"eglCreateContext".as_slice() {
+        Some(Kind::Egl(EglKind::CreateContext))
+    } else if word == b"eglMakeCurrent".as_slice() {
+        Some(Kind::Egl(EglKind::MakeCurrent))
+    } else if word == b"eglGetCurrentContext".as_slice() {
+        Some(Kind::Egl(EglKind::GetCurrentContext))
+    } else if word == b"glGetError".as_slice() {
+        Some(Kind::Gl(GlKind::GetError))
+    } else if word == b"glClearColorx".as_slice() {
+        Some(Kind::Gl(GlKind::ClearColorx))
+    } else if word == b"glClear".as_slice() {
+        Some(Kind::Gl(GlKind::Clear))
+    } else if word == b"glReadPixels".as_slice() {
+        Some(Kind::Gl(GlKind::ReadPixels))
     } else {
         None
     }
@@ -42,6 +68,24 @@ pub fn forms_of(kind: Kind) -> &'static [Form]
         Kind::Egl(EglKind::GetDisplay) => &[Form::Number],
         Kind::Egl(EglKind::Initialize) => &[Form::NumberOrVariable],
         Kind::Egl(EglKind::Terminate) => &[Form::NumberOrVariable],
+        Kind::Egl(EglKind::GetConfigs) => &[Form::NumberOrVariable],
+        Kind::Egl(EglKind::ChooseConfig) => &[Form::NumberOrVariable, Form::AttributeList],
+        Kind::Egl(EglKind::GetConfigAttrib) => {
+            &[Form::NumberOrVariable, Form::Number, Form::Number]
+        }
+        Kind::Egl(EglKind::CreatePbufferSurface) => {
+            &[Form::NumberOrVariable, Form::Number, Form::AttributeList]
+        }
+        Kind::Egl(EglKind::CreateContext) => &[
+            Form::NumberOrVariable,
+            Form::Number,
+            Form::NoShare,
+            Form::AttributeList,
+        ],
+        Kind::Egl(EglKind::MakeCurrent) => &[Form::NumberOrVariable; 4],
+        Kind::Gl(GlKind::ClearColorx) => &[Form::Number; 4],
+        Kind::Gl(GlKind::Clear) => &[Form::Number],
+        Kind::Gl(GlKind::ReadPixels) => &[Form::Number; 6],
         _ => &[],
     }
 }

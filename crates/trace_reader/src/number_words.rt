@@ -1,9 +1,10 @@
 //! The words that may stand for a number.
 ghost use Rattle.std.specs.Prelude.{◌≡◌, IfSome};
 ghost use Rattle.egl_calls.specs.Ranges.{IsNumber};
-ghost use Rattle.trace_reader.specs.NumberWords.{is_name_word, is_unknown_name, ranged, named_number, argument_number, number_or_zero};
+ghost use Rattle.trace_reader.specs.NumberWords.{is_name_word, is_unknown_name, ranged, named_number, argument_number};
 
-use crate::numerals::signed_number;
+use crate::hexadecimals::hexadecimal;
+use crate::numerals::{positive, signed_number};
 use egl_names::{Word, joined_word};
 
 /// Whether a word stands where a name may stand: it begins with a letter or an underscore.
@@ -54,7 +55,7 @@ fn named_number(word: &[u8]) -> Option<i64>
     }
 }
 
-/// The number that an argument spells: in decimal, by a name's code, by a word that stands for a number, or by joined bits.
+/// The number that an argument spells: in decimal or hexadecimal, by a name's code, by a word that stands for a number, or by joined bits.
 #[tactic(auto, unfolding(crate::specs::NumberWords::argument_number))]
 pub fn argument_number(word: &[u8]) -> Option<i64>
     ensures value { result ≡ argument_number word.now }
@@ -62,17 +63,9 @@ pub fn argument_number(word: &[u8]) -> Option<i64>
 {
     match signed_number(word) {
         Some(z) => Some(z),
-        None => named_number(word),
-    }
-}
-
-/// That number, and 0 for every other word.
-pub fn number_or_zero(word: &[u8]) -> i64
-    ensures value { result ≡ number_or_zero word.now }
-    ensures number { IsNumber result }
-{
-    match argument_number(word) {
-        Some(z) => z,
-        None => 0,
+        None => match hexadecimal(word) {
+            Some(n) => Some(positive(n)),
+            None => named_number(word),
+        },
     }
 }

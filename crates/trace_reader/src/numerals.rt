@@ -67,7 +67,8 @@ fn negative(n: u64) -> i64
     -(n as i64)
 }
 
-fn positive(n: u64) -> i64
+/// The same number as a signed one.
+pub fn positive(n: u64) -> i64
     requires { n < 2 ^ 32 }
     ensures value { result ≡ pos n }
     ensures number { IsNumber result }

@@ -4,12 +4,14 @@ ghost use Rattle.std.specs.Option.{option_map};
 ghost use Rattle.trace_reader.specs.Words.{words as words_in};
 ghost use Rattle.trace_reader.specs.Body.{is_assignable, is_skipped, read_body};
 ghost use Rattle.trace_reader.specs.Grammar.{trace};
+ghost use Rattle.trace_reader.specs.Pixels.{most_pixel_bytes};
 ghost use Rattle.trace_reader.specs.Reading.{Gives, GivesNext};
 ghost use Rattle.trace_reader.specs.Order.{AreInOrder, AreBefore};
 
 use crate::body::{LineError, body_of, target_of};
 use crate::header::header_of;
 use crate::line_cuts::lines;
+use crate::pixels::pixel_bytes;
 use crate::traces::{Line, Reason, Trace, TraceError};
 use crate::variables::Variables;
 use crate::word_cuts::words;
@@ -18,6 +20,9 @@ use std::alloc::Global;
 
 /// How many bytes of pixels and buffers there may be where the trace doesn't say.
 const VIDEO: u64 = 67_108_864;
+
+/// How many bytes of pixels all lines may ask for.
+const MOST_PIXEL_BYTES: u64 = 134_217_728;
 
 fn is_skipped(line: &[u8], words: &[&[u8]]) -> bool
     requires { map (λ w. w.now) words.now ≡ words_in line.now }
@@ -39,19 +44,22 @@ fn add_target<'a>(variables: &mut Variables<'a>, target: Option<&'a [u8]>) -> Re
 }
 
 /// Reads a line behind the header.
-#[tactic(auto, using(crate::proofs::BodyLaws::next_skipped, crate::proofs::BodyLaws::next_taken, crate::proofs::BodyLaws::next_defective, crate::proofs::BodyLaws::next_past_limit, crate::proofs::OrderLaws::before_more, crate::proofs::OrderLaws::before_skipped))]
+#[tactic(auto, using(crate::proofs::BodyLaws::next_skipped, crate::proofs::BodyLaws::next_taken, crate::proofs::BodyLaws::next_defective, crate::proofs::BodyLaws::next_past_lines, crate::proofs::BodyLaws::next_past_pixels, crate::proofs::OrderLaws::before_more, crate::proofs::OrderLaws::before_skipped))]
 fn next_line<'a>(
     alloc: Global,
     threads: u32,
     number: u64,
     line: &'a [u8],
     variables: &mut Variables<'a>,
+    pixels: &mut u64,
     read: &mut Vec<Line>,
 ) -> Result<(), TraceError>
     requires some { 0 < threads }
+    requires pixels { pixels.old ≤ most_pixel_bytes }
     requires few { length variables.old ≤ length read.old.items }
     requires order { AreBefore threads number (length variables.old) read.old.items }
-    ensures next { GivesNext threads number line.now variables.old read.old.items variables.new read.new.items result }
+    ensures next { GivesNext threads number line.now variables.old pixels.old read.old.items variables.new pixels.new read.new.items result }
+    ensures pixels { OnOk result (pixels.new ≤ most_pixel_bytes) }
     ensures few { OnOk result (length variables.new ≤ length read.new.items) }
     ensures order { OnOk result (AreBefore threads (number + 1) (length variables.new) read.new.items) }
 {
@@ -63,7 +71,8 @@ fn next_line<'a>(
     }
     match body_of(alloc, threads, variables, number, &parts) {
         Ok(body) => {
-            if read.len() >= 100_000 {
+            let asked = pixel_bytes(&body.call);
+            if read.len() >= 100_000 || asked > (MOST_PIXEL_BYTES - *pixels) as u128 {
                 return Err(TraceError::Malformed {
                     line: number,
                     reason: Reason::Limit,
@@ -75,6 +84,7 @@ fn next_line<'a>(
             let Ok(()) = read.push(body) else {
                 return Err(TraceError::NoMemory);
             };
+            *pixels += asked as u64;
             Ok(())
         }
         Err(LineError::Defective(reason)) => Err(TraceError::Malformed {
@@ -88,14 +98,23 @@ fn next_line<'a>(
 fn read_lines(alloc: Global, threads: u32, lines: &[&[u8]]) -> Result<Vec<Line>, TraceError>
     requires some { 0 < threads }
     requires long { length lines.now < 2 ^ 62 }
-    ensures value { Gives (λ v. v.items) result (read_body threads 2 [] [] (map (λ w. w.now) lines.now)) }
+    ensures value { Gives (λ v. v.items) result (read_body threads 2 [] 0 [] (map (λ w. w.now) lines.now)) }
     ensures order { IfOk result (λ v. AreInOrder threads 2 0 v.items) }
 {
     let mut variables = Variables::new(alloc);
     let mut read = Vec::new(alloc);
+    let mut pixels = 0u64;
     let mut number = 2u64;
     'each: for line in lines {
-        next_line(alloc, threads, number, *line, &mut variables, &mut read)?;
+        next_line(
+            alloc,
+            threads,
+            number,
+            *line,
+            &mut variables,
+            &mut pixels,
+            &mut read,
+        )?;
         number += 1;
     }
     Ok(read)
