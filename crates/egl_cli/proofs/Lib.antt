@@ -1,4 +1,5 @@
 pub mod TextLaws
+pub mod ConfigLaws
 pub mod SessionLaws
 pub mod AnswerLaws
 pub mod SaysLaws

@@ -1,6 +1,5 @@
--- What the program says: a status and a text, by its words and the bytes of its input.
-use Rattle.std.specs.Prelude.{ℕ, Bool, ◌&&◌, ◌==◌, nat_lt, List, [], ◌++◌, if◌then◌else◌, length, slice_index_or, codes, decimal, Result, Ok, Err}
-use Rattle.std.specs.Str.{bytes_eq}
+-- What the program says: a status and a text, by the bytes of its input.
+use Rattle.std.specs.Prelude.{ℕ, nat_lt, List, ◌++◌, if◌then◌else◌, length, codes, decimal, Result, Ok, Err}
 use Rattle.trace_reader.specs.declared.traces.Reason.{Reason}
 use Rattle.trace_reader.specs.declared.traces.Reason.TheVariants.{Header, Window, Thread, Name, Argument, Variable, Limit, Entry}
 use Rattle.trace_reader.specs.declared.traces.Defect.{Defect}
@@ -8,7 +7,7 @@ use Rattle.trace_reader.specs.Traces.{TraceValue}
 use Rattle.trace_reader.specs.Grammar.{trace}
 use Rattle.trace_model.specs.Serial.{serial}
 use Rattle.trace_model.specs.Recording.{recording}
-use Rattle.egl_cli.specs.declared.statuses.Status.TheVariants.{Ok as Fine, Usage, Malformed, TooLong}
+use Rattle.egl_cli.specs.declared.statuses.Status.TheVariants.{Ok as Fine, Malformed, TooLong}
 use Rattle.egl_cli.specs.declared.answers.Answer.{Answer}
 
 unfoldable pub usage_text : List ℕ
@@ -34,10 +33,6 @@ reason_name Entry = codes "Entry"
 unfoldable pub malformed_text : ℕ → Reason → List ℕ
 malformed_text line reason = codes "malformed " ++ decimal line ++ codes " " ++ reason_name reason ++ codes "\n"
 
--- the one command so far
-abbrev pub is_command : List (List ℕ) → Bool
-is_command words = (length words == 1) && bytes_eq (slice_index_or words 0 []) (codes "serial")
-
 -- how many bytes an input may have
 abbrev pub most_input : ℕ
 most_input = 33554432
@@ -50,8 +45,6 @@ played_answer (Err d) = record { status = Malformed; text = malformed_text d.lin
 unfoldable pub trace_answer : List ℕ → Answer
 trace_answer b = played_answer (trace b)
 
--- the answer to words that are a command or none, and to all bytes of the input
-unfoldable pub answer : Bool → List ℕ → Answer
-answer command b =
-    if command then (if nat_lt most_input (length b) then record { status = TooLong; text = too_long_text } else trace_answer b)
-    else record { status = Usage; text = usage_text }
+-- the answer of `serial` to all bytes of the input
+unfoldable pub serial_answer : List ℕ → Answer
+serial_answer b = if nat_lt most_input (length b) then record { status = TooLong; text = too_long_text } else trace_answer b

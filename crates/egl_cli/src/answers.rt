@@ -1,12 +1,12 @@
 //! What the program says to the bytes of its input.
 ghost use Rattle.std.specs.Prelude.{◌≡◌, ℕ, ◌<◌, ◌^◌, ◌++◌, length, IfOk, OnOk};
-ghost use Rattle.egl_cli.specs.Answers.{reason_name, malformed_text, trace_answer, is_command};
+ghost use Rattle.egl_cli.specs.Answers.{reason_name, malformed_text, trace_answer};
 
 use crate::recordings::recording;
 use crate::sessions::run_serial;
 use crate::statuses::Status;
 use crate::texts::{put_decimal, put_text};
-use egl_calls::{Bytes, NoMemory, Text};
+use egl_calls::{Bytes, NoMemory};
 use std::alloc::Global;
 use trace_reader::{Reason, Trace, TraceError};
 
@@ -44,13 +44,6 @@ fn malformed_text(alloc: Global, line: u64, reason: Reason) -> Result<Bytes, NoM
     put_text(&mut out, reason_name(reason))?;
     put_text(&mut out, "\n")?;
     Ok(out)
-}
-
-/// Whether the words are a command.
-pub fn is_command(words: &[Text]) -> bool
-    ensures { result ≡ is_command words.now }
-{
-    words.len() == 1 && words[0].as_slice() == b"serial".as_slice()
 }
 
 /// What is said to bytes within the limit.

@@ -2,6 +2,9 @@
 #![tactic(auto)]
 
 mod answers;
+mod commands;
+mod config_lines;
+pub mod laws;
 mod recordings;
 mod respond;
 mod sessions;

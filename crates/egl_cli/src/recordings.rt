@@ -3,24 +3,10 @@ ghost use Rattle.std.specs.Prelude.{◌≡◌, ℕ, ◌+◌, ◌<◌, ◌/◌, �
 ghost use Rattle.std.specs.List.{flat_map};
 ghost use Rattle.trace_model.specs.Recording.{number_text, outcome_text, list_text, hex_digit, hex_byte, bytes_text, entry_line, entry_lines, census_line, recording_of};
 
-use crate::texts::{put_decimal, put_text};
+use crate::texts::{put_decimal, put_number, put_text};
 use driver_core::Driver;
 use egl_calls::{Bytes, Entry, Journal, NoMemory, Outcome};
-use egl_names::name_of;
 use std::alloc::Global;
-
-#[tactic(auto, unfolding(trace_model::specs::Recording::number_text))]
-fn put_number(alloc: Global, out: &mut Bytes, z: i64) -> Result<(), NoMemory>
-    ensures { OnOk result (out.new ≡ out.old ++ number_text z) }
-{
-    match name_of(z) {
-        Some(name) => out.extend(name.as_bytes()),
-        None => match format!(in alloc; "{z}") {
-            Ok(text) => out.extend(text.as_bytes()),
-            Err(_) => Err(NoMemory),
-        },
-    }
-}
 
 #[tactic(auto, unfolding(trace_model::specs::Recording::outcome_text))]
 fn put_outcome(alloc: Global, out: &mut Bytes, outcome: Outcome) -> Result<(), NoMemory>

@@ -1,7 +1,9 @@
 //! Pieces of text behind bytes.
 ghost use Rattle.std.specs.Prelude.{◌≡◌, ◌++◌, decimal, OnOk};
+ghost use Rattle.trace_model.specs.Recording.{number_text};
 
 use egl_calls::{Bytes, NoMemory};
+use egl_names::name_of;
 use std::alloc::Global;
 
 pub fn put_text(out: &mut Bytes, text: &str) -> Result<(), NoMemory>
@@ -16,5 +18,19 @@ pub fn put_decimal(alloc: Global, out: &mut Bytes, n: u64) -> Result<(), NoMemor
     match format!(in alloc; "{n}") {
         Ok(text) => out.extend(text.as_bytes()),
         Err(_) => Err(NoMemory),
+    }
+}
+
+/// A number that is a name's code by that name, another in decimal.
+#[tactic(auto, unfolding(trace_model::specs::Recording::number_text))]
+pub fn put_number(alloc: Global, out: &mut Bytes, z: i64) -> Result<(), NoMemory>
+    ensures { OnOk result (out.new ≡ out.old ++ number_text z) }
+{
+    match name_of(z) {
+        Some(name) => out.extend(name.as_bytes()),
+        None => match format!(in alloc; "{z}") {
+            Ok(text) => out.extend(text.as_bytes()),
+            Err(_) => Err(NoMemory),
+        },
     }
 }

@@ -12,12 +12,13 @@ const EMPTY_RECORDING: &[u8] = b"recording\ncensus 0 0 0 0 0 0 0 0 0 0 0\nend\n"
 #[test]
 fn other_words_are_no_command(rt: HostRuntime) -> Result<(), Fail> {
     let alloc = rt.alloc();
-    let rows: [&[&str]; 6] = [
+    let rows: [&[&str]; 7] = [
         &[],
         &["frob"],
         &["play"],
         &["--help"],
         &["serial", "serial"],
+        &["configs", "1"],
         &["Serial"],
     ];
     for words in rows {
