@@ -1,9 +1,15 @@
--- What a write to a thread's record does to the padded list.
-use Rattle.std.proofs.Common.{◌≡◌, ℕ, ◌<◌, ◌-◌, List, ◌++◌, length, set, get_or, refl, sym, ap, ◌∙◌, replicate, length-set, zero, suc, arith, [], ◌∷◌, lit<}
-use Rattle.std.proofs.lemmas.List.{set-append_left, get_or_append_left}
+-- The padded list of records.
+use Rattle.std.proofs.Common.{◌≡◌, ℕ, ◌<◌, ◌-◌, ◌||◌, Bool, true, false, List, ◌++◌, length, set, get_or, refl, sym, ap, ◌∙◌, replicate, length-set, zero, suc, arith, [], ◌∷◌, lit<, map}
+use Rattle.std.proofs.lemmas.List.{set-append_left, get_or_append_left, append-nil}
+use Rattle.std.proofs.lemmas.List.Folds.{list_any-append}
+use Rattle.std.proofs.lemmas.Grind.{flat_map-append}
+use Rattle.std.specs.List.{list_any, flat_map}
+use Rattle.egl_model.specs.declared.handles.Handle.{Handle}
 use Rattle.egl_model.specs.declared.records.ThreadRecord.{ThreadRecord}
 use Rattle.egl_model.specs.State.{initial, capacity}
-use Rattle.driver_core.specs.Machine.{padded}
+use Rattle.egl_model.specs.Currents.{has_context, has_surface, others, is_context_elsewhere, is_surface_elsewhere}
+use Rattle.egl_model.specs.Sweep.{held_by, roots_of}
+use Rattle.driver_core.specs.Threads.{padded}
 
 pub padded_set : (rs : List ThreadRecord) (t : ℕ) (r : ThreadRecord) → t < length rs → padded (set rs t r) ≡ set (padded rs) t r
 unfolding padded
@@ -12,13 +18,6 @@ padded_set rs t r h = ap (λ n. set rs t r ++ replicate (capacity - n) initial) 
 pub get_or_padded : (rs : List ThreadRecord) (t : ℕ) (r : ThreadRecord) → t < length rs → get_or (padded rs) t r ≡ get_or rs t r
 unfolding padded
 get_or_padded rs t r h = get_or_append_left rs _ r t h
-
--- what a write to one record makes of the driver's value
-pub record_written : (rs new : List ThreadRecord) (t : ℕ) (f : ThreadRecord → ThreadRecord) → t < length rs → new ≡ set rs t (f (get_or rs t initial)) → (length new ≡ length rs) × (padded new ≡ set (padded rs) t (f (get_or (padded rs) t initial)))
-record_written rs new t f h e = (
-  ap length e ∙ length-set rs t _,
-  ap padded e ∙ padded_set rs t _ h ∙ ap (λ (r : ThreadRecord). set (padded rs) t (f r)) (sym (get_or_padded rs t initial h)),
-)
 
 some_room : 0 < capacity
 unfolding capacity
@@ -32,3 +31,40 @@ one_and_rest (suc n) h = let e : suc n - 1 ≡ n = omega arith in rw e refl
 pub padded_one : padded (initial ∷ []) ≡ replicate capacity initial
 unfolding padded
 padded_one = one_and_rest capacity some_room
+
+-- an initial record holds nothing, so the records of threads that were never made are no roots
+hold_nothing : (n : ℕ) → flat_map held_by (replicate n initial) ≡ []
+hold_nothing zero = refl
+hold_nothing (suc n) = hold_nothing n
+
+pub roots_padded : (hs : List Handle) (rs : List ThreadRecord) → roots_of hs rs ≡ roots_of hs (padded rs)
+unfolding roots_of padded
+roots_padded hs rs =
+    ap (λ xs. map (λ (h : Handle). h.object) hs ++ xs)
+    (sym (flat_map-append held_by rs (replicate (capacity - length rs) initial)
+    ∙ ap (λ xs. flat_map held_by rs ++ xs) (hold_nothing (capacity - length rs))
+    ∙ append-nil _))
+
+-- a test that initial records don't pass
+none_pass : (p : ThreadRecord → Bool) (n : ℕ) → p initial ≡ false → list_any p (replicate n initial) ≡ false
+none_pass p zero e = refl
+none_pass p (suc n) e = ap (λ b. b || list_any p (replicate n initial)) e ∙ none_pass p n e
+
+or_false : (b : Bool) → (b || false) ≡ b
+or_false true = refl
+or_false false = refl
+
+any_padded : (p : ThreadRecord → Bool) (rs : List ThreadRecord) → p initial ≡ false → list_any p (padded rs) ≡ list_any p rs
+unfolding padded
+any_padded p rs e = list_any-append p rs _ ∙ ap (λ b. list_any p rs || b) (none_pass p _ e) ∙ or_false _
+
+any_other : (p : ThreadRecord → Bool) (rs : List ThreadRecord) (t : ℕ) → t < length rs → p initial ≡ false → list_any p (others rs t) ≡ list_any p (others (padded rs) t)
+any_other p rs t h e = sym (any_padded p (others rs t) e) ∙ ap (list_any p) (padded_set rs t initial h)
+
+pub context_elsewhere_padded : (rs : List ThreadRecord) (t n : ℕ) → t < length rs → list_any (has_context n) (others rs t) ≡ is_context_elsewhere (padded rs) t n
+unfolding is_context_elsewhere
+context_elsewhere_padded rs t n h = any_other (has_context n) rs t h refl
+
+pub surface_elsewhere_padded : (rs : List ThreadRecord) (t n : ℕ) → t < length rs → list_any (has_surface n) (others rs t) ≡ is_surface_elsewhere (padded rs) t n
+unfolding is_surface_elsewhere
+surface_elsewhere_padded rs t n h = any_other (has_surface n) rs t h refl

@@ -1,1 +1,4 @@
 pub mod Machine
+pub mod Memory
+pub mod Threads
+pub mod DisplayTables

@@ -2,9 +2,17 @@
 #![tactic(auto)]
 
 mod arguments;
+mod configs;
+mod contexts;
+mod currents;
+mod display_table;
 mod displays;
+mod drawing;
 mod machine;
-mod records;
+mod refusals;
+mod replies;
 mod stepping;
+mod surfaces;
+mod threads;
 
 pub use machine::{Driver, Run};

@@ -1,30 +1,36 @@
 //! The driver and what it stands for.
-ghost use Rattle.std.specs.Prelude.{◌≡◌, ◌<◌, ◌≤◌, IfOk, length};
-ghost use Rattle.egl_model.specs.State.{opening, set_error, record_of, census};
+ghost use Rattle.std.specs.Prelude.{◌≡◌, ◌<◌, ◌≤◌, IfOk, OnOk};
+ghost use Rattle.egl_model.specs.State.{opening, set_error, record_of};
+ghost use Rattle.egl_model.specs.Sweep.{census, sweep};
 ghost use Rattle.driver_core.specs.Machine.{Machine};
 
-use crate::records::write_error;
+use crate::display_table::DisplayTable;
+use crate::threads::ThreadTable;
 use egl_calls::{EglError, Journal, NoMemory};
 use egl_model::ThreadRecord;
+use object_table::ObjectTable;
 use std::alloc::Global;
 use std::marker::Model;
 
-/// An EGL driver: two displays, and what is kept for each of its threads. It is made with thread 0.
+/// An EGL driver: two displays with their handles, the objects, and what is kept for each of its threads. It is made with thread 0.
 #[derive(Drop)]
 pub struct Driver {
-    pub(crate) first: bool,
-    pub(crate) second: bool,
-    pub(crate) threads: Vec<ThreadRecord>,
-    video: u64,
+    pub(crate) displays: DisplayTable,
+    pub(crate) objects: ObjectTable,
+    pub(crate) threads: ThreadTable,
+    pub(crate) video: u64,
+    // whether nothing was released since the last sweep
+    pub(crate) is_swept: bool,
 }
 
 impl Model for Driver {
-    ghost use Rattle.std.specs.Prelude.{length};
-    ghost use Rattle.driver_core.specs.Machine.{Machine, padded};
+    ghost use Rattle.driver_core.specs.Machine.{Machine, KnowsSwept, state_of};
 
     ghost Value = { Machine };
 
-    ghost view = { λ d. record { made = length d.threads.items; state = record { first = d.first; second = d.second; threads = padded d.threads.items; video = d.video } } };
+    ghost view = { λ d. record { made = d.threads.made; state = state_of d.displays d.objects.objects d.threads.records d.video } };
+
+    ghost invariant = { λ d. KnowsSwept d.is_swept (state_of d.displays d.objects.objects d.threads.records d.video) };
 }
 
 /// A played run: its journal, and the driver that made it.
@@ -36,24 +42,17 @@ pub struct Run {
 
 impl Driver {
     /// A driver with thread 0, and room for `video` bytes of pixels and buffers.
-    #[tactic(auto, using(crate::proofs::PaddedLaws::padded_one))]
     pub fn new(alloc: Global, video: u64) -> Result<Driver, NoMemory>
         requires { video ≤ 1073741824 }
         ensures state { IfOk result (λ d. d.state ≡ opening video) }
         ensures made { IfOk result (λ d. d.made ≡ 1) }
     {
-        let mut threads = Vec::new(alloc);
-        let initial = ThreadRecord {
-            error: EglError::Success,
-        };
-        if threads.push(initial).is_err() {
-            return Err(NoMemory);
-        }
         Ok(Driver {
-            first: false,
-            second: false,
-            threads,
+            displays: DisplayTable::new(alloc),
+            objects: ObjectTable::new(alloc),
+            threads: ThreadTable::new(alloc)?,
             video,
+            is_swept: false,
         })
     }
 
@@ -61,20 +60,36 @@ impl Driver {
     pub fn census(&self) -> [u64; 11]
         ensures { result ≡ census self.now.state }
     {
-        [0; 11]
+        self.objects.census()
     }
 
+    /// What is kept for a thread.
+    pub(crate) fn record(&self, thread: u32) -> ThreadRecord
+        requires { thread < self.now.made }
+        ensures { result ≡ record_of self.now.state thread }
+    {
+        self.threads.record(thread)
+    }
+
+    /// Sets the error that eglGetError answers next.
     pub(crate) fn set_error(&mut self, thread: u32, error: EglError)
         requires { thread < self.old.made }
         ensures { self.new ≡ record self.old { state = set_error self.old.state thread error } }
     {
-        write_error(&mut self.threads, thread as usize, error);
+        let mut kept = self.threads.record(thread);
+        kept.error = error;
+        self.threads.set(thread, kept);
     }
 
-    pub(crate) fn error_of(&self, thread: u32) -> EglError
-        requires { thread < self.now.made }
-        ensures { result ≡ (record_of self.now.state thread).error }
+    /// Drops what no chain of references reaches any more.
+    pub(crate) fn sweep(&mut self)
+        ensures { self.new ≡ record self.old { state = sweep self.old.state } }
     {
-        self.threads[thread as usize].error
+        if self.is_swept {
+            return;
+        }
+        self.objects
+            .sweep(self.displays.as_slice(), self.threads.as_slice());
+        self.is_swept = true;
     }
 }

@@ -15,10 +15,17 @@ use Rattle.egl_calls.specs.declared.kinds.Kind.TheVariants.{Egl, Gl, Own}
 use Rattle.egl_calls.specs.declared.kinds.OwnKind.{OwnKind}
 use Rattle.egl_calls.specs.declared.kinds.OwnKind.TheVariants.{WaitEnd}
 use Rattle.egl_calls.specs.declared.errors.EglError.{EglError}
-use Rattle.egl_model.specs.State.{State}
-use Rattle.egl_model.specs.EglRules.{egl_refusal}
-use Rattle.egl_model.specs.EglEffects.{Effect, egl_effect}
-use Rattle.egl_model.specs.Step.{step, step_by, egl_step, after_rules, own_reply}
+use Rattle.egl_calls.specs.declared.errors.GlError.{GlError}
+use Rattle.egl_calls.specs.declared.errors.Outcome.TheVariants.{Waiting, InWait}
+use Rattle.egl_calls.specs.declared.kinds.GlKind.{GlKind}
+use Rattle.egl_model.specs.State.{State, record_of}
+use Rattle.egl_model.specs.Currents.{current_context}
+use Rattle.egl_model.specs.Effects.{Effect}
+use Rattle.egl_model.specs.EglFacts.{egl_refusal}
+use Rattle.egl_model.specs.EglEffects.{egl_effect}
+use Rattle.egl_model.specs.GlFacts.{gl_refusal}
+use Rattle.egl_model.specs.GlEffects.{gl_effect}
+use Rattle.egl_model.specs.Step.{step, step_in, step_by, egl_step, gl_step, gl_step_on, after_egl_rules, after_gl_rules, own_reply, is_wait_end}
 use Rattle.egl_model.specs.History.{replay_from}
 use Rattle.egl_model.proofs.HistoryLaws.{replay_from-append}
 use Rattle.trace_reader.specs.declared.traces.Line.{Line}
@@ -28,20 +35,41 @@ use Rattle.trace_model.specs.Resolve.{is_waiting, answers, answer_of, is_variabl
 use Rattle.trace_model.specs.Serial.{entry_of, played}
 use Rattle.egl_cli.specs.Sessions.{put_value, put_values, called_with, entry_with, value_kept, Plays}
 
--- ---- No step of these calls answers Waiting.
-after_goes_on : (s : State) (t : ℕ) (o : Option EglError) (f : Effect) → is_waiting (after_rules s t o f).reply.outcome ≡ false
-after_goes_on s t None f = refl
-after_goes_on s t (Some e) f = refl
+-- ---- No line of a trace ends a wait, so none is answered Waiting.
+after_egl_goes_on : (s : State) (t : ℕ) (o : Option EglError) (f : Effect) → is_waiting (after_egl_rules s t o f).reply.outcome ≡ false
+after_egl_goes_on s t None f = refl
+after_egl_goes_on s t (Some e) f = refl
+
+after_gl_goes_on : (s : State) (n : ℕ) (o : Option GlError) (f : Effect) → is_waiting (after_gl_rules s n o f).reply.outcome ≡ false
+after_gl_goes_on s n None f = refl
+after_gl_goes_on s n (Some e) f = refl
+
+gl_goes_on : (s : State) (t : ℕ) (o : Option ℕ) (k : GlKind) (c : CallValue) → is_waiting (gl_step_on s t o k c).reply.outcome ≡ false
+gl_goes_on s t None k c = refl
+gl_goes_on s t (Some n) k c = after_gl_goes_on s n (gl_refusal c) (gl_effect s t n k c)
 
 own_goes_on : (k : OwnKind) → is_waiting (own_reply k).outcome ≡ false
 own_goes_on WaitEnd = refl
 own_goes_on k = refl
 
-goes_on : (s : State) (t : ℕ) (k : Kind) (c : CallValue) → is_waiting (step_by s t k c).reply.outcome ≡ false
-unfolding egl_step
-goes_on s t (Egl k) c = after_goes_on s t (egl_refusal s t k c) (egl_effect s t k c)
-goes_on s t (Gl k) c = refl
-goes_on s t (Own k) c = own_goes_on k
+step_goes_on : (s : State) (t : ℕ) (k : Kind) (c : CallValue) → is_waiting (step_by s t k c).reply.outcome ≡ false
+unfolding egl_step gl_step
+step_goes_on s t (Egl k) c = after_egl_goes_on s t (egl_refusal s t k c) (egl_effect s t k c)
+step_goes_on s t (Gl k) c = gl_goes_on s t (current_context s t) k c
+step_goes_on s t (Own k) c = own_goes_on k
+
+ends_no_wait : (k : Kind) → is_built k ≡ true → is_wait_end k ≡ false
+ends_no_wait (Egl k) h = refl
+ends_no_wait (Gl k) h = refl
+ends_no_wait (Own k) h = absurd (let f : false ≡ true = h in cc)
+
+in_goes_on : (s : State) (t : ℕ) (w : Option ℕ) (c : CallValue) → is_wait_end c.kind ≡ false → is_waiting (step_in w s t c).reply.outcome ≡ false
+in_goes_on s t None c h = step_goes_on s t c.kind c
+in_goes_on s t (Some sync) c h = ap (λ (b : Bool). is_waiting (if b then Waiting else InWait)) h
+
+goes_on : (s : State) (t : ℕ) (c : CallValue) → is_built c.kind ≡ true → is_waiting (step s t c).reply.outcome ≡ false
+unfolding step
+goes_on s t c h = in_goes_on s t (record_of s t).wait c (ends_no_wait c.kind h)
 
 -- ---- The answer to a line once one more entry stands.
 here : ℕ → ℕ → Entry → Option ReplyValue
@@ -184,7 +212,7 @@ module _ (start : State) (made : ℕ) (lines : List Line) (i : ℕ) (journal : L
 
   known_here : (k : ℕ) → l.assigns ≡ Some k → length values ≤ k → Known lines (journal ++ the_entry ∷ []) (l.number + 1) k the_value
   known_here k e m =
-      let a : answers l.thread l.number the_entry ≡ true = all_three _ _ _ (eq-eqb l.thread l.thread refl) (eq-eqb l.number l.number refl) (goes_on s l.thread l.call.kind (called_with values l)) in
+      let a : answers l.thread l.number the_entry ≡ true = all_three _ _ _ (eq-eqb l.thread l.thread refl) (eq-eqb l.number l.number refl) (goes_on s l.thread (called_with values l) order_here.2.built) in
       record { line = l; found = found_here k e m; early = omega arith; value = sym (ap value_of (answer_here journal the_entry l.thread l.number a)) }
 
   stands_here : (a : Option ℕ) → l.assigns ≡ a → IsNext (length values) a → AreInOrder made (l.number + 1) (more_variables (length values) a) (drop (i + 1) lines) → w.number ≤ l.number →

@@ -1,40 +1,54 @@
--- What a step changes.
-use Rattle.std.proofs.Common.{◌≡◌, ◌≢◌, ℕ, refl, ap, ◌∙◌, Option, None, Some}
-use Rattle.std.proofs.lemmas.List.{get_or-set_other}
+-- The ways that a step goes.
+use Rattle.std.proofs.Common.{◌≡◌, ℕ, ap, ◌∙◌, None, Some}
 use Rattle.egl_calls.specs.Calls.{CallValue}
-use Rattle.egl_calls.specs.declared.kinds.Kind.{Kind}
-use Rattle.egl_calls.specs.declared.kinds.Kind.TheVariants.{Egl, Gl, Own}
 use Rattle.egl_calls.specs.declared.kinds.EglKind.{EglKind}
-use Rattle.egl_calls.specs.declared.kinds.EglKind.TheVariants.{GetError, GetDisplay, Initialize, Terminate}
+use Rattle.egl_calls.specs.declared.kinds.GlKind.{GlKind}
 use Rattle.egl_calls.specs.declared.errors.EglError.{EglError}
 use Rattle.egl_calls.specs.declared.errors.EglError.TheVariants.{Success}
-use Rattle.egl_model.specs.State.{State, initial, record_of, set_error}
-use Rattle.egl_model.specs.EglRules.{egl_refusal}
-use Rattle.egl_model.specs.EglEffects.{Effect, egl_effect}
-use Rattle.egl_model.specs.Step.{after_rules, egl_step, step_by, refused, done}
+use Rattle.egl_calls.specs.declared.errors.GlError.{GlError}
+use Rattle.egl_calls.specs.declared.errors.Outcome.TheVariants.{Done, Egl as RefusedEgl, Gl as RefusedGl}
+use Rattle.egl_model.specs.State.{State, record_of, set_error}
+use Rattle.egl_model.specs.Currents.{current_context}
+use Rattle.egl_model.specs.Sweep.{sweep}
+use Rattle.egl_model.specs.EglFacts.{egl_refusal}
+use Rattle.egl_model.specs.GlFacts.{gl_refusal}
+use Rattle.egl_model.specs.EglEffects.{egl_effect}
+use Rattle.egl_model.specs.GlEffects.{gl_effect}
+use Rattle.egl_model.specs.Step.{after_egl_rules, after_gl_rules, bare, done, egl_step, gl_step, gl_step_on, note_error, step, step_by, step_in, waiting_reply}
 
--- the two ways that a step of an EGL call goes
-pub stepped_refused : (s : State) (t : ℕ) (k : EglKind) (c : CallValue) (e : EglError) → egl_refusal s t k c ≡ Some e → egl_step s t k c ≡ record { reply = refused e; state = set_error s t e }
+pub egl_refused : (s : State) (t : ℕ) (k : EglKind) (c : CallValue) (e : EglError) → egl_refusal s t k c ≡ Some e →
+    egl_step s t k c ≡ record { reply = bare (RefusedEgl e); state = set_error s t e }
 unfolding egl_step
-stepped_refused s t k c e h = ap (λ (o : Option EglError). after_rules s t o (egl_effect s t k c)) h
+egl_refused s t k c e h = ap (λ o. after_egl_rules s t o (egl_effect s t k c)) h
 
-pub stepped_done : (s : State) (t : ℕ) (k : EglKind) (c : CallValue) → egl_refusal s t k c ≡ None → egl_step s t k c ≡ record { reply = done (egl_effect s t k c); state = set_error (egl_effect s t k c).state t Success }
+pub egl_done : (s : State) (t : ℕ) (k : EglKind) (c : CallValue) → egl_refusal s t k c ≡ None →
+    egl_step s t k c ≡ record { reply = done (egl_effect s t k c); state = sweep (set_error (egl_effect s t k c).state t Success) }
 unfolding egl_step
-stepped_done s t k c h = ap (λ (o : Option EglError). after_rules s t o (egl_effect s t k c)) h
+egl_done s t k c h = ap (λ o. after_egl_rules s t o (egl_effect s t k c)) h
 
-effect_keeps : (s : State) (u t : ℕ) (k : EglKind) (c : CallValue) → record_of (egl_effect s u k c).state t ≡ record_of s t
-effect_keeps s u t GetError c = refl
-effect_keeps s u t GetDisplay c = refl
-effect_keeps s u t Initialize c = refl
-effect_keeps s u t Terminate c = refl
-effect_keeps s u t k c = refl
+pub gl_without_context : (s : State) (t : ℕ) (k : GlKind) (c : CallValue) → current_context s t ≡ None →
+    gl_step s t k c ≡ record { reply = bare Done; state = s }
+unfolding gl_step
+gl_without_context s t k c h = ap (λ n. gl_step_on s t n k c) h
 
-after_keeps : (s : State) (u t : ℕ) (o : Option EglError) (f : Effect) → t ≢ u → record_of f.state t ≡ record_of s t → record_of (after_rules s u o f).state t ≡ record_of s t
-after_keeps s u t None f ne e = get_or-set_other f.state.threads u t _ initial ne ∙ e
-after_keeps s u t (Some x) f ne e = get_or-set_other s.threads u t _ initial ne
+gl_with_context : (s : State) (t n : ℕ) (k : GlKind) (c : CallValue) → current_context s t ≡ Some n →
+    gl_step s t k c ≡ after_gl_rules s n (gl_refusal c) (gl_effect s t n k c)
+unfolding gl_step
+gl_with_context s t n k c h = ap (λ n. gl_step_on s t n k c) h
 
-pub step_keeps : (s : State) (u t : ℕ) (k : Kind) (c : CallValue) → t ≢ u → record_of (step_by s u k c).state t ≡ record_of s t
-unfolding egl_step
-step_keeps s u t (Egl k) c ne = after_keeps s u t (egl_refusal s u k c) (egl_effect s u k c) ne (effect_keeps s u t k c)
-step_keeps s u t (Gl k) c ne = refl
-step_keeps s u t (Own k) c ne = refl
+pub gl_refused : (s : State) (t n : ℕ) (k : GlKind) (c : CallValue) (e : GlError) → current_context s t ≡ Some n → gl_refusal c ≡ Some e →
+    gl_step s t k c ≡ record { reply = bare (RefusedGl e); state = note_error s n e }
+gl_refused s t n k c e current h = gl_with_context s t n k c current ∙ ap (λ o. after_gl_rules s n o (gl_effect s t n k c)) h
+
+pub gl_done : (s : State) (t n : ℕ) (k : GlKind) (c : CallValue) → current_context s t ≡ Some n → gl_refusal c ≡ None →
+    gl_step s t k c ≡ record { reply = done (gl_effect s t n k c); state = sweep (gl_effect s t n k c).state }
+gl_done s t n k c current h = gl_with_context s t n k c current ∙ ap (λ o. after_gl_rules s n o (gl_effect s t n k c)) h
+
+pub step_waits : (s : State) (t : ℕ) (c : CallValue) (sync : ℕ) → (record_of s t).wait ≡ Some sync →
+    step s t c ≡ record { reply = waiting_reply c.kind; state = s }
+unfolding step
+step_waits s t c sync h = ap (λ w. step_in w s t c) h
+
+pub step_goes : (s : State) (t : ℕ) (c : CallValue) → (record_of s t).wait ≡ None → step s t c ≡ step_by s t c.kind c
+unfolding step
+step_goes s t c h = ap (λ w. step_in w s t c) h

@@ -1,15 +1,14 @@
--- The numbers of a call.
-use Rattle.std.specs.Prelude.{ℕ, ℤ, pos, negsuc, slice_index_or}
+-- The numbers of a call and of its attribute list.
+use Rattle.std.specs.Prelude.{ℕ, ℤ, pos, unwrap_or}
 use Rattle.egl_calls.specs.Calls.{CallValue}
+use Rattle.egl_names.specs.Names.{unsigned}
+use Rattle.attrib_lists.specs.Lists.{value_of}
+use Rattle.call_rules.specs.Arguments.{signed}
 
--- the number at a place
-abbrev pub signed : CallValue → ℕ → ℤ
-signed c k = slice_index_or c.args k (pos 0)
-
--- 0 for a negative number: no display, handle or object has the number 0
-abbrev pub not_negative : ℤ → ℕ
-not_negative (pos n) = n
-not_negative (negsuc n) = 0
-
+-- the number at a place, and 0 where it is negative: no display, handle or object has the number 0
 abbrev pub number : CallValue → ℕ → ℕ
-number c k = not_negative (signed c k)
+number c k = unsigned (signed c k)
+
+-- the value that an attribute list has last for an attribute, or else its default
+abbrev pub listed : CallValue → ℕ → ℤ → ℤ
+listed c attribute default = unwrap_or (value_of c.list (pos attribute)) default

@@ -1,27 +1,182 @@
-//! Laws over the definitions.
-ghost use Rattle.std.specs.Prelude.{◌≡◌, ◌≢◌, ℕ, List, ◌++◌, Option, Some};
+//! What is true of every sweep, step and history: the contracts of functions that do nothing.
+ghost use Rattle.std.specs.Prelude.{◌≡◌, ◌≢◌, ◌<◌, ◌+◌, ◌⊎◌, ◌↔◌, ℕ, ◌&&◌, ◌==◌, true, false, All, if◌then◌else◌, length, List, ◌++◌, Option, None, Some};
 ghost use Rattle.egl_calls.specs.Calls.{CallValue};
-ghost use Rattle.egl_calls.specs.declared.kinds.EglKind.{EglKind};
-ghost use Rattle.egl_calls.specs.declared.errors.EglError.{EglError};
 ghost use Rattle.egl_calls.specs.declared.entries.Entry.{Entry};
-ghost use Rattle.egl_model.specs.State.{State, record_of, set_error};
-ghost use Rattle.egl_model.specs.EglRules.{egl_refusal};
-ghost use Rattle.egl_model.specs.Step.{step, egl_step, refused};
+ghost use Rattle.egl_calls.specs.declared.kinds.Kind.TheVariants.{Egl, Own};
+ghost use Rattle.egl_calls.specs.declared.kinds.EglKind.{EglKind};
+ghost use Rattle.egl_calls.specs.declared.kinds.EglKind.TheVariants.{Initialize, Terminate, CreatePbufferSurface, CreateContext};
+ghost use Rattle.egl_calls.specs.declared.kinds.GlKind.{GlKind};
+ghost use Rattle.egl_calls.specs.declared.kinds.OwnKind.{OwnKind};
+ghost use Rattle.egl_calls.specs.declared.errors.EglError.{EglError as AnEglError};
+ghost use Rattle.egl_calls.specs.declared.errors.EglError.TheVariants.{BadAlloc};
+ghost use Rattle.egl_calls.specs.declared.errors.GlError.{GlError as AGlError};
+ghost use Rattle.egl_calls.specs.declared.errors.GlError.TheVariants.{NoError};
+ghost use Rattle.egl_calls.specs.declared.errors.Outcome.TheVariants.{Done, Egl as RefusedEgl, Gl as RefusedGl};
+ghost use Rattle.context_state.specs.Parts.{PartValue};
+ghost use Rattle.egl_model.specs.State.{State, object_at, opening, record_of, set_error};
+ghost use Rattle.egl_model.specs.Currents.{current_context, part_of_context};
+ghost use Rattle.egl_model.specs.Sweep.{is_reached, live_bytes, sweep};
+ghost use Rattle.egl_model.specs.EglFacts.{egl_refusal};
+ghost use Rattle.egl_model.specs.Step.{bare, note_error, step, waiting_reply};
 ghost use Rattle.egl_model.specs.History.{replay_from, IsLegalFrom};
+ghost use Rattle.egl_model.specs.Laws.{has_object, HasNoLitter, IsEglCall, IsGlCall, IsRefusedEgl, IsRefusedGl, is_of_wait, HandlesAreNew, ObjectsAreNew};
+ghost use Rattle.egl_model.specs.Surfaces.{created_pbuffer};
+ghost use Rattle.egl_model.specs.Contexts.{created_context};
+ghost use Rattle.egl_model.specs.Links.{IsHeld, IsLinked};
+ghost use Rattle.egl_model.specs.Named.{Exists, IsHandled, IsHeldByThread, IsUsed};
+ghost use Rattle.egl_model.specs.Kinds.{KindsFit};
+ghost use Rattle.egl_model.specs.DisplayCalls.{IsInitialized, IsTerminated};
+ghost use Rattle.egl_model.specs.Displays.{is_initialized};
+ghost use Rattle.egl_model.specs.Arguments.{number};
+ghost use Rattle.egl_model.specs.Sound.{IsSound};
+ghost use Rattle.egl_model.specs.Wants.{Answers, AsksTooLarge, IsFaultlessContext, IsFaultlessPbuffer, PixelsFit, WantsNumber, WantsVideo, asked_bytes};
 
-/// A refused EGL call answers its error, sets it for its thread, and changes nothing else.
-pub fn refusal_sets_error_alone()
-    ensures reply { (s : State) (t : ℕ) (k : EglKind) (c : CallValue) (e : EglError) → egl_refusal s t k c ≡ Some e → (egl_step s t k c).reply ≡ refused e }
-    ensures state { (s : State) (t : ℕ) (k : EglKind) (c : CallValue) (e : EglError) → egl_refusal s t k c ≡ Some e → (egl_step s t k c).state ≡ set_error s t e }
+/// A sweep leaves each object that chains of references reach as it is, and no other; it changes what is reached for none.
+pub fn a_sweep_keeps_what_is_reached()
+    ensures object { (s : State) (n : ℕ) → object_at (sweep s) n ≡ (if is_reached s n then object_at s n else None) }
+    ensures reached { (s : State) (n : ℕ) → is_reached (sweep s) n ≡ is_reached s n }
+    ensures exists { (s : State) (n : ℕ) → has_object (sweep s) n ≡ (has_object s n && is_reached (sweep s) n) }
+    ensures places { (s : State) → length (sweep s).objects ≡ length s.objects }
 {}
 
-/// A call of one thread leaves what is kept for another.
-pub fn step_keeps_other_threads()
-    ensures { (s : State) (u t : ℕ) (c : CallValue) → t ≢ u → record_of (step s u c).state t ≡ record_of s t }
+/// To sweep twice is to sweep once.
+pub fn a_sweep_is_done_at_once()
+    ensures { (s : State) → sweep (sweep s) ≡ sweep s }
+{}
+
+/// Each object is reached: after a sweep, before the first call, and after a step wherever it was so before. So it's so in each history.
+pub fn no_litter_is_left()
+    ensures sweep { (s : State) → HasNoLitter (sweep s) }
+    ensures opening { (video : ℕ) → HasNoLitter (opening video) }
+    ensures step { (s : State) (t : ℕ) (c : CallValue) → HasNoLitter s → HasNoLitter (step s t c).state }
+    ensures history { (video : ℕ) (entries : List Entry) → HasNoLitter (replay_from (opening video) entries) }
+{}
+
+/// Each root and each reference leads to an object, before the first call and after a step wherever it was so before; then no chain is longer than those that a sweep follows.
+pub fn references_lead_to_objects()
+    ensures opening { (video : ℕ) → IsLinked (opening video) }
+    ensures step { (s : State) (t : ℕ) (c : CallValue) → IsLinked s → IsLinked (step s t c).state }
+    ensures chains { (s : State) (n : ℕ) → IsLinked s → IsHeld s n → is_reached s n ≡ true }
+{}
+
+/// In each history an object exists exactly where a chain of references leads to it.
+pub fn an_object_exists_exactly_where_it_is_held()
+    ensures { (video : ℕ) (entries : List Entry) (n : ℕ) → (has_object (replay_from (opening video) entries) n ≡ true) ↔ IsHeld (replay_from (opening video) entries) n }
+{}
+
+/// Handles name objects of their kind; a context and surfaces are current to threads; a context has a group and a texture, and a surface a storage. So it's before the first call, and after a step wherever it was so before.
+pub fn names_lead_to_objects_of_their_kind()
+    ensures opening { (video : ℕ) → KindsFit (opening video) }
+    ensures step { (s : State) (t : ℕ) (c : CallValue) → IsLinked s → KindsFit s → KindsFit (step s t c).state }
+    ensures history { (video : ℕ) (entries : List Entry) → KindsFit (replay_from (opening video) entries) }
+{}
+
+/// In each history what exists has a handle, or is current to a thread, or is used by a context or a surface.
+pub fn what_exists_is_named()
+    ensures { (video : ℕ) (entries : List Entry) (n : ℕ) → let s = replay_from (opening video) entries in Exists s n → IsHandled s n ⊎ (IsHeldByThread s n ⊎ IsUsed s n) }
+{}
+
+/// A refused call of EGL answers its error, and changes its thread's error and nothing else (EGL 1.5, section 3.1).
+pub fn a_refused_egl_call_sets_its_error_alone()
+    ensures reply { (s : State) (t : ℕ) (k : EglKind) (c : CallValue) (e : AnEglError) → IsRefusedEgl s t k c e → (step s t c).reply ≡ bare (RefusedEgl e) }
+    ensures state { (s : State) (t : ℕ) (k : EglKind) (c : CallValue) (e : AnEglError) → IsRefusedEgl s t k c e → (step s t c).state ≡ set_error s t e }
+    ensures thread { (s : State) (t : ℕ) (e : AnEglError) → t < length s.threads → record_of (set_error s t e) t ≡ record (record_of s t) { error = e } }
+    ensures others { (s : State) (t u : ℕ) (e : AnEglError) → u ≢ t → record_of (set_error s t e) u ≡ record_of s u }
+    ensures rest { (s : State) (t : ℕ) (e : AnEglError) → record (set_error s t e) { threads = s.threads } ≡ s }
+{}
+
+/// A refused call of OpenGL ES answers its error, and changes the error that its context keeps and nothing else; where one is kept it changes nothing (OpenGL ES 1.1, section 2.5).
+pub fn a_refused_gl_call_sets_its_error_alone()
+    ensures reply { (s : State) (t n : ℕ) (k : GlKind) (c : CallValue) (e : AGlError) → IsRefusedGl s t n k c e → (step s t c).reply ≡ bare (RefusedGl e) }
+    ensures state { (s : State) (t n : ℕ) (k : GlKind) (c : CallValue) (e : AGlError) → IsRefusedGl s t n k c e → (step s t c).state ≡ note_error s n e }
+    ensures first { (s : State) (n : ℕ) (e : AGlError) (p : PartValue) → part_of_context s n ≡ Some p → p.error ≡ NoError → part_of_context (note_error s n e) n ≡ Some (record p { error = e }) }
+    ensures later { (s : State) (n : ℕ) (e : AGlError) (p : PartValue) → part_of_context s n ≡ Some p → p.error ≢ NoError → note_error s n e ≡ s }
+    ensures others { (s : State) (n m : ℕ) (e : AGlError) → m ≢ n → object_at (note_error s n e) m ≡ object_at s m }
+    ensures rest { (s : State) (n : ℕ) (e : AGlError) → record (note_error s n e) { objects = s.objects } ≡ s }
+{}
+
+/// Without a current context a call of OpenGL ES changes nothing.
+pub fn without_a_context_nothing_changes()
+    ensures { (s : State) (t : ℕ) (k : GlKind) (c : CallValue) → IsGlCall s t k c → current_context s t ≡ None → step s t c ≡ record { reply = bare Done; state = s } }
+{}
+
+/// A thread that waits for a sync changes nothing, nor does a call whose outcome says so, nor one of this project's own.
+pub fn waits_and_own_calls_change_nothing()
+    ensures waiting { (s : State) (t : ℕ) (c : CallValue) (sync : ℕ) → (record_of s t).wait ≡ Some sync → step s t c ≡ record { reply = waiting_reply c.kind; state = s } }
+    ensures outcome { (s : State) (t : ℕ) (c : CallValue) → is_of_wait (step s t c).reply.outcome ≡ true → (step s t c).state ≡ s }
+    ensures own { (s : State) (t : ℕ) (k : OwnKind) (c : CallValue) → c.kind ≡ Own k → (step s t c).state ≡ s }
+{}
+
+/// A call of one thread leaves what is kept for another, and there are as many records as before.
+pub fn a_step_keeps_other_threads()
+    ensures others { (s : State) (t u : ℕ) (c : CallValue) → t ≢ u → record_of (step s u c).state t ≡ record_of s t }
+    ensures count { (s : State) (t : ℕ) (c : CallValue) → length (step s t c).state.threads ≡ length s.threads }
+{}
+
+/// Only eglInitialize and eglTerminate change whether a display is initialised, and each only its own (EGL 1.5, section 3.2).
+pub fn two_calls_change_displays()
+    ensures first { (s : State) (t : ℕ) (c : CallValue) → c.kind ≢ Egl Initialize → c.kind ≢ Egl Terminate → (step s t c).state.first ≡ s.first }
+    ensures second { (s : State) (t : ℕ) (c : CallValue) → c.kind ≢ Egl Initialize → c.kind ≢ Egl Terminate → (step s t c).state.second ≡ s.second }
+    ensures initialized { (s : State) (t : ℕ) (c : CallValue) → IsInitialized s t c → is_initialized (step s t c).state (number c 0) ≡ true }
+    ensures terminated { (s : State) (t : ℕ) (c : CallValue) → IsTerminated s t c → is_initialized (step s t c).state (number c 0) ≡ false }
+    ensures initialized_other { (s : State) (t d : ℕ) (c : CallValue) → IsInitialized s t c → d ≢ number c 0 → is_initialized (step s t c).state d ≡ is_initialized s d }
+    ensures terminated_other { (s : State) (t d : ℕ) (c : CallValue) → IsTerminated s t c → d ≢ number c 0 → is_initialized (step s t c).state d ≡ is_initialized s d }
+{}
+
+/// eglTerminate leaves no handle of its display, and leaves what is current to each thread (EGL 1.5, section 3.2).
+pub fn terminate_takes_handles_and_leaves_currents()
+    ensures handles { (s : State) (t : ℕ) (c : CallValue) → IsTerminated s t c → All (λ h. (h.display == number c 0) ≡ false) (step s t c).state.handles }
+    ensures context { (s : State) (t u : ℕ) (c : CallValue) → IsTerminated s t c → (record_of (step s t c).state u).context ≡ (record_of s u).context }
+    ensures draw { (s : State) (t u : ℕ) (c : CallValue) → IsTerminated s t c → (record_of (step s t c).state u).draw ≡ (record_of s u).draw }
+    ensures read { (s : State) (t u : ℕ) (c : CallValue) → IsTerminated s t c → (record_of (step s t c).state u).read ≡ (record_of s u).read }
+{}
+
+/// No number is given to a second handle, in a step or in a history, whatever became of the first.
+pub fn handle_numbers_are_new()
+    ensures step { (s : State) (t : ℕ) (c : CallValue) → HandlesAreNew s (step s t c).state }
+    ensures history { (s : State) (entries : List Entry) → HandlesAreNew s (replay_from s entries) }
+{}
+
+/// Places of objects are never fewer, and an empty one stays empty, in a step or in a history: the number of an object that is gone isn't given again.
+pub fn object_numbers_are_new()
+    ensures step { (s : State) (t : ℕ) (c : CallValue) → ObjectsAreNew s (step s t c).state }
+    ensures history { (s : State) (entries : List Entry) → ObjectsAreNew s (replay_from s entries) }
 {}
 
 /// To replay one list and then another is to replay both in a row, and the row is legal where each part is.
 pub fn replay_goes_on()
     ensures state { (s : State) (before after : List Entry) → replay_from s (before ++ after) ≡ replay_from (replay_from s before) after }
     ensures legal { (s : State) (before after : List Entry) → IsLegalFrom s before → IsLegalFrom (replay_from s before) after → IsLegalFrom s (before ++ after) }
+{}
+
+/// A call of EGL that no wait holds up answers an error exactly where a rule refuses it.
+pub fn a_reply_tells_its_refusal()
+    ensures { (s : State) (t : ℕ) (k : EglKind) (c : CallValue) (e : AnEglError) → IsEglCall s t k c → Answers s t c e ↔ (egl_refusal s t k c ≡ Some e) }
+{}
+
+/// eglCreatePbufferSurface answers EGL_BAD_ALLOC exactly where nothing else is wrong, and a side is too large, or the pixels that live before the call and the new ones are too many, or no number is left for its handle (EGL 1.5, section 3.5.2).
+pub fn a_pbuffer_wants_size_pixels_or_a_number()
+    ensures faultless { (s : State) (t : ℕ) (c : CallValue) → IsEglCall s t CreatePbufferSurface c → Answers s t c BadAlloc → IsFaultlessPbuffer s c }
+    ensures wants { (s : State) (t : ℕ) (c : CallValue) → IsEglCall s t CreatePbufferSurface c → IsFaultlessPbuffer s c → Answers s t c BadAlloc ↔ (AsksTooLarge c ⊎ (WantsVideo s c ⊎ WantsNumber s)) }
+{}
+
+/// eglCreateContext answers EGL_BAD_ALLOC exactly where nothing else is wrong, and no number is left for its handle (section 3.7.1).
+pub fn a_context_wants_a_number()
+    ensures faultless { (s : State) (t : ℕ) (c : CallValue) → IsEglCall s t CreateContext c → Answers s t c BadAlloc → IsFaultlessContext s c }
+    ensures wants { (s : State) (t : ℕ) (c : CallValue) → IsEglCall s t CreateContext c → IsFaultlessContext s c → Answers s t c BadAlloc ↔ WantsNumber s }
+{}
+
+/// A new pbuffer takes the bytes that its refusal counts, and a new context none; so in each history all pixels that live fit.
+pub fn all_pixels_fit()
+    ensures pbuffer { (s : State) (c : CallValue) → live_bytes (created_pbuffer s c).objects ≡ live_bytes s.objects + asked_bytes c }
+    ensures context { (s : State) (c : CallValue) → live_bytes (created_context s c).objects ≡ live_bytes s.objects }
+    ensures step { (s : State) (t : ℕ) (c : CallValue) → PixelsFit s → PixelsFit (step s t c).state }
+    ensures history { (video : ℕ) (entries : List Entry) → PixelsFit (replay_from (opening video) entries) }
+{}
+
+/// The state is sound before the first call, after a step wherever it was so before, and so in each history: no object is litter and no reference leads nowhere; a context or a surface is current to at most one thread, and a thread has both surfaces and a context or none (EGL 1.5, section 3.7.3); each valid or bound handle's number is below the next one, and no two valid handles have one; each surface has a storage of its own; and all pixels fit.
+pub fn the_state_is_sound()
+    ensures opening { (video : ℕ) → IsSound (opening video) }
+    ensures step { (s : State) (t : ℕ) (c : CallValue) → IsSound s → IsSound (step s t c).state }
+    ensures history { (video : ℕ) (entries : List Entry) → IsSound (replay_from (opening video) entries) }
 {}

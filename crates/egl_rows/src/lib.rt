@@ -2,12 +2,18 @@
 #![tactic(auto)]
 
 #[cfg(test)]
+mod choosing;
+#[cfg(test)]
 mod configs;
+#[cfg(test)]
+mod drawing;
 #[cfg(test)]
 mod faults;
 #[cfg(test)]
 mod forms;
 #[cfg(test)]
 mod playing;
+#[cfg(test)]
+mod runs;
 #[cfg(test)]
 mod serial;

@@ -7,7 +7,8 @@ use Rattle.egl_calls.specs.declared.entries.Entry.{Entry}
 use Rattle.egl_calls.specs.declared.errors.Outcome.{Outcome}
 use Rattle.egl_calls.specs.declared.errors.Outcome.TheVariants.{Done, Egl, Gl, Waiting, InWait, NoWait}
 use Rattle.egl_names.specs.Names.{name_of}
-use Rattle.egl_model.specs.State.{State, opening, census}
+use Rattle.egl_model.specs.State.{State, opening}
+use Rattle.egl_model.specs.Sweep.{census}
 use Rattle.egl_model.specs.History.{replay_from}
 use Rattle.trace_reader.specs.Traces.{TraceValue}
 

@@ -1,10 +1,13 @@
-use Rattle.std.proofs.Common.{length, ap, ◌<◌, refl}
-use Rattle.driver_core.proofs.PaddedLaws.{record_written}
-use Rattle.driver_core.specs.Machine.{Machine}
+use Rattle.std.proofs.Common.{List, sym, ap, ◌∙◌, subst, set}
+use Rattle.egl_model.specs.declared.records.ThreadRecord.{ThreadRecord}
+use Rattle.driver_core.specs.Threads.{ThreadsValue}
+use Rattle.driver_core.specs.Machine.{KnowsSwept, state_of}
+use Rattle.driver_core.proofs.SweptLaws.{knows_error}
 use Rattle.driver_core.proofs.machine.Driver.set_error.Goals as goal
 
-pub returns : goal.returns
-returns c =
-    let h : c.args.thread < length c.self.inside.threads.items = rw (ap (λ (m : Machine). m.made) c.self.view_is) c.requires in
-    let w = record_written c.self.inside.threads.items c.write_error.new.records.items c.args.thread (λ r. record r { error = c.args.error }) h c.write_error.ensures in
-    rw (← c.self.view_is) (rw (w.0, w.1) refl)
+pub invariant_of-self : goal.invariant_of-self
+invariant_of-self c =
+    let d = c.self.inside in
+    let P : List ThreadRecord → Type 0 = λ rs. KnowsSwept d.is_swept (state_of d.displays d.objects.objects rs d.video) in
+    let e = ap (λ (v : ThreadsValue). v.records) c.set.ensures ∙ ap (λ (r : ThreadRecord). set d.threads.records c.args.thread (record r { error = c.args.error })) c.record-kept.ensures in
+    subst P (sym e) (knows_error d.is_swept (state_of d.displays d.objects.objects d.threads.records d.video) c.args.thread c.args.error c.self.invariant)

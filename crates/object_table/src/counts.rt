@@ -1,0 +1,95 @@
+//! How many objects there are, and their bytes.
+ghost use Rattle.std.specs.Prelude.{◌≡◌, ◌≤◌, ◌^◌, length};
+ghost use Rattle.driver_objects.specs.Objects.{kind_of};
+ghost use Rattle.egl_model.specs.Sweep.{census_of, bytes_in, count_of, live_bytes, one_of};
+ghost use Rattle.std.specs.Option.{option_map_or};
+
+use crate::table::ObjectTable;
+use driver_objects::{Object, ObjectKind};
+
+fn one_of(kind: ObjectKind, other: ObjectKind) -> u64
+    ensures value { result ≡ one_of kind other }
+    ensures few { result ≤ 1 }
+{
+    if kind == other { 1 } else { 0 }
+}
+
+fn one_in(kind: ObjectKind, object: &Option<Object>) -> u64
+    ensures value { result ≡ option_map_or (λ x. one_of kind (kind_of x)) object.now 0 }
+    ensures few { result ≤ 1 }
+{
+    match object {
+        Some(object) => one_of(kind, object.kind()),
+        None => 0,
+    }
+}
+
+fn bytes_in(object: &Option<Object>) -> u64
+    ensures value { result ≡ bytes_in object.now }
+    ensures few { result ≤ 16777216 }
+{
+    match object {
+        Some(object) => object.bytes(),
+        None => 0,
+    }
+}
+
+#[tactic(auto, unfolding(egl_model::specs::Sweep::count_of))]
+fn count_in(kind: ObjectKind, objects: &[Option<Object>]) -> u64
+    ensures { result ≡ count_of kind objects.now }
+{
+    let mut count = 0;
+    'each: for object in objects {
+        count += one_in(kind, object);
+    }
+    count
+}
+
+#[tactic(auto, unfolding(egl_model::specs::Sweep::live_bytes))]
+fn live_bytes_in(objects: &[Option<Object>]) -> u64
+    requires { length objects.now ≤ 4294967295 }
+    ensures value { result ≡ live_bytes objects.now }
+    ensures few { result ≤ 2 ^ 56 }
+{
+    let mut sum = 0;
+    'each: for object in objects {
+        sum += bytes_in(object);
+    }
+    sum
+}
+
+impl ObjectTable {
+    /// How many objects of a kind there are.
+    pub fn count(&self, kind: ObjectKind) -> u64
+        ensures { result ≡ count_of kind self.now.objects }
+    {
+        count_in(kind, self.objects.as_slice())
+    }
+
+    /// The live bytes: those of all pixels.
+    pub fn live_bytes(&self) -> u64
+        ensures value { result ≡ live_bytes self.now.objects }
+        ensures few { result ≤ 2 ^ 56 }
+    {
+        live_bytes_in(self.objects.as_slice())
+    }
+
+    /// How many contexts, groups, textures, buffers, renderbuffers, framebuffers, surfaces, storages, images and syncs there are, and then the live bytes.
+    pub fn census(&self) -> [u64; 11]
+        ensures { result ≡ census_of self.now.objects }
+    {
+        [
+            self.count(ObjectKind::Context),
+            self.count(ObjectKind::Group),
+            self.count(ObjectKind::Texture),
+            self.count(ObjectKind::Buffer),
+            self.count(ObjectKind::Renderbuffer),
+            self.count(ObjectKind::Framebuffer),
+            self.count(ObjectKind::Surface),
+            self.count(ObjectKind::Storage),
+            self.count(ObjectKind::Image),
+            self.count(ObjectKind::Sync),
+            self.live_bytes(),
+        ]
+    }
+}
