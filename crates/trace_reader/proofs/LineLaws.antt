@@ -1,5 +1,5 @@
 -- The lines of bytes, one after another.
-use Rattle.std.proofs.Common.{◌≡◌, ℕ, ◌+◌, ◌<◌, Bool, true, false, List, [], ◌∷◌, ◌++◌, take, drop, length, get_or, refl, sym, ap, ◌∙◌, arith, cond}
+use Rattle.std.proofs.Common.{◌≡◌, ℕ, ◌+◌, ◌<◌, Bool, true, false, List, [], ◌∷◌, ◌++◌, take, drop, length, get_or, refl, sym, ap, ◌∙◌, arith, cond, append_assoc}
 use Rattle.std.proofs.lemmas.List.Splits.{slice_split_none, slice_split_first}
 use Rattle.std.proofs.lemmas.List.Sums.{fails_before_first, position_or_len_is}
 use Rattle.std.specs.List.{slice_split, onto_first, position_or_len, All, before_first, after_first}
@@ -32,3 +32,7 @@ parts_more x ps r = rw r.2 refl
 
 pub lines_more : (xs : List ℕ) (n : ℕ) → n ≡ position_or_len is_newline xs → n < length xs → lines xs ≡ (strip_carriage_return (take n xs) ∷ []) ++ lines (drop (n + 1) xs)
 lines_more xs n e l = rw e (ap lines_of_parts (slice_split_first is_newline xs 0 (omega arith)) ∙ parts_more (before_first is_newline xs) (slice_split is_newline (after_first is_newline xs)) (some_part is_newline (after_first is_newline xs)))
+
+-- the lines so far, and one more
+pub joined : (new old front rest more line : List (List ℕ)) → new ≡ old ++ front → rest ≡ front ++ more → old ++ rest ≡ line → new ++ more ≡ line
+joined new old front rest more line p q r = ap (λ (x : List (List ℕ)). x ++ more) p ∙ append_assoc old front more ∙ ap (λ (x : List (List ℕ)). old ++ x) (sym q) ∙ r

@@ -1,9 +1,9 @@
 //! Attribute lists.
 ghost use Rattle.std.specs.Prelude.{◌≡◌, ℕ, ◌≤◌, length, true, All, IfOk, IfSome};
-ghost use Rattle.std.specs.List.{position_or_len, list_any};
+ghost use Rattle.std.specs.List.{list_any};
 ghost use Rattle.egl_calls.specs.Ranges.{IsNumber};
 ghost use Rattle.trace_reader.specs.NumberWords.{is_unknown_name};
-ghost use Rattle.trace_reader.specs.Lists.{is_bracketed, inside, is_comma, items, item_numbers, is_none_code, end_after, attributes, attribute_list};
+ghost use Rattle.trace_reader.specs.Lists.{is_bracketed, inside, items, item_numbers, is_none_code, end_after, attributes, attribute_list};
 
 use crate::number_words::{argument_number, is_unknown_name};
 use crate::word_cuts::begins_with;
@@ -30,39 +30,11 @@ pub fn inside(word: &[u8]) -> &[u8]
     text
 }
 
-/// The place of the first comma, or the length.
-fn comma_at(text: &[u8]) -> usize
-    ensures place { result ≡ position_or_len is_comma text.now }
-    ensures within { result ≤ length text.now }
-{
-    for (i, b) in text.iter().enumerate() {
-        if *b == b',' {
-            return i;
-        }
-    }
-    text.len()
-}
-
 /// Whether one of the items that commas part is an unknown name.
 pub fn lists_unknown_name(text: &[u8]) -> bool
     ensures { result ≡ list_any is_unknown_name (items text.now) }
 {
-    if text.is_empty() {
-        return false;
-    }
-    let mut rest = text;
-    'items: loop {
-        let at = comma_at(rest);
-        let (item, _) = rest.split_at(at);
-        if is_unknown_name(item) {
-            return true;
-        }
-        if at == rest.len() {
-            return false;
-        }
-        let (_, more) = rest.split_at(at + 1);
-        rest = more;
-    }
+    !text.is_empty() && text.split(|b| *b == b',').any(is_unknown_name)
 }
 
 /// The numbers of the items that commas part, where each is a number.
@@ -74,20 +46,13 @@ fn item_numbers(alloc: Global, text: &[u8]) -> Result<Option<Numbers>, NoMemory>
     if text.is_empty() {
         return Ok(Some(found));
     }
-    let mut rest = text;
-    'items: loop {
-        let at = comma_at(rest);
-        let (item, _) = rest.split_at(at);
+    'items: for item in text.split(|b| *b == b',') {
         let Some(number) = argument_number(item) else {
             return Ok(None);
         };
         found.push(number)?;
-        if at == rest.len() {
-            return Ok(Some(found));
-        }
-        let (_, more) = rest.split_at(at + 1);
-        rest = more;
     }
+    Ok(Some(found))
 }
 
 fn is_none_code(number: i64) -> bool

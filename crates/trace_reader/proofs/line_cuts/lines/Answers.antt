@@ -1,6 +1,5 @@
 use Rattle.std.proofs.Common.{◌<◌, arith, length}
-use Rattle.trace_reader.proofs.LineLaws.{lines_more}
-use Rattle.trace_reader.proofs.WordLaws.{joined}
+use Rattle.trace_reader.proofs.LineLaws.{lines_more, joined}
 use Rattle.trace_reader.proofs.line_cuts.lines.Goals as goal
 
 pub each-preserved : goal.each-preserved
