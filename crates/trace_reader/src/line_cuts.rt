@@ -1,22 +1,13 @@
 //! The lines of bytes.
-ghost use Rattle.std.specs.Prelude.{◌≡◌, ℕ, ◌+◌, ◌<◌, ◌≤◌, [], ◌∷◌, ◌++◌, length, IfOk, OnOk, map};
-ghost use Rattle.std.specs.List.{position_or_len};
-ghost use Rattle.std.specs.Str.Lines.{lines, lines_of_parts, strip_carriage_return};
+ghost use Rattle.std.specs.Prelude.{◌≡◌, ◌<◌, [], ◌∷◌, length, position, MatchOption, IfSome};
 ghost use Rattle.std.specs.Char.{is_newline};
+ghost use Rattle.std.specs.Str.Lines.{lines, strip_carriage_return};
 
-use egl_calls::NoMemory;
-use std::alloc::Global;
-
-fn newline_at(bytes: &[u8]) -> usize
-    ensures place { result ≡ position_or_len is_newline bytes.now }
-    ensures within { result ≤ length bytes.now }
+fn newline_in(bytes: &[u8]) -> Option<usize>
+    ensures place { result ≡ position is_newline bytes.now }
+    ensures within { IfSome result (λ n. n < length bytes.now) }
 {
-    for (i, b) in bytes.iter().enumerate() {
-        if *b == b'\n' {
-            return i;
-        }
-    }
-    bytes.len()
+    bytes.iter().position(|b| *b == b'\n')
 }
 
 fn without_return(line: &[u8]) -> &[u8]
@@ -26,7 +17,7 @@ fn without_return(line: &[u8]) -> &[u8]
         return line;
     }
     let last = line.len() - 1;
-    if line[last] == 13 {
+    if line[last] == b'\r' {
         let (front, _) = line.split_at(last);
         front
     } else {
@@ -34,43 +25,21 @@ fn without_return(line: &[u8]) -> &[u8]
     }
 }
 
-fn push_last<'a>(found: &mut Vec<&'a [u8]>, line: &'a [u8]) -> Result<(), NoMemory>
-    ensures { OnOk result (map (λ w. w.now) found.new.items ≡ map (λ w. w.now) found.old.items ++ lines_of_parts (line.now ∷ [])) }
+/// The first line and the bytes behind it. Each line is ended by a line feed but perhaps the last, and a carriage return before a line feed is dropped.
+#[tactic(auto, using(crate::proofs::LineLaws::no_line, crate::proofs::LineLaws::last_line, crate::proofs::LineLaws::line_and_more))]
+pub fn cut_line(bytes: &[u8]) -> Option<(&[u8], &[u8])>
+    ensures lines { MatchOption result (lines bytes.now ≡ []) (λ cut. lines bytes.now ≡ cut.0.now ∷ lines cut.1.now) }
+    ensures shorter { IfSome result (λ cut. length cut.1.now < length bytes.now) }
 {
-    if line.is_empty() {
-        return Ok(());
+    if bytes.is_empty() {
+        return None;
     }
-    match found.push(line) {
-        Ok(()) => Ok(()),
-        Err(_) => Err(NoMemory),
-    }
-}
-
-fn push_line<'a>(found: &mut Vec<&'a [u8]>, line: &'a [u8]) -> Result<(), NoMemory>
-    ensures { OnOk result (map (λ w. w.now) found.new.items ≡ map (λ w. w.now) found.old.items ++ strip_carriage_return line.now ∷ []) }
-{
-    match found.push(without_return(line)) {
-        Ok(()) => Ok(()),
-        Err(_) => Err(NoMemory),
-    }
-}
-
-/// The lines, each ended by a line feed but perhaps the last. A carriage return before a line feed is dropped.
-#[tactic(auto, using(crate::proofs::LineLaws::lines_last))]
-pub fn lines<'a>(alloc: Global, bytes: &'a [u8]) -> Result<Vec<&'a [u8]>, NoMemory>
-    ensures { IfOk result (λ v. map (λ w. w.now) v.items ≡ lines bytes.now) }
-{
-    let mut found = Vec::new(alloc);
-    let mut rest = bytes;
-    'each: loop {
-        let at = newline_at(rest);
-        if at == rest.len() {
-            push_last(&mut found, rest)?;
-            return Ok(found);
+    match newline_in(bytes) {
+        Some(at) => {
+            let (line, _) = bytes.split_at(at);
+            let (_, rest) = bytes.split_at(at + 1);
+            Some((without_return(line), rest))
         }
-        let (line, _) = rest.split_at(at);
-        push_line(&mut found, line)?;
-        let (_, more) = rest.split_at(at + 1);
-        rest = more;
+        None => Some((bytes, b"")),
     }
 }

@@ -1,6 +1,7 @@
 //! Whole traces.
 ghost use Rattle.std.specs.Prelude.{◌≡◌, ℕ, ◌+◌, ◌<◌, ◌≤◌, ◌^◌, [], ◌∷◌, ◌++◌, length, map, true, IfOk, OnOk, option_to_list};
 ghost use Rattle.std.specs.Option.{option_map};
+ghost use Rattle.std.specs.Str.Lines.{lines};
 ghost use Rattle.trace_reader.specs.Words.{words as words_in};
 ghost use Rattle.trace_reader.specs.Body.{is_assignable, is_skipped, read_body};
 ghost use Rattle.trace_reader.specs.Grammar.{trace};
@@ -10,7 +11,7 @@ ghost use Rattle.trace_reader.specs.Order.{AreInOrder, AreBefore};
 
 use crate::body::{LineError, body_of, target_of};
 use crate::header::header_of;
-use crate::line_cuts::lines;
+use crate::line_cuts::cut_line;
 use crate::pixels::pixel_bytes;
 use crate::traces::{Line, Reason, Trace, TraceError};
 use crate::variables::Variables;
@@ -95,27 +96,30 @@ fn next_line<'a>(
     }
 }
 
-fn read_lines(alloc: Global, threads: u32, lines: &[&[u8]]) -> Result<Vec<Line>, TraceError>
+/// Reads the lines behind the header, each as it is cut off.
+fn read_lines(alloc: Global, threads: u32, bytes: &[u8]) -> Result<Vec<Line>, TraceError>
     requires some { 0 < threads }
-    requires long { length lines.now < 2 ^ 62 }
-    ensures value { Gives (λ v. v.items) result (read_body threads 2 [] 0 [] (map (λ w. w.now) lines.now)) }
+    requires long { length bytes.now < 2 ^ 63 }
+    ensures value { Gives (λ v. v.items) result (read_body threads 2 [] 0 [] (lines bytes.now)) }
     ensures order { IfOk result (λ v. AreInOrder threads 2 0 v.items) }
 {
     let mut variables = Variables::new(alloc);
     let mut read = Vec::new(alloc);
     let mut pixels = 0u64;
     let mut number = 2u64;
-    'each: for line in lines {
+    let mut rest = bytes;
+    'each: while let Some((line, more)) = cut_line(rest) {
         next_line(
             alloc,
             threads,
             number,
-            *line,
+            line,
             &mut variables,
             &mut pixels,
             &mut read,
         )?;
         number += 1;
+        rest = more;
     }
     Ok(read)
 }
@@ -127,17 +131,13 @@ impl Trace {
         requires { length bytes.now < 2 ^ 60 }
         ensures { Gives (λ t. t) result (trace bytes.now) }
     {
-        let Ok(parts) = lines(alloc, bytes.as_slice()) else {
-            return Err(TraceError::NoMemory);
+        let Some((first, rest)) = cut_line(bytes.as_slice()) else {
+            return Err(TraceError::Malformed {
+                line: 1,
+                reason: Reason::Header,
+            });
         };
-        let header_defect = TraceError::Malformed {
-            line: 1,
-            reason: Reason::Header,
-        };
-        let [first, rest @ ..] = parts.as_slice() else {
-            return Err(header_defect);
-        };
-        let Ok(words) = words(alloc, *first) else {
+        let Ok(words) = words(alloc, first) else {
             return Err(TraceError::NoMemory);
         };
         match header_of(&words) {
