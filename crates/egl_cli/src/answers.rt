@@ -1,5 +1,5 @@
 //! What the program says to the bytes of its input.
-ghost use Rattle.std.specs.Prelude.{◌≡◌, ℕ, ◌<◌, ◌^◌, ◌++◌, length, IfOk, OnOk};
+ghost use Rattle.std.specs.Prelude.{◌≡◌, IfOk};
 ghost use Rattle.egl_cli.specs.Answers.{reason_name, malformed_text, trace_answer};
 
 use crate::recordings::recording;
@@ -49,7 +49,6 @@ fn malformed_text(alloc: Global, line: u64, reason: Reason) -> Result<Bytes, NoM
 /// What is said to bytes within the limit.
 #[tactic(auto, using(crate::proofs::AnswerLaws::answer_ok, crate::proofs::AnswerLaws::answer_malformed))]
 pub fn trace_answer(alloc: Global, bytes: &Bytes) -> Result<Answer, NoMemory>
-    requires { length bytes.now < 2 ^ 60 }
     ensures { IfOk result (λ a. a ≡ trace_answer bytes.now) }
 {
     match Trace::read(alloc, bytes) {

@@ -1,5 +1,5 @@
 //! Whole traces.
-ghost use Rattle.std.specs.Prelude.{◌≡◌, ℕ, ◌+◌, ◌<◌, ◌≤◌, ◌^◌, [], ◌∷◌, ◌++◌, length, map, true, IfOk, OnOk, option_to_list};
+ghost use Rattle.std.specs.Prelude.{◌≡◌, ℕ, ◌+◌, ◌<◌, ◌≤◌, [], ◌∷◌, ◌++◌, length, map, true, IfOk, OnOk, option_to_list};
 ghost use Rattle.std.specs.Option.{option_map};
 ghost use Rattle.std.specs.Str.Lines.{lines};
 ghost use Rattle.trace_reader.specs.Words.{words as words_in};
@@ -98,8 +98,7 @@ fn next_line<'a>(
 
 /// Reads the lines behind the header, each as it is cut off.
 fn read_lines(alloc: Global, threads: u32, bytes: &[u8]) -> Result<Vec<Line>, TraceError>
-    requires some { 0 < threads }
-    requires long { length bytes.now < 2 ^ 63 }
+    requires { 0 < threads }
     ensures value { Gives (λ v. v.items) result (read_body threads 2 [] 0 [] (lines bytes.now)) }
     ensures order { IfOk result (λ v. AreInOrder threads 2 0 v.items) }
 {
@@ -128,7 +127,6 @@ impl Trace {
     /// Reads a trace: the one that the bytes spell, or its first defective line and what is wrong with that first.
     #[tactic(auto, unfolding(crate::specs::Grammar::trace))]
     pub fn read(alloc: Global, bytes: &Bytes) -> Result<Trace, TraceError>
-        requires { length bytes.now < 2 ^ 60 }
         ensures { Gives (λ t. t) result (trace bytes.now) }
     {
         let Some((first, rest)) = cut_line(bytes.as_slice()) else {
