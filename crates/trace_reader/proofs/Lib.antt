@@ -5,3 +5,9 @@ pub mod ListLaws
 pub mod ArgumentLaws
 pub mod BodyLaws
 pub mod OrderLaws
+pub mod StepLaws
+pub mod DefectLaws
+pub mod FrontLaws
+pub mod NumeralLaws
+pub mod AttributeLaws
+pub mod SpellingLaws

@@ -13,3 +13,4 @@ pub mod Body
 pub mod Reading
 pub mod Grammar
 pub mod Order
+pub mod Laws

@@ -6,6 +6,7 @@ mod body;
 mod call_names;
 mod header;
 mod hexadecimals;
+pub mod laws;
 mod line_cuts;
 mod lists;
 mod number_words;
