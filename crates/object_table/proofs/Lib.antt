@@ -1,3 +1,4 @@
 mod Places
+pub mod CountLaws
 pub mod LevelLaws
 pub mod SweepLaws

@@ -1,5 +1,5 @@
 //! How many objects there are, and their bytes.
-ghost use Rattle.std.specs.Prelude.{◌≡◌, ◌≤◌, ◌^◌, length};
+ghost use Rattle.std.specs.Prelude.{◌≡◌, ◌*◌, ◌≤◌, ◌^◌, length};
 ghost use Rattle.driver_objects.specs.Objects.{kind_of};
 ghost use Rattle.egl_model.specs.Sweep.{census_of, bytes_in, count_of, live_bytes, one_of};
 ghost use Rattle.std.specs.Option.{option_map_or};
@@ -46,10 +46,10 @@ fn count_in(kind: ObjectKind, objects: &[Option<Object>]) -> u64
 }
 
 #[tactic(auto, unfolding(egl_model::specs::Sweep::live_bytes))]
-fn live_bytes_in(objects: &[Option<Object>]) -> u64
+pub(crate) fn live_bytes_in(objects: &[Option<Object>]) -> u64
     requires { length objects.now ≤ 4294967295 }
     ensures value { result ≡ live_bytes objects.now }
-    ensures few { result ≤ 2 ^ 56 }
+    ensures few { result ≤ 16777216 * length objects.now }
 {
     let mut sum = 0;
     'each: for object in objects {
@@ -66,12 +66,12 @@ impl ObjectTable {
         count_in(kind, self.objects.as_slice())
     }
 
-    /// The live bytes: those of all pixels.
+    /// The live bytes: those of all pixels. They are kept as a sum.
     pub fn live_bytes(&self) -> u64
         ensures value { result ≡ live_bytes self.now.objects }
         ensures few { result ≤ 2 ^ 56 }
     {
-        live_bytes_in(self.objects.as_slice())
+        self.bytes
     }
 
     /// How many contexts, groups, textures, buffers, renderbuffers, framebuffers, surfaces, storages, images and syncs there are, and then the live bytes.

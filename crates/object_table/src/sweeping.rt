@@ -8,6 +8,7 @@ ghost use Rattle.driver_objects.specs.Objects.{edges_of};
 ghost use Rattle.egl_model.specs.Sweep.{bound_object, held_by, roots_of, edges_at, swept};
 ghost use Rattle.object_table.specs.Levels.{lower, lowered, AreLevels, kept};
 
+use crate::counts::live_bytes_in;
 use crate::table::ObjectTable;
 use driver_objects::Object;
 use egl_model::{Bound, Handle, ThreadRecord};
@@ -199,5 +200,6 @@ impl ObjectTable {
         ensures { self.new ≡ record self.old { objects = swept (roots_of handles.now threads.now) self.old.objects } }
     {
         sweep_objects(&mut self.objects, &mut self.levels, handles, threads);
+        self.bytes = live_bytes_in(self.objects.as_slice());
     }
 }

@@ -14,18 +14,20 @@ pub struct ObjectTable {
     pub(crate) objects: Vec<Option<Object>>,
     // scratch for the sweep, one for each object
     pub(crate) levels: Vec<u8>,
+    // those of all objects
+    pub(crate) bytes: u64,
     spare: u32,
 }
 
 impl Model for ObjectTable {
     ghost use Rattle.std.specs.Prelude.{vec_len, vec_capacity};
-    ghost use Rattle.object_table.specs.Tables.{TableValue, HasRoom};
+    ghost use Rattle.object_table.specs.Tables.{TableValue, HasRoom, IsCounted};
 
     ghost Value = { TableValue };
 
     ghost view = { λ t. record { objects = t.objects.items; spare = t.spare } };
 
-    ghost invariant = { λ t. HasRoom (vec_len t.objects) (vec_len t.levels) t.spare (vec_capacity t.objects) (vec_capacity t.levels) };
+    ghost invariant = { λ t. HasRoom (vec_len t.objects) (vec_len t.levels) t.spare (vec_capacity t.objects) (vec_capacity t.levels) × IsCounted t.objects.items t.bytes };
 }
 
 const LAST_NUMBER: u64 = 4_294_967_295;
@@ -38,6 +40,7 @@ impl ObjectTable {
         ObjectTable {
             objects: Vec::new(alloc),
             levels: Vec::new(alloc),
+            bytes: 0,
             spare: 0,
         }
     }
@@ -74,6 +77,7 @@ impl ObjectTable {
         requires { 0 < self.old.spare }
         ensures { self.new ≡ record { objects = self.old.objects ++ Some object ∷ []; spare = self.old.spare - 1 } }
     {
+        self.bytes += object.bytes();
         self.objects.push_reserved(Some(object));
         self.levels.push_reserved(0);
         self.spare -= 1;
