@@ -1,15 +1,15 @@
 -- Levels, walk by walk.
-use Rattle.std.proofs.Common.{◌≡◌, ◌≢◌, ℕ, zero, suc, ◌+◌, ◌<◌, ◌≤◌, Bool, true, false, ◌||◌, ◌&&◌, List, [], ◌∷◌, ◌++◌, length, length-set, get_or, set, refl, sym, ap, subst, ◌∙◌, arith, inl, inr, ◌⊎◌, add-one}
+use Rattle.std.proofs.Common.{◌≡◌, ◌≢◌, ℕ, zero, suc, ◌+◌, ◌<◌, ◌≤◌, Bool, true, false, ◌||◌, ◌&&◌, List, [], ◌∷◌, ◌++◌, length, length-set, get_or, set, take, refl, sym, ap, subst, ◌∙◌, arith, inl, inr, ◌⊎◌, add-one}
 use Rattle.std.proofs.lemmas.Bool.{or_cases, cases_lt, cases_eq, cond-true, cond-false, lt-ltb, le-ltb, le-leb, lt-leb, eq-eqb, ne_eqb, and_right}
-use Rattle.std.proofs.lemmas.List.{get_or-set_same, get_or-set_other, get_or_default}
-use Rattle.std.proofs.lemmas.List.Folds.{list_any-append}
+use Rattle.std.proofs.lemmas.List.{get_or_past, get_or-set_same, get_or-set_other, get_or_default}
+use Rattle.std.proofs.lemmas.List.Folds.{list_any-append, list_any_more}
 use Rattle.std.specs.Prelude.{◌==◌, nat_le}
 use Rattle.std.specs.List.{flat_map, list_any, range_with_len}
 use Rattle.egl_model.specs.Graph.{is_in, marked}
 use Rattle.egl_model.proofs.GraphLaws.{grows, both, marked_more, or_first, or_second}
 use Rattle.object_table.specs.Levels.{lower, lowered, AreLevels}
 
-or_none : (b : Bool) → (b || false) ≡ b
+pub or_none : (b : Bool) → (b || false) ≡ b
 or_none true = refl
 or_none false = refl
 
@@ -124,14 +124,14 @@ levels_of_roots roots edges ls all = let l = length-lowered 0 ls roots in record
   others = λ n w h. lowered_above 0 ls roots n (omega arith) h ∙ all n;
 }
 
--- ---- a walk: from each number below m that has a level its edges were followed
-pub record Walking (roots : List ℕ) (edges : ℕ → List ℕ) (count depth : ℕ) (ls : List ℕ) (m : ℕ) : Type 0 where
+-- ---- a walk: from each of the numbers so far that has a level its edges were followed
+pub record Walking (roots : List ℕ) (edges : ℕ → List ℕ) (count depth : ℕ) (ls passed : List ℕ) : Type 0 where
   pub long : length ls ≡ count
   pub fewest : (n j : ℕ) → n < count → j ≤ depth → nat_le (get_or ls n 255) j ≡ is_in n (marked roots edges j)
-  pub next : (n : ℕ) → n < count → nat_le (get_or ls n 255) (depth + 1) ≡ (is_in n (marked roots edges depth) || list_any (λ k. is_in n (edges k) && is_in k (marked roots edges depth)) (range_with_len 0 m))
+  pub next : (n : ℕ) → n < count → nat_le (get_or ls n 255) (depth + 1) ≡ (is_in n (marked roots edges depth) || list_any (λ k. is_in n (edges k) && is_in k (marked roots edges depth)) passed)
   pub others : (n : ℕ) → n < count → depth + 1 < get_or ls n 255 → get_or ls n 255 ≡ 255
 
-pub walk_begins : (roots : List ℕ) (edges : ℕ → List ℕ) (count depth : ℕ) (ls : List ℕ) → depth < 4 → length ls ≡ count → AreLevels roots edges depth ls → Walking roots edges count depth ls 0
+pub walk_begins : (roots : List ℕ) (edges : ℕ → List ℕ) (count depth : ℕ) (ls : List ℕ) → depth < 4 → length ls ≡ count → AreLevels roots edges depth ls → Walking roots edges count depth ls []
 walk_begins roots edges count depth ls d l a = record {
   long = l;
   fewest = λ n j w h. a.fewest n j (omega arith) h;
@@ -144,48 +144,57 @@ walk_begins roots edges count depth ls d l a = record {
   others = λ n w h. a.others n (omega arith) (omega arith);
 }
 
-any_range_more : (p : ℕ → Bool) (a n : ℕ) → list_any p (range_with_len a (suc n)) ≡ (list_any p (range_with_len a n) || p (a + n))
-any_range_more p a zero = let e : a + 0 ≡ a = omega arith in rw e (or_none (p a))
-any_range_more p a (suc n) =
-    let e : (a + 1) + n ≡ a + suc n = omega arith in
-    ap (λ b. p a || b) (any_range_more p (a + 1) n ∙ ap (λ i. list_any p (range_with_len (a + 1) n) || p i) e)
-    ∙ sym (or_joined (p a) (list_any p (range_with_len (a + 1) n)) (p (a + suc n)))
+-- a list of one more number
+pub record OneMore (passed : List ℕ) (m : ℕ) (more : List ℕ) : Type 0 where
+  pub any : (p : ℕ → Bool) → list_any p more ≡ (list_any p passed || p m)
 
-any_below_more : (p : ℕ → Bool) (m : ℕ) → list_any p (range_with_len 0 (m + 1)) ≡ (list_any p (range_with_len 0 m) || p m)
-any_below_more p m = let e : 0 + m ≡ m = omega arith in rw add-one (any_range_more p 0 m ∙ ap (λ i. list_any p (range_with_len 0 m) || p i) e)
+pub one_more : (xs : List ℕ) (i d : ℕ) → i < length xs → OneMore (take i xs) (get_or xs i d) (take (i + 1) xs)
+one_more xs i d h = record { any = λ p. list_any_more p xs i d h }
 
-pub walk_follows : (roots : List ℕ) (edges : ℕ → List ℕ) (count depth : ℕ) (ls : List ℕ) (m : ℕ) → m < count → get_or ls m 255 ≤ depth → Walking roots edges count depth ls m → Walking roots edges count depth (lowered (depth + 1) ls (edges m)) (m + 1)
-walk_follows roots edges count depth ls m r low s =
+-- what has a level has a place
+has_place : (count depth : ℕ) (ls : List ℕ) (m : ℕ) → length ls ≡ count → depth < 4 → get_or ls m 255 ≤ depth → m < count
+has_place count depth ls m l d low = elim (cases_lt m count) [
+  | inl h ↦ h
+  | inr h ↦ let e = get_or_past ls m 255 (omega arith) in absurd (omega arith)
+]
+
+pub walk_follows : (roots : List ℕ) (edges : ℕ → List ℕ) (count depth : ℕ) (ls passed : List ℕ) (m : ℕ) (more : List ℕ) → OneMore passed m more → depth < 4 → get_or ls m 255 ≤ depth → Walking roots edges count depth ls passed → Walking roots edges count depth (lowered (depth + 1) ls (edges m)) more
+walk_follows roots edges count depth ls passed m more o d low s =
     let l = s.long in
     let k = length-lowered (depth + 1) ls (edges m) in
-    let here : is_in m (marked roots edges depth) ≡ true = sym (s.fewest m depth r (omega arith)) ∙ le-leb _ _ low in
+    let here : is_in m (marked roots edges depth) ≡ true = sym (s.fewest m depth (has_place count depth ls m l d low) (omega arith)) ∙ le-leb _ _ low in
     record {
       long = omega arith;
       fewest = λ n j w h. lowered_below (depth + 1) ls (edges m) n j (omega arith) (omega arith) ∙ s.fewest n j w h;
       next = λ n w. lowered_at (depth + 1) ls (edges m) n (omega arith)
           ∙ ap (λ b. b || is_in n (edges m)) (s.next n w)
-          ∙ or_joined (is_in n (marked roots edges depth)) (list_any (λ k. is_in n (edges k) && is_in k (marked roots edges depth)) (range_with_len 0 m)) (is_in n (edges m))
+          ∙ or_joined (is_in n (marked roots edges depth)) (list_any (λ k. is_in n (edges k) && is_in k (marked roots edges depth)) passed) (is_in n (edges m))
           ∙ ap (λ b. is_in n (marked roots edges depth) || b)
-          (ap (λ b. list_any (λ k. is_in n (edges k) && is_in k (marked roots edges depth)) (range_with_len 0 m) || b) (and_whole _ _ here)
-          ∙ sym (any_below_more (λ k. is_in n (edges k) && is_in k (marked roots edges depth)) m));
+          (ap (λ b. list_any (λ k. is_in n (edges k) && is_in k (marked roots edges depth)) passed || b) (and_whole _ _ here)
+          ∙ sym (o.any (λ k. is_in n (edges k) && is_in k (marked roots edges depth))));
       others = λ n w h.
           let e : get_or (lowered (depth + 1) ls (edges m)) n 255 ≡ get_or ls n 255 = lowered_above (depth + 1) ls (edges m) n (omega arith) h in
           e ∙ s.others n w (omega arith);
     }
 
-pub walk_passes : (roots : List ℕ) (edges : ℕ → List ℕ) (count depth : ℕ) (ls : List ℕ) (m : ℕ) → m < count → depth < get_or ls m 255 → Walking roots edges count depth ls m → Walking roots edges count depth ls (m + 1)
-walk_passes roots edges count depth ls m r high s =
-    let here : is_in m (marked roots edges depth) ≡ false = sym (s.fewest m depth r (omega arith)) ∙ lt-leb _ _ high in
-    record {
-      long = s.long;
-      fewest = s.fewest;
-      next = λ n w. s.next n w
-          ∙ ap (λ b. is_in n (marked roots edges depth) || b)
-          (sym (or_none _)
-          ∙ ap (λ b. list_any (λ k. is_in n (edges k) && is_in k (marked roots edges depth)) (range_with_len 0 m) || b) (sym (and_right (is_in n (edges m)) _ here))
-          ∙ sym (any_below_more (λ k. is_in n (edges k) && is_in k (marked roots edges depth)) m));
-      others = s.others;
-    }
+-- what has no level, or no place, leads nowhere
+leads_nowhere : (roots : List ℕ) (edges : ℕ → List ℕ) (count depth : ℕ) (ls passed : List ℕ) (m n : ℕ) → ((m : ℕ) → count ≤ m → edges m ≡ []) → depth < get_or ls m 255 → Walking roots edges count depth ls passed → (is_in n (edges m) && is_in m (marked roots edges depth)) ≡ false
+leads_nowhere roots edges count depth ls passed m n none high s = elim (cases_lt m count) [
+  | inl h ↦ and_right (is_in n (edges m)) _ (sym (s.fewest m depth h (omega arith)) ∙ lt-leb _ _ high)
+  | inr h ↦ ap (λ xs. is_in n xs && is_in m (marked roots edges depth)) (none m h)
+]
+
+pub walk_passes : (roots : List ℕ) (edges : ℕ → List ℕ) (count depth : ℕ) (ls passed : List ℕ) (m : ℕ) (more : List ℕ) → ((m : ℕ) → count ≤ m → edges m ≡ []) → OneMore passed m more → depth < get_or ls m 255 → Walking roots edges count depth ls passed → Walking roots edges count depth ls more
+walk_passes roots edges count depth ls passed m more none o high s = record {
+  long = s.long;
+  fewest = s.fewest;
+  next = λ n w. s.next n w
+      ∙ ap (λ b. is_in n (marked roots edges depth) || b)
+      (sym (or_none _)
+      ∙ ap (λ b. list_any (λ k. is_in n (edges k) && is_in k (marked roots edges depth)) passed || b) (sym (leads_nowhere roots edges count depth ls passed m n none high s))
+      ∙ sym (o.any (λ k. is_in n (edges k) && is_in k (marked roots edges depth))));
+  others = s.others;
+}
 
 root_marked : (roots : List ℕ) (edges : ℕ → List ℕ) (k n : ℕ) → is_in n roots ≡ true → is_in n (marked roots edges k) ≡ true
 unfolding marked
@@ -207,15 +216,19 @@ step_marked roots edges count k n none =
       | inr b ↦ or_second _ _ b
     ])
 
-pub walk_ends : (roots : List ℕ) (edges : ℕ → List ℕ) (count depth : ℕ) (ls : List ℕ) (m : ℕ) → ((m : ℕ) → count ≤ m → edges m ≡ []) → m ≡ count → Walking roots edges count depth ls m → AreLevels roots edges (depth + 1) ls
-walk_ends roots edges count depth ls m none end s =
+-- what is followed from these numbers is followed from all places
+abbrev pub FollowsAll : List ℕ → (ℕ → List ℕ) → ℕ → ℕ → List ℕ → Type 0
+FollowsAll roots edges count depth passed = (n : ℕ) → list_any (λ k. is_in n (edges k) && is_in k (marked roots edges depth)) passed ≡ list_any (λ k. is_in n (edges k) && is_in k (marked roots edges depth)) (range_with_len 0 count)
+
+pub walk_ends : (roots : List ℕ) (edges : ℕ → List ℕ) (count depth : ℕ) (ls passed : List ℕ) → ((m : ℕ) → count ≤ m → edges m ≡ []) → FollowsAll roots edges count depth passed → Walking roots edges count depth ls passed → AreLevels roots edges (depth + 1) ls
+walk_ends roots edges count depth ls passed none all s =
     let l = s.long in
     record {
       fewest = λ n j w h. elim (cases_lt depth j) [
         | inl up ↦ let e : j ≡ depth + 1 = omega arith in
             rw (e, add-one) (subst (λ (x : ℕ). nat_le (get_or ls n 255) x ≡ is_in n (marked roots edges x)) (add-one depth)
             (s.next n (omega arith)
-            ∙ ap (λ i. is_in n (marked roots edges depth) || list_any (λ m. is_in n (edges m) && is_in m (marked roots edges depth)) (range_with_len 0 i)) end
+            ∙ ap (λ b. is_in n (marked roots edges depth) || b) (all n)
             ∙ step_marked roots edges count depth n none
             ∙ ap (λ i. is_in n (marked roots edges i)) (sym (add-one depth))))
         | inr down ↦ s.fewest n j (omega arith) down

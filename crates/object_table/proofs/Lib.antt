@@ -1,4 +1,5 @@
 mod Places
 pub mod CountLaws
 pub mod LevelLaws
+pub mod LiveLaws
 pub mod SweepLaws

@@ -1,5 +1,6 @@
 //! How many objects there are, and their bytes.
-ghost use Rattle.std.specs.Prelude.{◌≡◌, ◌*◌, ◌≤◌, ◌^◌, length};
+ghost use Rattle.std.specs.Prelude.{◌≡◌, ◌*◌, ◌≤◌, ◌^◌, length, slice_index_or, None};
+ghost use Rattle.std.specs.List.{sum_by};
 ghost use Rattle.driver_objects.specs.Objects.{kind_of};
 ghost use Rattle.egl_model.specs.Sweep.{census_of, bytes_in, count_of, live_bytes, one_of};
 ghost use Rattle.std.specs.Option.{option_map_or};
@@ -34,26 +35,45 @@ fn bytes_in(object: &Option<Object>) -> u64
     }
 }
 
-#[tactic(auto, unfolding(egl_model::specs::Sweep::count_of))]
-fn count_in(kind: ObjectKind, objects: &[Option<Object>]) -> u64
-    ensures { result ≡ count_of kind objects.now }
+fn one_at(kind: ObjectKind, objects: &[Option<Object>], n: u32) -> u64
+    ensures value { result ≡ option_map_or (λ x. one_of kind (kind_of x)) (slice_index_or objects.now n None) 0 }
+    ensures few { result ≤ 1 }
+{
+    match objects.get(n as usize) {
+        Some(object) => one_in(kind, object),
+        None => 0,
+    }
+}
+
+fn bytes_at(objects: &[Option<Object>], n: u32) -> u64
+    ensures value { result ≡ bytes_in (slice_index_or objects.now n None) }
+    ensures few { result ≤ 16777216 }
+{
+    match objects.get(n as usize) {
+        Some(object) => bytes_in(object),
+        None => 0,
+    }
+}
+
+fn count_in(kind: ObjectKind, objects: &[Option<Object>], live: &[u32]) -> u64
+    ensures { result ≡ sum_by (λ n. option_map_or (λ x. one_of kind (kind_of x)) (slice_index_or objects.now n None) 0) live.now }
 {
     let mut count = 0;
-    'each: for object in objects {
-        count += one_in(kind, object);
+    'each: for n in live {
+        count += one_at(kind, objects, *n);
     }
     count
 }
 
-#[tactic(auto, unfolding(egl_model::specs::Sweep::live_bytes))]
-pub(crate) fn live_bytes_in(objects: &[Option<Object>]) -> u64
-    requires { length objects.now ≤ 4294967295 }
-    ensures value { result ≡ live_bytes objects.now }
-    ensures few { result ≤ 16777216 * length objects.now }
+/// The bytes of the objects of these numbers.
+pub(crate) fn bytes_of(objects: &[Option<Object>], live: &[u32]) -> u64
+    requires { length live.now ≤ 4294967295 }
+    ensures value { result ≡ sum_by (λ n. bytes_in (slice_index_or objects.now n None)) live.now }
+    ensures few { result ≤ 16777216 * length live.now }
 {
     let mut sum = 0;
-    'each: for object in objects {
-        sum += bytes_in(object);
+    'each: for n in live {
+        sum += bytes_at(objects, *n);
     }
     sum
 }
@@ -63,7 +83,7 @@ impl ObjectTable {
     pub fn count(&self, kind: ObjectKind) -> u64
         ensures { result ≡ count_of kind self.now.objects }
     {
-        count_in(kind, self.objects.as_slice())
+        count_in(kind, self.objects.as_slice(), self.live.as_slice())
     }
 
     /// The live bytes: those of all pixels. They are kept as a sum.

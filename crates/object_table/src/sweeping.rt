@@ -2,13 +2,14 @@
 //!
 //! Levels say by how few references each number is reached: 0 for what a handle or a thread holds. They are kept in an array of the caller's, so that a sweep takes no memory, and each object's references are followed once a walk.
 ghost use Rattle.std.specs.Prelude.{◌≡◌, ℕ, ◌+◌, ◌<◌, ◌≤◌, List, length, map, nat_le, slice_index_or, slice_set, vec_capacity, None};
-ghost use Rattle.std.specs.List.{flat_map};
+ghost use Rattle.std.specs.List.{filter, flat_map};
 ghost use Rattle.std.specs.Option.{option_to_list};
 ghost use Rattle.driver_objects.specs.Objects.{edges_of};
 ghost use Rattle.egl_model.specs.Sweep.{bound_object, held_by, roots_of, edges_at, swept};
 ghost use Rattle.object_table.specs.Levels.{lower, lowered, AreLevels, kept};
+ghost use Rattle.object_table.specs.Live.{live_numbers};
 
-use crate::counts::live_bytes_in;
+use crate::counts::bytes_of;
 use crate::table::ObjectTable;
 use driver_objects::Object;
 use egl_model::{Bound, Handle, ThreadRecord};
@@ -95,25 +96,35 @@ fn mark_edges(levels: &mut [u8], object: &Object, level: u8)
 
 /// The same for the object of a number, if there is one.
 #[tactic(auto, unfolding(egl_model::specs::Sweep::edges_at))]
-fn mark_edges_at(levels: &mut [u8], objects: &[Option<Object>], n: usize, level: u8)
-    requires { n < length objects.now }
+fn mark_edges_at(levels: &mut [u8], objects: &[Option<Object>], n: u32, level: u8)
     ensures { levels.new ≡ lowered level levels.old (edges_at objects.now n) }
 {
-    if let Some(object) = &objects[n] {
+    if let Some(Some(object)) = objects.get(n as usize) {
         mark_edges(levels, object, level);
     }
 }
 
+/// The level of a number; numbers past the end are unreached.
+fn level_at(levels: &[u8], n: u32) -> u8
+    ensures { result ≡ slice_index_or levels.now n 255 }
+{
+    match levels.get(n as usize) {
+        Some(level) => *level,
+        None => UNREACHED,
+    }
+}
+
 /// Levels up to `depth` become levels up to `depth + 1`: references are followed from each object that has a level.
-fn walk(levels: &mut [u8], objects: &[Option<Object>], depth: u8)
+fn walk(levels: &mut [u8], objects: &[Option<Object>], live: &[u32], depth: u8)
     requires few { depth < 4 }
     requires long { length levels.old ≡ length objects.now }
+    requires live { live.now ≡ live_numbers objects.now }
     ensures long { length levels.new ≡ length levels.old }
     ensures levels { (roots : List ℕ) → AreLevels roots (edges_at objects.now) depth levels.old → AreLevels roots (edges_at objects.now) (depth + 1) levels.new }
 {
-    'each: for n in 0..objects.len() {
-        if levels[n] <= depth {
-            mark_edges_at(levels, objects, n, depth + 1);
+    'each: for n in live {
+        if level_at(levels, *n) <= depth {
+            mark_edges_at(levels, objects, *n, depth + 1);
         }
     }
 }
@@ -132,66 +143,84 @@ fn mark_roots(levels: &mut [u8], handles: &[Handle], threads: &[ThreadRecord])
 fn find_levels(
     levels: &mut [u8],
     objects: &[Option<Object>],
+    live: &[u32],
     handles: &[Handle],
     threads: &[ThreadRecord],
 )
     requires long { length levels.old ≡ length objects.now }
+    requires live { live.now ≡ live_numbers objects.now }
     ensures long { length levels.new ≡ length levels.old }
     ensures levels { AreLevels (roots_of handles.now threads.now) (edges_at objects.now) 4 levels.new }
 {
     mark_roots(levels, handles, threads);
     'each: for depth in 0..DEEPEST {
-        walk(levels, objects, depth);
+        walk(levels, objects, live, depth);
     }
 }
 
-/// Whether a level is that of something reached.
-fn is_reached(level: u8) -> bool
-    ensures { result ≡ nat_le level 4 }
+/// Whether a number is that of something reached.
+fn is_reached(levels: &[u8], n: u32) -> bool
+    ensures { result ≡ nat_le (slice_index_or levels.now n 255) 4 }
 {
-    level <= DEEPEST
+    level_at(levels, n) <= DEEPEST
 }
 
 /// Drops what stands at a number.
-fn drop_at(objects: &mut Vec<Option<Object>>, n: usize)
-    requires { n < length objects.old.items }
+fn drop_at(objects: &mut Vec<Option<Object>>, n: u32)
     ensures objects { objects.new.items ≡ slice_set objects.old.items n None }
     ensures capacity { vec_capacity objects.new ≡ vec_capacity objects.old }
 {
-    objects[n] = None;
+    if (n as usize) < objects.len() {
+        objects[n as usize] = None;
+    }
 }
 
 /// Drops the objects that aren't reached.
-fn drop_unreached(objects: &mut Vec<Option<Object>>, levels: &[u8])
-    requires long { length levels.now ≡ length objects.old.items }
+fn drop_unreached(objects: &mut Vec<Option<Object>>, live: &[u32], levels: &[u8])
+    requires live { live.now ≡ live_numbers objects.old.items }
     ensures objects { objects.new.items ≡ kept levels.now objects.old.items }
     ensures capacity { vec_capacity objects.new ≡ vec_capacity objects.old }
 {
-    'each: for n in 0..levels.len() {
-        if !is_reached(levels[n]) {
-            drop_at(objects, n);
+    'each: for n in live {
+        if !is_reached(levels, *n) {
+            drop_at(objects, *n);
         }
     }
 }
 
+/// Keeps the numbers of what is reached.
+fn keep_reached(live: &mut Vec<u32>, levels: &[u8])
+    ensures numbers { live.new.items ≡ filter (λ n. nat_le (slice_index_or levels.now n 255) 4) live.old.items }
+    ensures fewer { length live.new.items ≤ length live.old.items }
+    ensures capacity { vec_capacity live.new ≡ vec_capacity live.old }
+{
+    live.retain(|n| is_reached(levels, *n));
+}
+
 /// Drops every object that no chain of references reaches from a handle or from what a thread holds.
 ///
-/// `levels` is room to work in, one place for each object: what it held before doesn't matter. Takes no memory, and time in proportion to the places, the references, the handles and the threads.
-pub(crate) fn sweep_objects(
+/// `live` has the numbers of the objects. `levels` is room to work in, one place for each object: what it held before doesn't matter. Takes no memory, and time in proportion to the objects that there are, their references, the handles and the threads, and a byte for each place.
+fn sweep_objects(
     objects: &mut Vec<Option<Object>>,
+    live: &mut Vec<u32>,
     levels: &mut Vec<u8>,
     handles: &[Handle],
     threads: &[ThreadRecord],
 )
     requires long { length levels.old.items ≡ length objects.old.items }
+    requires live { live.old.items ≡ live_numbers objects.old.items }
     ensures objects { objects.new.items ≡ swept (roots_of handles.now threads.now) objects.old.items }
+    ensures live { live.new.items ≡ live_numbers objects.new.items }
+    ensures fewer { length live.new.items ≤ length live.old.items }
     ensures levels { length levels.new.items ≡ length levels.old.items }
     ensures capacity { vec_capacity objects.new ≡ vec_capacity objects.old }
+    ensures live_capacity { vec_capacity live.new ≡ vec_capacity live.old }
     ensures levels_capacity { vec_capacity levels.new ≡ vec_capacity levels.old }
 {
     let levels = levels.as_mut_slice();
-    find_levels(levels, objects, handles, threads);
-    drop_unreached(objects, levels);
+    find_levels(levels, objects, live, handles, threads);
+    drop_unreached(objects, live, levels);
+    keep_reached(live, levels);
 }
 
 impl ObjectTable {
@@ -199,7 +228,14 @@ impl ObjectTable {
     pub fn sweep(&mut self, handles: &[Handle], threads: &[ThreadRecord])
         ensures { self.new ≡ record self.old { objects = swept (roots_of handles.now threads.now) self.old.objects } }
     {
-        sweep_objects(&mut self.objects, &mut self.levels, handles, threads);
-        self.bytes = live_bytes_in(self.objects.as_slice());
+        sweep_objects(
+            &mut self.objects,
+            &mut self.live,
+            &mut self.levels,
+            handles,
+            threads,
+        );
+        let bytes = bytes_of(self.objects.as_slice(), self.live.as_slice());
+        self.bytes = bytes;
     }
 }

@@ -1,5 +1,5 @@
 //! Objects that are reached by some ways and not by others.
-use crate::sweeping::sweep_objects;
+use crate::ObjectTable;
 use context_state::ContextPart;
 use driver_objects::{BackedSurface, Context, Object, Storage};
 use egl_calls::{EglError, NoMemory};
@@ -29,40 +29,74 @@ fn storage(alloc: Global) -> Result<Object, NoMemory> {
     Ok(Object::Storage(Storage::new(Image::new(alloc, Format::Rgb565, 2, 2)?)))
 }
 
+/// A context with what it refers to, and two surfaces with their storages.
+fn filled(alloc: Global) -> Result<ObjectTable, NoMemory> {
+    let first = surface(alloc, 4)?;
+    let first_pixels = storage(alloc)?;
+    let second = surface(alloc, 6)?;
+    let second_pixels = storage(alloc)?;
+    let mut table = ObjectTable::new(alloc);
+    table.reserve(7)?;
+    table.push(context(1, 2));
+    table.push(Object::Group);
+    table.push(Object::Texture);
+    table.push(first);
+    table.push(first_pixels);
+    table.push(second);
+    table.push(second_pixels);
+    Ok(table)
+}
+
+fn thread(read: Option<Bound>) -> ThreadRecord {
+    ThreadRecord {
+        error: EglError::Success,
+        context: None,
+        draw: None,
+        read,
+        wait: None,
+    }
+}
+
 #[test]
 fn a_current_surface_stays_without_a_handle(rt: HostRuntime) -> Result<(), Fail> {
-    let alloc = rt.alloc();
-    let mut objects = Vec::new(alloc);
-    objects.push(Some(context(1, 2)))?;
-    objects.push(Some(Object::Group))?;
-    objects.push(Some(Object::Texture))?;
-    objects.push(Some(surface(alloc, 4)?))?;
-    objects.push(Some(storage(alloc)?))?;
-    objects.push(Some(surface(alloc, 6)?))?;
-    objects.push(Some(storage(alloc)?))?;
-    let mut levels = vec![in alloc; 7u8; 7]?;
+    let mut table = filled(rt.alloc())?;
+    assert_eq!(rt; table.census(), [1, 1, 1, 0, 0, 0, 2, 2, 0, 0, 16]);
     let handles = [Handle {
         number: 9,
         display: 1,
         kind: HandleKind::Context,
         object: 0,
     }];
-    let threads = [ThreadRecord {
-        error: EglError::Success,
-        context: None,
-        draw: None,
-        read: Some(Bound {
-            object: 3,
-            handle: 8,
-        }),
-        wait: None,
-    }];
-    assert_eq!(rt; levels.len(), objects.len());
-    sweep_objects(&mut objects, &mut levels, &handles, &threads);
-    let stays = [true, true, true, true, true, false, false];
-    assert_eq!(rt; objects.len(), stays.len());
-    for (n, object) in objects.iter().enumerate() {
-        assert_eq!(rt; object.is_some(), stays[n], "at {n}");
-    }
+    let reads = thread(Some(Bound {
+        object: 3,
+        handle: 8,
+    }));
+    table.sweep(&handles, &[reads]);
+    assert_eq!(rt; table.census(), [1, 1, 1, 0, 0, 0, 1, 1, 0, 0, 8]);
+    assert!(rt; table.context(0).is_some());
+    assert!(rt; table.surface(3).is_some());
+    assert!(rt; table.storage(4).is_some());
+    assert!(rt; table.surface(5).is_none());
+    assert!(rt; table.storage(6).is_none());
+    Ok(())
+}
+
+#[test]
+fn what_is_made_after_a_sweep_is_counted_with_what_stayed(rt: HostRuntime) -> Result<(), Fail> {
+    let alloc = rt.alloc();
+    let mut table = filled(alloc)?;
+    let reads = thread(Some(Bound {
+        object: 5,
+        handle: 8,
+    }));
+    table.sweep(&[], &[reads]);
+    assert_eq!(rt; table.census(), [0, 0, 0, 0, 0, 0, 1, 1, 0, 0, 8]);
+    let pixels = storage(alloc)?;
+    table.reserve(1)?;
+    table.push(pixels);
+    assert_eq!(rt; table.census(), [0, 0, 0, 0, 0, 0, 1, 2, 0, 0, 16]);
+    table.sweep(&[], &[thread(None)]);
+    assert_eq!(rt; table.census(), [0; 11]);
+    assert_eq!(rt; table.len(), 8);
     Ok(())
 }

@@ -14,7 +14,9 @@ pub struct ObjectTable {
     pub(crate) objects: Vec<Option<Object>>,
     // scratch for the sweep, one for each object
     pub(crate) levels: Vec<u8>,
-    // those of all objects
+    // the numbers of the objects that there are, rising
+    pub(crate) live: Vec<u32>,
+    // the bytes of all objects
     pub(crate) bytes: u64,
     spare: u32,
 }
@@ -27,7 +29,7 @@ impl Model for ObjectTable {
 
     ghost view = { λ t. record { objects = t.objects.items; spare = t.spare } };
 
-    ghost invariant = { λ t. HasRoom (vec_len t.objects) (vec_len t.levels) t.spare (vec_capacity t.objects) (vec_capacity t.levels) × IsCounted t.objects.items t.bytes };
+    ghost invariant = { λ t. HasRoom (vec_len t.objects) (vec_len t.levels) (vec_len t.live) t.spare (vec_capacity t.objects) (vec_capacity t.levels) (vec_capacity t.live) × IsCounted t.objects.items t.live.items t.bytes };
 }
 
 const LAST_NUMBER: u64 = 4_294_967_295;
@@ -40,6 +42,7 @@ impl ObjectTable {
         ObjectTable {
             objects: Vec::new(alloc),
             levels: Vec::new(alloc),
+            live: Vec::new(alloc),
             bytes: 0,
             spare: 0,
         }
@@ -68,6 +71,9 @@ impl ObjectTable {
         if self.levels.reserve(more as usize).is_err() {
             return Err(NoMemory);
         }
+        if self.live.reserve(more as usize).is_err() {
+            return Err(NoMemory);
+        }
         self.spare = more;
         Ok(())
     }
@@ -78,6 +84,7 @@ impl ObjectTable {
         ensures { self.new ≡ record { objects = self.old.objects ++ Some object ∷ []; spare = self.old.spare - 1 } }
     {
         self.bytes += object.bytes();
+        self.live.push_reserved(self.objects.len() as u32);
         self.objects.push_reserved(Some(object));
         self.levels.push_reserved(0);
         self.spare -= 1;

@@ -3,4 +3,4 @@ use Rattle.object_table.proofs.CountLaws.{counted_part}
 use Rattle.object_table.proofs.table.ObjectTable.note_error.Goals as goal
 
 pub invariant_of-self : goal.invariant_of-self
-invariant_of-self c = (search rules, counted_part _ _ _ _ _ c.note_error_at.ensures.objects c.self.invariant.1)
+invariant_of-self c = (search rules, counted_part _ _ _ _ _ _ c.note_error_at.ensures.objects c.self.invariant.1)
