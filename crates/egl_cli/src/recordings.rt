@@ -64,13 +64,42 @@ fn hex_digit(d: u8) -> u8
     if d < 10 { b'0' + d } else { 87 + d }
 }
 
-fn put_hex(out: &mut Bytes, bytes: &[u8]) -> Result<(), NoMemory>
+fn hex_byte(b: u8) -> [u8; 2]
+    ensures { result ≡ hex_byte b }
+{
+    [hex_digit(b / 16), hex_digit(b % 16)]
+}
+
+/// One byte at a time.
+fn put_hex_bytes(out: &mut Bytes, bytes: &[u8]) -> Result<(), NoMemory>
     ensures { OnOk result (out.new ≡ out.old ++ flat_map hex_byte bytes.now) }
 {
     'each: for b in bytes {
-        out.extend(&[hex_digit(*b / 16), hex_digit(*b % 16)])?;
+        out.extend(&hex_byte(*b))?;
     }
     Ok(())
+}
+
+/// Eight bytes at a time, since to extend the text costs more than a byte's digits.
+fn put_hex(out: &mut Bytes, bytes: &[u8]) -> Result<(), NoMemory>
+    ensures { OnOk result (out.new ≡ out.old ++ flat_map hex_byte bytes.now) }
+{
+    let mut rest = bytes;
+    'eights: while let [a, b, c, d, e, f, g, h, more @ ..] = rest {
+        let digits = [
+            hex_byte(*a),
+            hex_byte(*b),
+            hex_byte(*c),
+            hex_byte(*d),
+            hex_byte(*e),
+            hex_byte(*f),
+            hex_byte(*g),
+            hex_byte(*h),
+        ];
+        out.extend(digits.as_flattened())?;
+        rest = more;
+    }
+    put_hex_bytes(out, rest)
 }
 
 #[tactic(auto, unfolding(trace_model::specs::Recording::bytes_text))]
