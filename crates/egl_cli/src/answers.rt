@@ -39,7 +39,7 @@ fn malformed_text(alloc: Global, line: u64, reason: Reason) -> Result<Bytes, NoM
 {
     let mut out = Bytes::new(alloc);
     put_text(&mut out, "malformed ")?;
-    put_decimal(alloc, &mut out, line)?;
+    put_decimal(&mut out, line)?;
     put_text(&mut out, " ")?;
     put_text(&mut out, reason_name(reason))?;
     put_text(&mut out, "\n")?;

@@ -27,24 +27,17 @@ const SHOWN: [i64; 8] = [
 ];
 
 /// An attribute's value.
-fn put_attribute(
-    alloc: Global,
-    out: &mut Bytes,
-    configs: &Configs,
-    id: i64,
-    name: i64,
-) -> Result<(), NoMemory>
+fn put_attribute(out: &mut Bytes, configs: &Configs, id: i64, name: i64) -> Result<(), NoMemory>
     ensures { OnOk result (out.new ≡ out.old ++ attribute_text id name) }
 {
     match configs.attribute(id, name) {
-        Some(value) => put_number(alloc, out, value),
-        None => put_number(alloc, out, 0),
+        Some(value) => put_number(out, value),
+        None => put_number(out, 0),
     }
 }
 
 /// A space before each value.
 fn put_attributes(
-    alloc: Global,
     out: &mut Bytes,
     configs: &Configs,
     id: i64,
@@ -54,26 +47,26 @@ fn put_attributes(
 {
     'each: for name in names {
         put_text(out, " ")?;
-        put_attribute(alloc, out, configs, id, *name)?;
+        put_attribute(out, configs, id, *name)?;
     }
     Ok(())
 }
 
 /// The line of the config with an id.
 #[tactic(auto, using(crate::proofs::ConfigLaws::line_put))]
-fn put_line(alloc: Global, out: &mut Bytes, configs: &Configs, id: i64) -> Result<(), NoMemory>
+fn put_line(out: &mut Bytes, configs: &Configs, id: i64) -> Result<(), NoMemory>
     ensures { OnOk result (out.new ≡ out.old ++ line_with_id id) }
 {
-    put_attribute(alloc, out, configs, id, EGL_CONFIG_ID as i64)?;
-    put_attributes(alloc, out, configs, id, &SHOWN)?;
+    put_attribute(out, configs, id, EGL_CONFIG_ID as i64)?;
+    put_attributes(out, configs, id, &SHOWN)?;
     put_text(out, "\n")
 }
 
-fn put_lines(alloc: Global, out: &mut Bytes, configs: &Configs, ids: &[i64]) -> Result<(), NoMemory>
+fn put_lines(out: &mut Bytes, configs: &Configs, ids: &[i64]) -> Result<(), NoMemory>
     ensures { OnOk result (out.new ≡ out.old ++ flat_map line_with_id ids.now) }
 {
     'each: for id in ids {
-        put_line(alloc, out, configs, *id)?;
+        put_line(out, configs, *id)?;
     }
     Ok(())
 }
@@ -84,6 +77,6 @@ pub fn configs_text(alloc: Global) -> Result<Bytes, NoMemory>
     ensures { IfOk result (λ b. b ≡ configs_text) }
 {
     let mut out = Bytes::new(alloc);
-    put_lines(alloc, &mut out, &Configs::standard(), &IDS)?;
+    put_lines(&mut out, &Configs::standard(), &IDS)?;
     Ok(out)
 }

@@ -9,51 +9,46 @@ use egl_calls::{Bytes, Entry, Journal, NoMemory, Outcome};
 use std::alloc::Global;
 
 #[tactic(auto, unfolding(trace_model::specs::Recording::outcome_text))]
-fn put_outcome(alloc: Global, out: &mut Bytes, outcome: Outcome) -> Result<(), NoMemory>
+fn put_outcome(out: &mut Bytes, outcome: Outcome) -> Result<(), NoMemory>
     ensures { OnOk result (out.new ≡ out.old ++ outcome_text outcome) }
 {
     match outcome {
         Outcome::Done => put_text(out, "ok"),
-        Outcome::Egl(error) => put_number(alloc, out, i64::from(error.code())),
-        Outcome::Gl(error) => put_number(alloc, out, i64::from(error.code())),
+        Outcome::Egl(error) => put_number(out, i64::from(error.code())),
+        Outcome::Gl(error) => put_number(out, i64::from(error.code())),
         Outcome::Waiting => put_text(out, "waiting"),
         Outcome::InWait | Outcome::NoWait => put_text(out, ""),
     }
 }
 
 /// A comma before each number.
-fn put_more_numbers(alloc: Global, out: &mut Bytes, numbers: &[i64]) -> Result<(), NoMemory>
+fn put_more_numbers(out: &mut Bytes, numbers: &[i64]) -> Result<(), NoMemory>
     ensures { OnOk result (out.new ≡ out.old ++ flat_map (λ z. codes "," ++ number_text z) numbers.now) }
 {
     'each: for z in numbers {
         put_text(out, ",")?;
-        put_number(alloc, out, *z)?;
+        put_number(out, *z)?;
     }
     Ok(())
 }
 
 #[tactic(auto, using(crate::proofs::TextLaws::list_put))]
-fn put_some_numbers(
-    alloc: Global,
-    out: &mut Bytes,
-    first: i64,
-    more: &[i64],
-) -> Result<(), NoMemory>
+fn put_some_numbers(out: &mut Bytes, first: i64, more: &[i64]) -> Result<(), NoMemory>
     ensures { OnOk result (out.new ≡ out.old ++ list_text (first ∷ more.now)) }
 {
     put_text(out, "[")?;
-    put_number(alloc, out, first)?;
-    put_more_numbers(alloc, out, more)?;
+    put_number(out, first)?;
+    put_more_numbers(out, more)?;
     put_text(out, "]")
 }
 
 #[tactic(auto, using(crate::proofs::TextLaws::list_none))]
-fn put_list(alloc: Global, out: &mut Bytes, numbers: &[i64]) -> Result<(), NoMemory>
+fn put_list(out: &mut Bytes, numbers: &[i64]) -> Result<(), NoMemory>
     ensures { OnOk result (out.new ≡ out.old ++ list_text numbers.now) }
 {
     match numbers {
         [] => put_text(out, "[]"),
-        [first, more @ ..] => put_some_numbers(alloc, out, *first, more),
+        [first, more @ ..] => put_some_numbers(out, *first, more),
     }
 }
 
@@ -114,42 +109,42 @@ fn put_bytes(out: &mut Bytes, bytes: &[u8]) -> Result<(), NoMemory>
 
 /// An entry's line without its line feed.
 #[tactic(auto, unfolding(trace_model::specs::Recording::entry_line))]
-fn put_entry(alloc: Global, out: &mut Bytes, entry: &Entry) -> Result<(), NoMemory>
+fn put_entry(out: &mut Bytes, entry: &Entry) -> Result<(), NoMemory>
     ensures { OnOk result (out.new ≡ out.old ++ entry_line entry.now) }
 {
-    put_decimal(alloc, out, u64::from(entry.thread))?;
+    put_decimal(out, u64::from(entry.thread))?;
     put_text(out, " ")?;
-    put_decimal(alloc, out, entry.mark)?;
+    put_decimal(out, entry.mark)?;
     put_text(out, " ")?;
     let reply = &entry.reply;
-    put_outcome(alloc, out, reply.outcome)?;
+    put_outcome(out, reply.outcome)?;
     put_text(out, " ")?;
-    put_number(alloc, out, reply.value)?;
+    put_number(out, reply.value)?;
     put_text(out, " ")?;
-    put_list(alloc, out, reply.list.as_slice())?;
+    put_list(out, reply.list.as_slice())?;
     put_text(out, " ")?;
     put_bytes(out, reply.bytes.as_slice())
 }
 
 #[tactic(auto, unfolding(trace_model::specs::Recording::entry_lines))]
-fn put_entries(alloc: Global, out: &mut Bytes, entries: &[Entry]) -> Result<(), NoMemory>
+fn put_entries(out: &mut Bytes, entries: &[Entry]) -> Result<(), NoMemory>
     ensures { OnOk result (out.new ≡ out.old ++ entry_lines entries.now) }
 {
     'each: for entry in entries {
-        put_entry(alloc, out, entry)?;
+        put_entry(out, entry)?;
         put_text(out, "\n")?;
     }
     Ok(())
 }
 
 #[tactic(auto, unfolding(trace_model::specs::Recording::census_line))]
-fn put_census(alloc: Global, out: &mut Bytes, census: &[u64]) -> Result<(), NoMemory>
+fn put_census(out: &mut Bytes, census: &[u64]) -> Result<(), NoMemory>
     ensures { OnOk result (out.new ≡ out.old ++ census_line census.now) }
 {
     put_text(out, "census")?;
     'each: for n in census {
         put_text(out, " ")?;
-        put_decimal(alloc, out, *n)?;
+        put_decimal(out, *n)?;
     }
     Ok(())
 }
@@ -161,8 +156,8 @@ pub fn recording(alloc: Global, journal: &Journal, driver: &Driver) -> Result<By
 {
     let mut out = Bytes::new(alloc);
     put_text(&mut out, "recording\n")?;
-    put_entries(alloc, &mut out, journal.as_slice())?;
-    put_census(alloc, &mut out, &driver.census())?;
+    put_entries(&mut out, journal.as_slice())?;
+    put_census(&mut out, &driver.census())?;
     put_text(&mut out, "\nend\n")?;
     Ok(out)
 }

@@ -4,7 +4,7 @@ ghost use Rattle.trace_model.specs.Recording.{number_text};
 
 use egl_calls::{Bytes, NoMemory};
 use egl_names::name_of;
-use std::alloc::Global;
+use itoa::Buffer;
 
 pub fn put_text(out: &mut Bytes, text: &str) -> Result<(), NoMemory>
     ensures { OnOk result (out.new ≡ out.old ++ text.now) }
@@ -12,25 +12,19 @@ pub fn put_text(out: &mut Bytes, text: &str) -> Result<(), NoMemory>
     out.extend(text.as_bytes())
 }
 
-pub fn put_decimal(alloc: Global, out: &mut Bytes, n: u64) -> Result<(), NoMemory>
+pub fn put_decimal(out: &mut Bytes, n: u64) -> Result<(), NoMemory>
     ensures { OnOk result (out.new ≡ out.old ++ decimal n) }
 {
-    match format!(in alloc; "{n}") {
-        Ok(text) => out.extend(text.as_bytes()),
-        Err(_) => Err(NoMemory),
-    }
+    put_text(out, Buffer::new().format(n))
 }
 
 /// A number that is a name's code by that name, another in decimal.
 #[tactic(auto, unfolding(trace_model::specs::Recording::number_text))]
-pub fn put_number(alloc: Global, out: &mut Bytes, z: i64) -> Result<(), NoMemory>
+pub fn put_number(out: &mut Bytes, z: i64) -> Result<(), NoMemory>
     ensures { OnOk result (out.new ≡ out.old ++ number_text z) }
 {
     match name_of(z) {
-        Some(name) => out.extend(name.as_bytes()),
-        None => match format!(in alloc; "{z}") {
-            Ok(text) => out.extend(text.as_bytes()),
-            Err(_) => Err(NoMemory),
-        },
+        Some(name) => put_text(out, name),
+        None => put_text(out, Buffer::new().format(z)),
     }
 }
