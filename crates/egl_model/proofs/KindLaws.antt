@@ -1,5 +1,5 @@
 -- What names an object names one of the right kind, after each step.
-use Rattle.std.proofs.Common.{◌≡◌, ℕ, Bool, true, false, cond, not, ◌==◌, List, refl, sym, ap, ◌∙◌, Option, None, Some, get_or, set, is_some}
+use Rattle.std.proofs.Common.{◌≡◌, ℕ, Bool, true, false, cond, not, ◌==◌, List, refl, sym, ap, ◌∙◌, Option, None, Some, get_or, set}
 use Rattle.std.specs.Prelude.{All}
 use Rattle.std.specs.Option.{option_map}
 use Rattle.std.proofs.Math.Seq.{map-set_same}
@@ -22,25 +22,20 @@ use Rattle.egl_model.specs.State.{State, initial, object_at, record_of, set_erro
 use Rattle.egl_model.specs.Displays.{terminated}
 use Rattle.egl_model.specs.Objects.{as_context, as_surface, context_in, surface_in, with_part, change_part, with_storage, change_storage}
 use Rattle.egl_model.specs.Contexts.{first_use}
-use Rattle.egl_model.specs.Sweep.{is_reached, sweep}
+use Rattle.egl_model.specs.Sweep.{is_reached, roots, sweep}
 use Rattle.egl_model.specs.Step.{note_error}
 use Rattle.egl_model.specs.Links.{IsLinked}
 use Rattle.egl_model.specs.Named.{Exists}
 use Rattle.egl_model.specs.Kinds.{IsA, KindsFit, NamesItsKind, named_kind}
-use Rattle.egl_model.proofs.SweepLaws.{object_at-sweep}
+use Rattle.egl_model.proofs.SweepLaws.{left_as_it_was, object_at-sweep}
 use Rattle.egl_model.proofs.LinkLaws.{linked-sweep}
 use Rattle.egl_model.proofs.LinkedSteps.{same_of, by_kinds}
 use Rattle.egl_model.proofs.NamedObjects.{names_exist}
 
 -- ---- A sweep.
-kept_kind : (b : Bool) (o : Option Object) → is_some (cond b o None) ≡ true → cond b o None ≡ o
-kept_kind true o h = refl
-kept_kind false o h = absurd (let e : false ≡ true = h in cc)
-
--- what exists after a sweep is what it was
+-- what exists after it is of the kind that it was
 still_a : (s : State) (n : ℕ) (k : ObjectKind) → Exists (sweep s) n → IsA k s n → IsA k (sweep s) n
-still_a s n k e h =
-    ap (option_map kind_of) (object_at-sweep s n ∙ kept_kind (is_reached s n) (object_at s n) (ap is_some (sym (object_at-sweep s n)) ∙ e)) ∙ h
+still_a s n k e h = ap (option_map kind_of) (left_as_it_was (roots s) s.objects n e) ∙ h
 
 context_before : (b : Bool) (o : Option Object) (x : ContextObject) → as_context (cond b o None) ≡ Some x → as_context o ≡ Some x
 context_before true o x h = h

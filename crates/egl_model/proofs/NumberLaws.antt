@@ -1,12 +1,15 @@
 -- No number is given twice, to a handle or to an object.
-use Rattle.std.proofs.Common.{◌≡◌, ℕ, Bool, true, false, cond, not, ◌==◌, List, [], ◌∷◌, refl, ap, ◌∙◌, arith, inl, inr, Option, None, get_or, length, is_some}
+use Rattle.std.proofs.Common.{◌≡◌, ℕ, Bool, true, false, cond, not, ◌==◌, List, [], ◌∷◌, refl, sym, ap, ◌∙◌, arith, inl, inr, Option, None, get_or, length, is_some}
 use Rattle.std.specs.Prelude.{All}
-use Rattle.std.proofs.lemmas.List.{get_or_append_left, length-append}
+use Rattle.std.specs.Option.{option_map}
+use Rattle.std.proofs.lemmas.Bool.{both_ways, true_from_ne_false}
+use Rattle.std.proofs.lemmas.List.{length-append}
 use Rattle.std.proofs.lemmas.List.Elements.{All-append, All-contains, All-contains_itself, All-cons, All-filter, All-nil}
 use Rattle.egl_calls.specs.Calls.{CallValue}
 use Rattle.egl_calls.specs.declared.entries.Entry.{Entry}
 use Rattle.egl_calls.specs.declared.errors.EglError.TheVariants.{Success}
 use Rattle.context_state.specs.Parts.{noted}
+use Rattle.driver_objects.specs.Objects.{kind_of}
 use Rattle.driver_objects.specs.declared.objects.Object.{Object}
 use Rattle.egl_model.specs.declared.handles.Handle.{Handle}
 use Rattle.egl_model.specs.declared.handles.HandleKind.{HandleKind}
@@ -21,8 +24,9 @@ use Rattle.egl_model.specs.EglEffects.{egl_effect}
 use Rattle.egl_model.specs.GlEffects.{gl_effect}
 use Rattle.egl_model.specs.Step.{step}
 use Rattle.egl_model.specs.History.{replay_from}
-use Rattle.egl_model.specs.Laws.{HandlesAreNew, IsKnownOrNew, ObjectsAreNew}
-use Rattle.egl_model.proofs.SweepLaws.{length-swept, object_at-swept}
+use Rattle.egl_model.specs.Laws.{HandlesAreNew, IsKnownOrNew, ObjectsAreNew, has_object}
+use Rattle.egl_model.proofs.LinkedMade.{at_old, below}
+use Rattle.egl_model.proofs.SweepLaws.{left_as_it_was, length-swept, object_at-swept}
 use Rattle.egl_model.proofs.Ways.{SameExist, each_way, each_egl_effect, each_gl_effect, same_exist, same_exist-change_part}
 
 -- ---- Handles.
@@ -95,12 +99,14 @@ pub objects_stay : (s a : State) → SameExist s.objects a.objects → ObjectsAr
 objects_stay s a e = record {
   rises = let l = e.long in omega arith;
   each = λ n h none. e.each n ∙ none;
+  kinds = λ n h i. e.kinds n;
 }
 
 more_objects : (s : State) (d : ℕ) (kind : HandleKind) (new : List (Option Object)) → ObjectsAreNew s (with_handle s d kind (length s.objects) new)
 more_objects s d kind new = record {
   rises = let l = length-append s.objects new in omega (arith, l);
-  each = λ n h none. ap is_some (get_or_append_left s.objects new None n h) ∙ none;
+  each = λ n h none. ap is_some (at_old s.objects new n h) ∙ none;
+  kinds = λ n h i. ap (option_map kind_of) (at_old s.objects new n (below s.objects n h));
 }
 
 none_kept : (b : Bool) (o : Option Object) → is_some o ≡ false → is_some (cond b o None) ≡ false
@@ -111,6 +117,9 @@ pub objects_new-swept : (s a b : State) (rs : List ℕ) → b.objects ≡ swept 
 objects_new-swept s a b rs e o = record {
   rises = let r = o.rises in let l = ap length e ∙ length-swept rs a.objects in omega (arith, l);
   each = λ n h none. ap (λ (os : List (Option Object)). is_some (get_or os n None)) e ∙ ap is_some (object_at-swept rs a.objects n) ∙ none_kept (reached rs (edges_at a.objects) n) (get_or a.objects n None) (o.each n h none);
+  kinds = λ n h i.
+      let same = ap (λ (os : List (Option Object)). get_or os n None) e ∙ left_as_it_was rs a.objects n (ap (λ (os : List (Option Object)). is_some (get_or os n None)) (sym e) ∙ i) in
+      ap (option_map kind_of) same ∙ o.kinds n h (ap is_some (sym same) ∙ i);
 }
 
 pub objects_are_new : (s : State) (t : ℕ) (c : CallValue) → ObjectsAreNew s (step s t c).state
@@ -129,10 +138,16 @@ objects_are_new s t c = each_way (ObjectsAreNew s) s t c (record {
   gl_done = λ n k. objects_new-swept s (gl_effect s t n k c).state _ _ refl (each_gl_effect (ObjectsAreNew s) s t n c (record { stays = objects_stay s s (same_exist s.objects); changed = λ os e. objects_stay s _ e }) k);
 })
 
+-- what exists at last existed in between
+between : (a b c : State) (n : ℕ) → ObjectsAreNew a b → ObjectsAreNew b c → has_object a n ≡ true → has_object c n ≡ true → has_object b n ≡ true
+between a b c n f g h i = true_from_ne_false (has_object b n)
+    (λ none. let x = f.rises in let y = below a.objects n h in both_ways (has_object c n) (g.each n (omega arith) none) i)
+
 pub objects_new_again : (a b c : State) → ObjectsAreNew a b → ObjectsAreNew b c → ObjectsAreNew a c
 objects_new_again a b c f g = record {
   rises = let x = f.rises in let y = g.rises in omega arith;
   each = λ n h none. let x = f.rises in g.each n (omega arith) (f.each n h none);
+  kinds = λ n h i. let here = between a b c n f g h i in g.kinds n here i ∙ f.kinds n h here;
 }
 
 pub objects_are_new-replay : (s : State) (es : List Entry) → ObjectsAreNew s (replay_from s es)

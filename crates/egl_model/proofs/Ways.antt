@@ -1,5 +1,6 @@
 -- What holds whichever way a step goes.
 use Rattle.std.proofs.Common.{◌≡◌, ℕ, Bool, true, false, cond, List, length, get_or, set, refl, sym, ap, ◌∙◌, Option, None, Some, is_some}
+use Rattle.std.specs.Option.{option_map}
 use Rattle.std.proofs.Math.Seq.{map-set_same}
 use Rattle.std.proofs.Math.ListN.{get_or-map}
 use Rattle.std.proofs.lemmas.List.{length-set}
@@ -16,7 +17,9 @@ use Rattle.egl_calls.specs.declared.errors.GlError.{GlError}
 use Rattle.context_state.specs.Parts.{PartValue}
 use Rattle.context_state.specs.Local.{apply}
 use Rattle.call_rules.specs.EglRules.{is_release}
+use Rattle.driver_objects.specs.Objects.{kind_of}
 use Rattle.driver_objects.specs.Storages.{StorageValue, cleared}
+use Rattle.driver_objects.specs.declared.kinds.ObjectKind.{ObjectKind}
 use Rattle.driver_objects.specs.declared.objects.Object.{Object}
 use Rattle.driver_objects.specs.declared.objects.Object.TheVariants.{Context, Group, Texture, Surface, Storage}
 use Rattle.egl_model.specs.declared.handles.Handle.{Handle}
@@ -71,45 +74,63 @@ pub each_way : (P : State → Type 0) (s : State) (t : ℕ) (c : CallValue) → 
 unfolding step
 each_way P s t c w = by_wait P s t c (record_of s t).wait w
 
--- the same objects exist
+-- the same objects exist, each of the kind that it was
 pub record SameExist (before after : List (Option Object)) : Type 0 where
   pub long : length after ≡ length before
   pub each : (n : ℕ) → is_some (get_or after n None) ≡ is_some (get_or before n None)
+  pub kinds : (n : ℕ) → option_map kind_of (get_or after n None) ≡ option_map kind_of (get_or before n None)
 
 pub same_exist : (os : List (Option Object)) → SameExist os os
-same_exist os = record { long = refl; each = λ n. refl }
+same_exist os = record { long = refl; each = λ n. refl; kinds = λ n. refl }
 
-same_exist-set : (f : Option Object → Option Object) → ((o : Option Object) → is_some (f o) ≡ is_some o) → (n : ℕ) (os : List (Option Object)) → SameExist os (set os n (f (get_or os n None)))
+is_some-kind : (o : Option Object) → is_some (option_map kind_of o) ≡ is_some o
+is_some-kind None = refl
+is_some-kind (Some x) = refl
+
+-- of two places with one kind both are empty, or neither is
+exist_alike : (o p : Option Object) → option_map kind_of o ≡ option_map kind_of p → is_some o ≡ is_some p
+exist_alike o p e = sym (is_some-kind o) ∙ ap (λ (k : Option ObjectKind). is_some k) e ∙ is_some-kind p
+
+same_kind-set : (f : Option Object → Option Object) → ((o : Option Object) → option_map kind_of (f o) ≡ option_map kind_of o) → (n : ℕ) (os : List (Option Object)) (m : ℕ) →
+    option_map kind_of (get_or (set os n (f (get_or os n None))) m None) ≡ option_map kind_of (get_or os m None)
+same_kind-set f e n os m =
+    sym (get_or-map (option_map kind_of) (set os n (f (get_or os n None))) m None)
+    ∙ ap (λ (ks : List (Option ObjectKind)). get_or ks m None) (map-set_same (option_map kind_of) os n (f (get_or os n None)) None (e (get_or os n None)))
+    ∙ get_or-map (option_map kind_of) os m None
+
+same_exist-set : (f : Option Object → Option Object) → ((o : Option Object) → option_map kind_of (f o) ≡ option_map kind_of o) → (n : ℕ) (os : List (Option Object)) → SameExist os (set os n (f (get_or os n None)))
 same_exist-set f e n os = record {
   long = length-set os n _;
-  each = λ m. sym (get_or-map is_some (set os n (f (get_or os n None))) m None)
-      ∙ ap (λ (bs : List Bool). get_or bs m false) (map-set_same is_some os n (f (get_or os n None)) None (e (get_or os n None)))
-      ∙ get_or-map is_some os m None;
+  each = λ m. exist_alike (get_or (set os n (f (get_or os n None))) m None) (get_or os m None) (same_kind-set f e n os m);
+  kinds = same_kind-set f e n os;
 }
 
-pub is_some-with_part : (f : PartValue → PartValue) (o : Option Object) → is_some (with_part f o) ≡ is_some o
-is_some-with_part f None = refl
-is_some-with_part f (Some (Context c)) = refl
-is_some-with_part f (Some Group) = refl
-is_some-with_part f (Some Texture) = refl
-is_some-with_part f (Some (Surface x)) = refl
-is_some-with_part f (Some (Storage x)) = refl
+kind-with_part : (f : PartValue → PartValue) (o : Option Object) → option_map kind_of (with_part f o) ≡ option_map kind_of o
+kind-with_part f None = refl
+kind-with_part f (Some (Context c)) = refl
+kind-with_part f (Some Group) = refl
+kind-with_part f (Some Texture) = refl
+kind-with_part f (Some (Surface x)) = refl
+kind-with_part f (Some (Storage x)) = refl
 
-is_some-with_storage : (f : StorageValue → StorageValue) (o : Option Object) → is_some (with_storage f o) ≡ is_some o
-is_some-with_storage f None = refl
-is_some-with_storage f (Some (Context c)) = refl
-is_some-with_storage f (Some Group) = refl
-is_some-with_storage f (Some Texture) = refl
-is_some-with_storage f (Some (Surface x)) = refl
-is_some-with_storage f (Some (Storage x)) = refl
+pub is_some-with_part : (f : PartValue → PartValue) (o : Option Object) → is_some (with_part f o) ≡ is_some o
+is_some-with_part f o = exist_alike (with_part f o) o (kind-with_part f o)
+
+kind-with_storage : (f : StorageValue → StorageValue) (o : Option Object) → option_map kind_of (with_storage f o) ≡ option_map kind_of o
+kind-with_storage f None = refl
+kind-with_storage f (Some (Context c)) = refl
+kind-with_storage f (Some Group) = refl
+kind-with_storage f (Some Texture) = refl
+kind-with_storage f (Some (Surface x)) = refl
+kind-with_storage f (Some (Storage x)) = refl
 
 pub same_exist-change_part : (f : PartValue → PartValue) (n : ℕ) (os : List (Option Object)) → SameExist os (change_part f n os)
 unfolding change_part
-same_exist-change_part f n os = same_exist-set (with_part f) (is_some-with_part f) n os
+same_exist-change_part f n os = same_exist-set (with_part f) (kind-with_part f) n os
 
 pub same_exist-change_storage : (f : StorageValue → StorageValue) (n : ℕ) (os : List (Option Object)) → SameExist os (change_storage f n os)
 unfolding change_storage
-same_exist-change_storage f n os = same_exist-set (with_storage f) (is_some-with_storage f) n os
+same_exist-change_storage f n os = same_exist-set (with_storage f) (kind-with_storage f) n os
 
 same_exist-first_use : (context draw : Option Handle) (os : List (Option Object)) → SameExist os (first_use context draw os)
 same_exist-first_use None draw os = same_exist os

@@ -1,5 +1,6 @@
 -- What is true of each sweep and each step.
 use Rattle.std.specs.Prelude.{◌≡◌, ℕ, ◌<◌, ◌≤◌, ◌⊎◌, Bool, true, false, length, All, Contains, is_some, None, Some}
+use Rattle.std.specs.Option.{option_map}
 use Rattle.egl_calls.specs.Calls.{CallValue}
 use Rattle.egl_calls.specs.declared.kinds.Kind.TheVariants.{Egl, Gl}
 use Rattle.egl_calls.specs.declared.kinds.EglKind.{EglKind}
@@ -8,6 +9,7 @@ use Rattle.egl_calls.specs.declared.errors.EglError.{EglError}
 use Rattle.egl_calls.specs.declared.errors.GlError.{GlError}
 use Rattle.egl_calls.specs.declared.errors.Outcome.{Outcome}
 use Rattle.egl_calls.specs.declared.errors.Outcome.TheVariants.{Waiting, InWait, NoWait}
+use Rattle.driver_objects.specs.Objects.{kind_of}
 use Rattle.egl_model.specs.declared.handles.Handle.{Handle}
 use Rattle.egl_model.specs.State.{State, object_at, record_of}
 use Rattle.egl_model.specs.Currents.{current_context}
@@ -53,10 +55,11 @@ pub record HandlesAreNew (before after : State) : Type 0 where
   pub rises : before.next_handle ≤ after.next_handle
   pub each : All (IsKnownOrNew before after) after.handles
 
--- places for objects are only added, and one that is empty stays empty: so no number is given twice
+-- places for objects are only added, and one that is empty stays empty: so no number is given twice; and an object that stays is of the kind that it was
 pub record ObjectsAreNew (before after : State) : Type 0 where
   pub rises : length before.objects ≤ length after.objects
   pub each : (n : ℕ) → n < length before.objects → has_object before n ≡ false → has_object after n ≡ false
+  pub kinds : (n : ℕ) → has_object before n ≡ true → has_object after n ≡ true → option_map kind_of (object_at after n) ≡ option_map kind_of (object_at before n)
 
 -- the outcomes of a call that a wait holds up, or that finds none to end
 abbrev pub is_of_wait : Outcome → Bool

@@ -137,7 +137,7 @@ pub fn handle_numbers_are_new()
     ensures history { (s : State) (entries : List Entry) → HandlesAreNew s (replay_from s entries) }
 {}
 
-/// Places of objects are never fewer, and an empty one stays empty, in a step or in a history: the number of an object that is gone isn't given again.
+/// Places of objects are never fewer, an empty one stays empty, and an object that stays is of the kind that it was, in a step or in a history: the number of an object that is gone isn't given again.
 pub fn object_numbers_are_new()
     ensures step { (s : State) (t : ℕ) (c : CallValue) → ObjectsAreNew s (step s t c).state }
     ensures history { (s : State) (entries : List Entry) → ObjectsAreNew s (replay_from s entries) }
