@@ -22,7 +22,7 @@ use Rattle.egl_model.proofs.KindLaws.{SameKinds, same_kinds, same_kinds-first_us
 use Rattle.egl_model.proofs.Ways.{either}
 
 -- ---- eglMakeCurrent.
-same_kind : (k l : HandleKind) → is_same_kind k l ≡ true → k ≡ l
+pub same_kind : (k l : HandleKind) → is_same_kind k l ≡ true → k ≡ l
 same_kind a_context a_context h = refl
 same_kind a_context a_surface h = absurd (let e : false ≡ true = h in cc)
 same_kind a_context an_image h = absurd (let e : false ≡ true = h in cc)
@@ -48,7 +48,7 @@ found_one P p true x h o e px f i = let same : x ≡ h = some_handle x h i in (s
 found_one P p false x h o e px f i = f i
 
 -- what a look-up finds is a handle, and passes its test
-found : (P : Handle → Type 0) (p : Handle → Bool) (hs : List Handle) (h : Handle) → All P hs → find p hs ≡ Some h → P h × (p h ≡ true)
+pub found : (P : Handle → Type 0) (p : Handle → Bool) (hs : List Handle) (h : Handle) → All P hs → find p hs ≡ Some h → P h × (p h ≡ true)
 found P p [] h a i = absurd (let e : None ≡ Some h = i in cc)
 found P p (x ∷ hs) h a i = found_one P p (p x) x h (find p hs) refl (All-head P x hs a) (found P p hs h (All-tail P x hs a)) i
 

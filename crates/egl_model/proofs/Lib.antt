@@ -25,3 +25,4 @@ pub mod AloneLaws
 pub mod BelowLaws
 pub mod StorageLaws
 pub mod SoundLaws
+pub mod CurrentLaws

@@ -11,6 +11,7 @@ use Rattle.egl_calls.specs.declared.kinds.EglKind.{EglKind}
 use Rattle.egl_calls.specs.declared.kinds.GlKind.{GlKind}
 use Rattle.egl_calls.specs.declared.kinds.OwnKind.{OwnKind}
 use Rattle.egl_calls.specs.declared.errors.EglError.{EglError}
+use Rattle.egl_calls.specs.declared.errors.EglError.TheVariants.{Success}
 use Rattle.egl_calls.specs.declared.errors.GlError.{GlError}
 use Rattle.egl_calls.specs.declared.errors.GlError.TheVariants.{NoError, InvalidEnum, InvalidValue, InvalidOperation, OutOfMemory, InvalidFramebufferOperation}
 use Rattle.egl_calls.specs.declared.errors.Outcome.TheVariants.{Done, Egl as RefusedEgl, Gl as RefusedGl}
@@ -21,20 +22,29 @@ use Rattle.driver_objects.specs.declared.objects.Object.TheVariants.{Context, Gr
 use Rattle.egl_model.specs.State.{State, initial, object_at, record_of, set_error}
 use Rattle.egl_model.specs.Objects.{as_context, with_part, change_part}
 use Rattle.egl_model.specs.Currents.{current_context, part_of_context}
-use Rattle.egl_model.specs.Step.{Stepped, after_egl_rules, after_gl_rules, bare, egl_step, gl_step, gl_step_on, note_error, step, step_by, step_in}
+use Rattle.egl_model.specs.Sweep.{sweep}
+use Rattle.egl_model.specs.Step.{Stepped, after_egl_rules, after_gl_rules, bare, done, egl_step, gl_step, gl_step_on, note_error, step, step_by, step_in}
 use Rattle.egl_model.specs.EglFacts.{egl_refusal}
 use Rattle.egl_model.specs.GlFacts.{gl_refusal}
 use Rattle.egl_model.specs.Effects.{Effect}
 use Rattle.egl_model.specs.EglEffects.{egl_effect}
 use Rattle.egl_model.specs.GlEffects.{gl_effect}
-use Rattle.egl_model.specs.Laws.{IsEglCall, IsGlCall, IsRefusedEgl, IsRefusedGl, is_of_wait}
-use Rattle.egl_model.proofs.StepLaws.{egl_refused, gl_refused, gl_without_context, step_goes}
+use Rattle.egl_model.specs.Laws.{IsAllowedEgl, IsEglCall, IsGlCall, IsRefusedEgl, IsRefusedGl, is_of_wait}
+use Rattle.egl_model.proofs.StepLaws.{egl_done, egl_refused, gl_refused, gl_without_context, step_goes}
 
 pub egl_call : (s : State) (t : ℕ) (k : EglKind) (c : CallValue) → IsEglCall s t k c → step s t c ≡ egl_step s t k c
 egl_call s t k c h = step_goes s t c h.goes ∙ ap (λ (kind : Kind). step_by s t kind c) h.kind
 
 gl_call : (s : State) (t : ℕ) (k : GlKind) (c : CallValue) → IsGlCall s t k c → step s t c ≡ gl_step s t k c
 gl_call s t k c h = step_goes s t c h.goes ∙ ap (λ (kind : Kind). step_by s t kind c) h.kind
+
+-- a call of EGL that no rule refuses
+pub allowed_egl : (s : State) (t : ℕ) (k : EglKind) (c : CallValue) → IsAllowedEgl s t k c →
+    step s t c ≡ record { reply = done (egl_effect s t k c); state = sweep (set_error (egl_effect s t k c).state t Success) }
+allowed_egl s t k c h = egl_call s t k c h.call ∙ egl_done s t k c h.allowed
+
+pub allowed_egl_state : (s : State) (t : ℕ) (k : EglKind) (c : CallValue) → IsAllowedEgl s t k c → (step s t c).state ≡ sweep (set_error (egl_effect s t k c).state t Success)
+allowed_egl_state s t k c h = ap (λ (x : Stepped). x.state) (allowed_egl s t k c h)
 
 -- ---- Refused calls of EGL.
 pub refused_egl : (s : State) (t : ℕ) (k : EglKind) (c : CallValue) (e : EglError) → IsRefusedEgl s t k c e →

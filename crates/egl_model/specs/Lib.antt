@@ -22,5 +22,6 @@ pub mod Links
 pub mod Named
 pub mod Kinds
 pub mod DisplayCalls
+pub mod CurrentCalls
 pub mod Wants
 pub mod Sound

@@ -13,6 +13,8 @@ ghost use Rattle.egl_calls.specs.declared.errors.GlError.{GlError as AGlError};
 ghost use Rattle.egl_calls.specs.declared.errors.GlError.TheVariants.{NoError};
 ghost use Rattle.egl_calls.specs.declared.errors.Outcome.TheVariants.{Done, Egl as RefusedEgl, Gl as RefusedGl};
 ghost use Rattle.context_state.specs.Parts.{PartValue};
+ghost use Rattle.call_rules.specs.EglRules.{is_release};
+ghost use Rattle.egl_model.specs.declared.handles.HandleKind.TheVariants.{Context, Surface};
 ghost use Rattle.egl_model.specs.State.{State, object_at, opening, record_of, set_error};
 ghost use Rattle.egl_model.specs.Currents.{current_context, part_of_context};
 ghost use Rattle.egl_model.specs.Sweep.{is_reached, live_bytes, sweep};
@@ -26,6 +28,7 @@ ghost use Rattle.egl_model.specs.Links.{IsHeld, IsLinked};
 ghost use Rattle.egl_model.specs.Named.{Exists, IsHandled, IsHeldByThread, IsUsed};
 ghost use Rattle.egl_model.specs.Kinds.{KindsFit};
 ghost use Rattle.egl_model.specs.DisplayCalls.{IsInitialized, IsTerminated};
+ghost use Rattle.egl_model.specs.CurrentCalls.{HasNoneCurrent, IsBoundBy, IsMadeCurrent};
 ghost use Rattle.egl_model.specs.Displays.{is_initialized};
 ghost use Rattle.egl_model.specs.Arguments.{number};
 ghost use Rattle.egl_model.specs.Sound.{IsSound};
@@ -129,6 +132,16 @@ pub fn terminate_takes_handles_and_leaves_currents()
     ensures context { (s : State) (t u : ℕ) (c : CallValue) → IsTerminated s t c → (record_of (step s t c).state u).context ≡ (record_of s u).context }
     ensures draw { (s : State) (t u : ℕ) (c : CallValue) → IsTerminated s t c → (record_of (step s t c).state u).draw ≡ (record_of s u).draw }
     ensures read { (s : State) (t u : ℕ) (c : CallValue) → IsTerminated s t c → (record_of (step s t c).state u).read ≡ (record_of s u).read }
+{}
+
+/// Where no rule refuses an eglMakeCurrent, the thread has the context and the surfaces that valid handles of the call's display with the given numbers name, each under that number; where it is given none of the three, the thread has none (EGL 1.5, section 3.7.3). Handles stay as they were, and the thread waits for nothing.
+pub fn make_current_binds_what_it_is_given()
+    ensures released { (s : State) (t : ℕ) (c : CallValue) → IsMadeCurrent s t c → t < length s.threads → is_release c ≡ true → HasNoneCurrent (record_of (step s t c).state t) }
+    ensures context { (s : State) (t : ℕ) (c : CallValue) → IsMadeCurrent s t c → t < length s.threads → is_release c ≡ false → IsBoundBy s (number c 0) (number c 3) Context (record_of (step s t c).state t).context }
+    ensures draw { (s : State) (t : ℕ) (c : CallValue) → IsMadeCurrent s t c → t < length s.threads → is_release c ≡ false → IsBoundBy s (number c 0) (number c 1) Surface (record_of (step s t c).state t).draw }
+    ensures read { (s : State) (t : ℕ) (c : CallValue) → IsMadeCurrent s t c → t < length s.threads → is_release c ≡ false → IsBoundBy s (number c 0) (number c 2) Surface (record_of (step s t c).state t).read }
+    ensures handles { (s : State) (t : ℕ) (c : CallValue) → IsMadeCurrent s t c → (step s t c).state.handles ≡ s.handles }
+    ensures wait { (s : State) (t : ℕ) (c : CallValue) → IsMadeCurrent s t c → (record_of (step s t c).state t).wait ≡ None }
 {}
 
 /// No number is given to a second handle, in a step or in a history, whatever became of the first.
