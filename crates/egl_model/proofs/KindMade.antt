@@ -160,7 +160,7 @@ context_without_surface n config d (Some g) zero x e = no_surface x e
 context_without_surface n config d (Some g) (suc zero) x e = no_surface x e
 context_without_surface n config d (Some g) (suc (suc j)) x e = no_surface x e
 
-context_first : (n : ℕ) (config : ℤ) (d : ℕ) (group : Option ℕ) → option_map kind_of (get_or (context_objects n config d group) 0 None) ≡ Some a_context_kind
+pub context_first : (n : ℕ) (config : ℤ) (d : ℕ) (group : Option ℕ) → option_map kind_of (get_or (context_objects n config d group) 0 None) ≡ Some a_context_kind
 context_first n config d None = refl
 context_first n config d (Some g) = refl
 

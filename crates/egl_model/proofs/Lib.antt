@@ -26,3 +26,4 @@ pub mod BelowLaws
 pub mod StorageLaws
 pub mod SoundLaws
 pub mod CurrentLaws
+pub mod NewHandleLaws

@@ -82,7 +82,7 @@ kept_whole : (b : Bool) (o : Option Object) → b ≡ true → cond b o None ≡
 kept_whole true o h = refl
 kept_whole false o h = absurd (let e : false ≡ true = h in cc)
 
-same_object : (s : State) (n : ℕ) → is_reached s n ≡ true → object_at (sweep s) n ≡ object_at s n
+pub same_object : (s : State) (n : ℕ) → is_reached s n ≡ true → object_at (sweep s) n ≡ object_at s n
 same_object s n h = object_at-sweep s n ∙ kept_whole (is_reached s n) (object_at s n) h
 
 reached_on : (s : State) → IsLinked s → (m n : ℕ) → is_reached s m ≡ true → refers s m n ≡ true → is_reached s n ≡ true

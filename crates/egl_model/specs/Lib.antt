@@ -23,5 +23,6 @@ pub mod Named
 pub mod Kinds
 pub mod DisplayCalls
 pub mod CurrentCalls
+pub mod NewHandles
 pub mod Wants
 pub mod Sound

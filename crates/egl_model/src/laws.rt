@@ -1,5 +1,5 @@
 //! What is true of every sweep, step and history: the contracts of functions that do nothing.
-ghost use Rattle.std.specs.Prelude.{◌≡◌, ◌≢◌, ◌<◌, ◌+◌, ◌⊎◌, ◌↔◌, ℕ, ◌&&◌, ◌==◌, true, false, All, if◌then◌else◌, length, List, ◌++◌, Option, None, Some};
+ghost use Rattle.std.specs.Prelude.{◌≡◌, ◌≢◌, ◌<◌, ◌+◌, ◌⊎◌, ◌↔◌, ℕ, pos, ◌&&◌, ◌==◌, true, false, All, if◌then◌else◌, length, List, ◌++◌, Option, None, Some};
 ghost use Rattle.egl_calls.specs.Calls.{CallValue};
 ghost use Rattle.egl_calls.specs.declared.entries.Entry.{Entry};
 ghost use Rattle.egl_calls.specs.declared.kinds.Kind.TheVariants.{Egl, Own};
@@ -21,7 +21,7 @@ ghost use Rattle.egl_model.specs.Sweep.{is_reached, live_bytes, sweep};
 ghost use Rattle.egl_model.specs.EglFacts.{egl_refusal};
 ghost use Rattle.egl_model.specs.Step.{bare, note_error, step, waiting_reply};
 ghost use Rattle.egl_model.specs.History.{replay_from, IsLegalFrom};
-ghost use Rattle.egl_model.specs.Laws.{has_object, HasNoLitter, IsEglCall, IsGlCall, IsRefusedEgl, IsRefusedGl, is_of_wait, HandlesAreNew, ObjectsAreNew};
+ghost use Rattle.egl_model.specs.Laws.{has_object, HasNoLitter, IsAllowedEgl, IsEglCall, IsGlCall, IsRefusedEgl, IsRefusedGl, is_of_wait, HandlesAreNew, ObjectsAreNew};
 ghost use Rattle.egl_model.specs.Surfaces.{created_pbuffer};
 ghost use Rattle.egl_model.specs.Contexts.{created_context};
 ghost use Rattle.egl_model.specs.Links.{IsHeld, IsLinked};
@@ -29,6 +29,7 @@ ghost use Rattle.egl_model.specs.Named.{Exists, IsHandled, IsHeldByThread, IsUse
 ghost use Rattle.egl_model.specs.Kinds.{KindsFit};
 ghost use Rattle.egl_model.specs.DisplayCalls.{IsInitialized, IsTerminated};
 ghost use Rattle.egl_model.specs.CurrentCalls.{HasNoneCurrent, IsBoundBy, IsMadeCurrent};
+ghost use Rattle.egl_model.specs.NewHandles.{HasNewHandle};
 ghost use Rattle.egl_model.specs.Displays.{is_initialized};
 ghost use Rattle.egl_model.specs.Arguments.{number};
 ghost use Rattle.egl_model.specs.Sound.{IsSound};
@@ -142,6 +143,16 @@ pub fn make_current_binds_what_it_is_given()
     ensures read { (s : State) (t : ℕ) (c : CallValue) → IsMadeCurrent s t c → t < length s.threads → is_release c ≡ false → IsBoundBy s (number c 0) (number c 2) Surface (record_of (step s t c).state t).read }
     ensures handles { (s : State) (t : ℕ) (c : CallValue) → IsMadeCurrent s t c → (step s t c).state.handles ≡ s.handles }
     ensures wait { (s : State) (t : ℕ) (c : CallValue) → IsMadeCurrent s t c → (record_of (step s t c).state t).wait ≡ None }
+{}
+
+/// Where no rule refuses an eglCreatePbufferSurface or an eglCreateContext, it answers the number of a new handle, which names a new object of its kind, and the next number rises by one (EGL 1.5, sections 3.5.2 and 3.7.1). It rises at no other call, and at none that isn't done.
+pub fn a_new_handle_names_its_object()
+    ensures pbuffer { (s : State) (t : ℕ) (c : CallValue) → IsAllowedEgl s t CreatePbufferSurface c → HasNewHandle s (step s t c).state (number c 0) Surface }
+    ensures pbuffer_reply { (s : State) (t : ℕ) (c : CallValue) → IsAllowedEgl s t CreatePbufferSurface c → (step s t c).reply.value ≡ pos s.next_handle }
+    ensures context { (s : State) (t : ℕ) (c : CallValue) → IsAllowedEgl s t CreateContext c → HasNewHandle s (step s t c).state (number c 0) Context }
+    ensures context_reply { (s : State) (t : ℕ) (c : CallValue) → IsAllowedEgl s t CreateContext c → (step s t c).reply.value ≡ pos s.next_handle }
+    ensures others { (s : State) (t : ℕ) (c : CallValue) → c.kind ≢ Egl CreatePbufferSurface → c.kind ≢ Egl CreateContext → (step s t c).state.next_handle ≡ s.next_handle }
+    ensures undone { (s : State) (t : ℕ) (c : CallValue) → (step s t c).reply.outcome ≢ Done → (step s t c).state.next_handle ≡ s.next_handle }
 {}
 
 /// No number is given to a second handle, in a step or in a history, whatever became of the first.
