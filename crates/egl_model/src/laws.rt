@@ -135,7 +135,7 @@ pub fn terminate_takes_handles_and_leaves_currents()
     ensures read { (s : State) (t u : ℕ) (c : CallValue) → IsTerminated s t c → (record_of (step s t c).state u).read ≡ (record_of s u).read }
 {}
 
-/// Where no rule refuses an eglMakeCurrent, the thread has the context and the surfaces that valid handles of the call's display with the given numbers name, each under that number; where it is given none of the three, the thread has none (EGL 1.5, section 3.7.3). Handles stay as they were, and the thread waits for nothing.
+/// Where no rule refuses an eglMakeCurrent of a thread that has a record, the thread has the context and the surfaces that valid handles of the call's display with the given numbers name, each under that number; where it is given none of the three, the thread has none (EGL 1.5, section 3.7.3). Handles stay as they were, and the thread waits for nothing.
 pub fn make_current_binds_what_it_is_given()
     ensures released { (s : State) (t : ℕ) (c : CallValue) → IsMadeCurrent s t c → t < length s.threads → is_release c ≡ true → HasNoneCurrent (record_of (step s t c).state t) }
     ensures context { (s : State) (t : ℕ) (c : CallValue) → IsMadeCurrent s t c → t < length s.threads → is_release c ≡ false → IsBoundBy s (number c 0) (number c 3) Context (record_of (step s t c).state t).context }
