@@ -1,11 +1,6 @@
 //! Calls on configs.
-use crate::runs::{NOTHING, Run, Step, assert_runs};
+use crate::runs::{INITIALIZED, NOTHING, Run, assert_runs};
 use std::test::Fail;
-
-const INITIALIZED: &[Step] = &[
-    ("$d = eglGetDisplay 0", "ok 1 [] -"),
-    ("eglInitialize $d", "ok 1 [] -"),
-];
 
 #[test]
 fn configs_are_chosen_and_asked(rt: HostRuntime) -> Result<(), Fail> {

@@ -1,5 +1,5 @@
 //! Contexts and surfaces, what is drawn to them, and how long they live.
-use crate::runs::{NOTHING, Run, Step, assert_runs};
+use crate::runs::{INITIALIZED, NOTHING, Run, Step, assert_runs};
 use std::test::Fail;
 
 // a surface and a context with 8 bits of each component
@@ -26,11 +26,6 @@ const CURRENT: &[Step] = &[
 ];
 
 const ONE_OF_EACH: &str = "1 1 1 0 0 0 1 1 0 0 64";
-
-const INITIALIZED: &[Step] = &[
-    ("$d = eglGetDisplay 0", "ok 1 [] -"),
-    ("eglInitialize $d", "ok 1 [] -"),
-];
 
 // red, cleared and read behind an eglTerminate
 const TERMINATED: &[Step] = &[

@@ -1,5 +1,5 @@
 //! `serial` on traces with words in wrong forms.
-use crate::playing::serial;
+use crate::playing::assert_malformed;
 use std::test::Fail;
 
 #[test]
@@ -236,10 +236,5 @@ fn a_wrong_form_is_named_with_its_reason(rt: HostRuntime) -> Result<(), Fail> {
             "malformed 2 Variable\n",
         ),
     ];
-    for (input, text) in rows {
-        let (status, sink) = serial(rt.alloc(), input.as_bytes())?;
-        assert_eq!(rt; status, 4, "{input}");
-        assert_eq!(rt; sink.taken(), text.as_bytes(), "{input}");
-    }
-    Ok(())
+    assert_malformed(&rt, rt.alloc(), &rows)
 }

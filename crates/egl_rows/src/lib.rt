@@ -12,6 +12,8 @@ mod faults;
 #[cfg(test)]
 mod forms;
 #[cfg(test)]
+mod library;
+#[cfg(test)]
 mod playing;
 #[cfg(test)]
 mod runs;

@@ -16,6 +16,12 @@ pub struct Run {
     pub census: &'static str,
 }
 
+/// A display, initialised.
+pub const INITIALIZED: &[Step] = &[
+    ("$d = eglGetDisplay 0", "ok 1 [] -"),
+    ("eglInitialize $d", "ok 1 [] -"),
+];
+
 pub const NOTHING: &str = "0 0 0 0 0 0 0 0 0 0 0";
 
 /// A trace, and the recording that is wanted of it.

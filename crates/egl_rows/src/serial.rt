@@ -1,5 +1,6 @@
 //! `serial` on traces and on bytes that are none.
-use crate::playing::serial;
+use crate::playing::{assert_malformed, serial};
+use std::alloc::Global;
 use std::test::Fail;
 
 #[test]
@@ -12,6 +13,11 @@ fn traces_are_played(rt: HostRuntime) -> Result<(), Fail> {
         (
             "egl-trace 1 1\n0 $d = eglGetDisplay 0\n0 eglInitialize $d\n0 eglGetError\n0 eglGetError",
             "recording\n0 2 ok 1 [] -\n0 3 ok 1 [] -\n0 4 ok EGL_SUCCESS [] -\n0 5 ok EGL_SUCCESS [] -\ncensus 0 0 0 0 0 0 0 0 0 0 0\nend\n",
+        ),
+        // Spaces in and around the header, and a line feed behind a carriage return.
+        (
+            "  egl-trace  1 1 \r\n0 eglGetError\r\n",
+            "recording\n0 2 ok EGL_SUCCESS [] -\ncensus 0 0 0 0 0 0 0 0 0 0 0\nend\n",
         ),
         // A refused call sets its thread's error, which eglGetError answers once; a variable keeps the value of its own line.
         (
@@ -46,6 +52,16 @@ fn the_first_defect_is_named(rt: HostRuntime) -> Result<(), Fail> {
         ("egl-trace 1 1\n1 eglInit", "malformed 2 Thread\n"),
         ("egl-trace 1 1\n00 eglGetError", "malformed 2 Thread\n"),
         ("egl-trace 1 1\nvideo 64", "malformed 2 Thread\n"),
+        // A comment begins at the first byte; a carriage return ends a line before a line feed alone.
+        ("egl-trace 1 1\n # x", "malformed 2 Thread\n"),
+        ("egl-trace 1 1\r", "malformed 1 Header\n"),
+        ("egl-trace 1 1\n\r", "malformed 2 Thread\n"),
+        ("egl-trace 1 1\n0 eglGetError\r", "malformed 2 Name\n"),
+        // A variable has at most 32 letters.
+        (
+            "egl-trace 1 1\n0 $abcdefghijklmnopqrstuvwxyz_01234 = eglGetError\n0 $abcdefghijklmnopqrstuvwxyz_012345 = eglGetError",
+            "malformed 3 Variable\n",
+        ),
         ("egl-trace 1 1\n0 eglInit", "malformed 2 Name\n"),
         ("egl-trace 1 1\n0", "malformed 2 Name\n"),
         ("egl-trace 1 1\n0 $v =", "malformed 2 Name\n"),
@@ -135,10 +151,32 @@ fn the_first_defect_is_named(rt: HostRuntime) -> Result<(), Fail> {
             "malformed 4 Argument\n",
         ),
     ];
-    for (input, text) in rows {
-        let (status, sink) = serial(rt.alloc(), input.as_bytes())?;
-        assert_eq!(rt; status, 4, "{input}");
-        assert_eq!(rt; sink.taken(), text.as_bytes(), "{input}");
+    assert_malformed(&rt, rt.alloc(), &rows)
+}
+
+/// A trace of 100,000 calls, and one more line.
+fn long_trace(alloc: Global, last: &str) -> Result<String, Fail> {
+    let mut trace = String::from_str(alloc, "egl-trace 1 1\n# calls\n")?;
+    for _ in 0..100_000u32 {
+        trace.push_str("0 glGetError\n")?;
+    }
+    trace.push_str(last)?;
+    Ok(trace)
+}
+
+#[test]
+fn body_lines_have_a_limit(rt: HostRuntime) -> Result<(), Fail> {
+    let alloc = rt.alloc();
+    let rows = [
+        ("0 glGetError", "malformed 100003 Limit\n"),
+        ("0 eglInit", "malformed 100003 Name\n"),
+        ("# no call\n0", "malformed 100004 Name\n"),
+    ];
+    for (last, text) in rows {
+        let trace = long_trace(alloc, last)?;
+        let (status, sink) = serial(alloc, trace.as_bytes())?;
+        assert_eq!(rt; status, 4, "{last}");
+        assert_eq!(rt; sink.taken(), text.as_bytes(), "{last}");
     }
     Ok(())
 }

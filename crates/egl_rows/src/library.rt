@@ -1,0 +1,92 @@
+//! The library's calls that may run out of memory, with ample memory.
+ghost use Rattle.std.specs.Prelude.{◌≡◌, ◌<◌, true};
+ghost use Rattle.egl_calls.specs.Kinds.{is_built};
+ghost use Rattle.egl_calls.specs.Ranges.{IsNumber};
+ghost use Rattle.egl_calls.specs.declared.kinds.Kind.TheVariants.{Egl};
+
+use driver_core::Driver;
+use egl_calls::{Bytes, Call, EglError, EglKind, Kind, NoMemory, Numbers, Outcome, Reply};
+use std::alloc::Global;
+use std::test::Fail;
+use trace_reader::{Reference, Trace, Uses};
+
+const TRACE: &[u8] =
+    b"egl-trace 1 1\n0 $d = eglGetDisplay 0\n0 eglInitialize $d\n0 eglGetError\n0 eglGetError";
+
+/// Plays a call with one number.
+fn play(alloc: Global, driver: &mut Driver, kind: EglKind, number: i64) -> Result<Reply, NoMemory>
+    requires made { 0 < driver.old.made }
+    requires built { is_built (Egl kind) ≡ true }
+    requires number { IsNumber number }
+    ensures made { driver.new.made ≡ driver.old.made }
+{
+    let call = Call {
+        kind: Kind::Egl(kind),
+        args: [number, 0, 0, 0, 0, 0, 0, 0],
+        list: Numbers::new(alloc),
+        bytes: None,
+    };
+    driver.step(alloc, 0, &call)
+}
+
+#[test]
+fn the_driver_plays_calls(rt: HostRuntime) -> Result<(), Fail> {
+    let alloc = rt.alloc();
+    let mut driver = Driver::new(alloc, 67_108_864)?;
+    let display = play(alloc, &mut driver, EglKind::GetDisplay, 0)?;
+    assert_eq!(rt; (display.outcome, display.value), (Outcome::Done, 1));
+    let initialized = play(alloc, &mut driver, EglKind::Initialize, 1)?;
+    assert_eq!(rt;
+        (initialized.outcome, initialized.value),
+        (Outcome::Done, 1)
+    );
+    let success = i64::from(EglError::Success.code());
+    let first = play(alloc, &mut driver, EglKind::GetError, 0)?;
+    assert_eq!(rt; (first.outcome, first.value), (Outcome::Done, success));
+    let second = play(alloc, &mut driver, EglKind::GetError, 0)?;
+    assert_eq!(rt; (second.outcome, second.value), (Outcome::Done, success));
+    assert_eq!(rt; driver.census(), [0; 11]);
+    Ok(())
+}
+
+#[test]
+fn the_reader_reads_a_trace(rt: HostRuntime) -> Result<(), Fail> {
+    let alloc = rt.alloc();
+    let bytes = Bytes::from_vec(Vec::from_slice(alloc, TRACE)?);
+    let trace = Trace::read(alloc, &bytes)?;
+    let wanted = [
+        (2, Some(0), EglKind::GetDisplay, 0),
+        (3, None, EglKind::Initialize, 1),
+        (4, None, EglKind::GetError, 0),
+        (5, None, EglKind::GetError, 0),
+    ];
+    assert_eq!(rt; trace.lines().len(), wanted.len());
+    for (line, (number, assigns, kind, uses)) in trace.lines().iter().zip(wanted) {
+        assert_eq!(rt;
+            (line.number, line.thread, line.assigns),
+            (number, 0, assigns)
+        );
+        assert_eq!(rt; line.call.kind, Kind::Egl(kind));
+        assert_eq!(rt; line.uses.len(), uses);
+    }
+    Ok(())
+}
+
+#[test]
+fn references_are_kept_in_order(rt: HostRuntime) -> Result<(), Fail> {
+    let mut uses = Uses::new(rt.alloc());
+    for place in [3, 1] {
+        uses.push(Reference {
+            in_list: false,
+            place,
+            variable: 0,
+            item: None,
+        })?;
+    }
+    let places = [uses.at(0), uses.at(1), uses.at(2)];
+    assert_eq!(rt;
+        places.map(|used| used.map(|used| used.place)),
+        [Some(3), Some(1), None]
+    );
+    Ok(())
+}
