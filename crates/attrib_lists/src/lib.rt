@@ -5,7 +5,7 @@ mod allowed;
 pub mod laws;
 mod list;
 
-pub use allowed::{Allowed, is_allowed};
+pub use allowed::{Allowed, is_allowed, is_dont_care};
 pub use list::{AttribError, AttribList, bad_place, value_of};
 
 #[cfg(test)]

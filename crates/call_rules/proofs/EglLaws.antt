@@ -9,7 +9,7 @@ use Rattle.egl_calls.specs.Calls.{CallValue}
 use Rattle.egl_calls.specs.declared.kinds.Kind.{Kind}
 use Rattle.egl_calls.specs.declared.kinds.Kind.TheVariants.{Egl}
 use Rattle.egl_calls.specs.declared.kinds.EglKind.{EglKind}
-use Rattle.egl_calls.specs.declared.kinds.EglKind.TheVariants.{ChooseConfig, GetConfigAttrib, CreatePbufferSurface, CreateContext, MakeCurrent}
+use Rattle.egl_calls.specs.declared.kinds.EglKind.TheVariants.{Initialize, Terminate, GetConfigs, ChooseConfig, GetConfigAttrib, CreatePbufferSurface, CreateContext, MakeCurrent}
 use Rattle.egl_calls.specs.declared.errors.EglError.{EglError}
 use Rattle.egl_calls.specs.declared.errors.EglError.TheVariants.{BadAlloc, BadAttribute, BadConfig, BadContext, BadMatch, BadParameter}
 use Rattle.call_rules.specs.declared.egl_facts.EglFacts.{EglFacts}
@@ -17,7 +17,7 @@ use Rattle.call_rules.specs.Rows.{Row, ◌⇒◌, first_error}
 use Rattle.call_rules.specs.Arguments.{is_zero}
 use Rattle.call_rules.specs.EglRules.{display_row, display_rows, is_long, is_later_version, is_supported_version, is_release, is_wrong, current_rows, egl_rows, egl_refusal_by, egl_refusal}
 use Rattle.call_rules.specs.EglAllowed.{HasDisplay, ChoiceAllowed, AttributeAllowed, PbufferAsked, SidesFit, PbufferAllowed, IsTooLarge, PbufferWants, ContextAsked, ContextAllowed, CurrentAllowed}
-use Rattle.call_rules.proofs.RowLaws.{AllOff, all_off, past_off, none_on, NoneSays, from_others}
+use Rattle.call_rules.proofs.RowLaws.{AllOff, all_off, past_off, none_on, NoneSays, from_others, never_says}
 use Rattle.call_rules.proofs.TestLaws.{not_below, below, is_not_below, is_below, within, is_within, past, is_past}
 
 of_kind : (c : CallValue) (f : EglFacts) (k : EglKind) → c.kind ≡ Egl k → egl_refusal c f ≡ first_error (egl_rows k c f)
@@ -36,6 +36,25 @@ refused_not c f k h a = of_kind c f k h ∙ none_on (egl_rows k c f) a
 
 display : (f : EglFacts) → not f.is_display ≡ false → not f.is_initialized ≡ false → HasDisplay f
 display f a b = record { display = not-false _ a; initialized = not-false _ b }
+
+-- a call whose one row asks for a display
+pub initialize_allowed : (c : CallValue) (f : EglFacts) → c.kind ≡ Egl Initialize → egl_refusal c f ≡ None → f.is_display ≡ true
+initialize_allowed c f h n = let a = rows_off c f Initialize h n in not-false _ a.0
+
+pub initialize_passes : (c : CallValue) (f : EglFacts) → c.kind ≡ Egl Initialize → f.is_display ≡ true → egl_refusal c f ≡ None
+initialize_passes c f h d = refused_not c f Initialize h (off _ d, tt)
+
+pub terminate_allowed : (c : CallValue) (f : EglFacts) → c.kind ≡ Egl Terminate → egl_refusal c f ≡ None → f.is_display ≡ true
+terminate_allowed c f h n = let a = rows_off c f Terminate h n in not-false _ a.0
+
+pub terminate_passes : (c : CallValue) (f : EglFacts) → c.kind ≡ Egl Terminate → f.is_display ≡ true → egl_refusal c f ≡ None
+terminate_passes c f h d = refused_not c f Terminate h (off _ d, tt)
+
+pub configs_allowed : (c : CallValue) (f : EglFacts) → c.kind ≡ Egl GetConfigs → egl_refusal c f ≡ None → HasDisplay f
+configs_allowed c f h n = let a = rows_off c f GetConfigs h n in display f a.0 a.1.0
+
+pub configs_passes : (c : CallValue) (f : EglFacts) → c.kind ≡ Egl GetConfigs → HasDisplay f → egl_refusal c f ≡ None
+configs_passes c f h a = refused_not c f GetConfigs h (off _ a.display, (off _ a.initialized, tt))
 
 pub choice_allowed : (c : CallValue) (f : EglFacts) → c.kind ≡ Egl ChooseConfig → egl_refusal c f ≡ None → ChoiceAllowed f
 choice_allowed c f h n =
@@ -379,3 +398,23 @@ release_allowed c f h r n =
 
 pub release_passes : (c : CallValue) (f : EglFacts) → c.kind ≡ Egl MakeCurrent → is_release c ≡ true → f.is_display ≡ true → egl_refusal c f ≡ None
 release_passes c f h r d = release_is c f h r ∙ none_on (display_row f ∷ []) (off _ d, tt)
+
+-- the other calls have no row of EGL_BAD_ALLOC
+
+no_alloc_current : (b : Bool) (c : CallValue) (f : EglFacts) → NoneSays is_bad_alloc (cond b (display_row f ∷ []) (current_rows c f))
+no_alloc_current true c f = (refl, tt)
+no_alloc_current false c f = (refl, (refl, (refl, (refl, (refl, (refl, (refl, (refl, tt))))))))
+
+only_two : (k : EglKind) (c : CallValue) (f : EglFacts) → first_error (egl_rows k c f) ≡ Some BadAlloc → (k ≡ CreatePbufferSurface) ⊎ (k ≡ CreateContext)
+only_two CreatePbufferSurface c f h = inl refl
+only_two CreateContext c f h = inr refl
+only_two Initialize c f h = absurd (never_says is_bad_alloc BadAlloc (egl_rows Initialize c f) refl (refl, tt) h)
+only_two Terminate c f h = absurd (never_says is_bad_alloc BadAlloc (egl_rows Terminate c f) refl (refl, tt) h)
+only_two GetConfigs c f h = absurd (never_says is_bad_alloc BadAlloc (egl_rows GetConfigs c f) refl (refl, (refl, tt)) h)
+only_two ChooseConfig c f h = absurd (never_says is_bad_alloc BadAlloc (egl_rows ChooseConfig c f) refl (refl, (refl, (refl, tt))) h)
+only_two GetConfigAttrib c f h = absurd (never_says is_bad_alloc BadAlloc (egl_rows GetConfigAttrib c f) refl (refl, (refl, (refl, (refl, tt)))) h)
+only_two MakeCurrent c f h = absurd (never_says is_bad_alloc BadAlloc (egl_rows MakeCurrent c f) refl (no_alloc_current (is_release c) c f) h)
+only_two k c f h = absurd (let e : None ≡ Some BadAlloc = h in cc)
+
+pub two_want : (c : CallValue) (f : EglFacts) (k : EglKind) → c.kind ≡ Egl k → egl_refusal c f ≡ Some BadAlloc → (k ≡ CreatePbufferSurface) ⊎ (k ≡ CreateContext)
+two_want c f k h n = only_two k c f (sym (of_kind c f k h) ∙ n)

@@ -8,7 +8,7 @@ use Rattle.egl_calls.specs.declared.kinds.Kind.{Kind}
 use Rattle.egl_calls.specs.declared.kinds.Kind.TheVariants.{Gl}
 use Rattle.egl_calls.specs.declared.kinds.GlKind.{GlKind}
 use Rattle.egl_calls.specs.declared.kinds.GlKind.TheVariants.{Clear, ReadPixels}
-use Rattle.egl_names.specs.Names.{unsigned}
+use Rattle.egl_calls.specs.Ranges.{unsigned}
 use Rattle.egl_names.specs.declared.codes.TheConstants.{GL_RGB, GL_RGBA, GL_UNSIGNED_BYTE, GL_UNSIGNED_SHORT_5_6_5}
 use Rattle.call_rules.specs.declared.gl_facts.GlFacts.{GlFacts}
 use Rattle.call_rules.specs.Rows.{first_error}

@@ -45,3 +45,8 @@ from_others p e (r ∷ rs) others y n h =
     let o = later p r.holds r.error e (first_error (rs ++ others)) n.0 y h in
     let rest = from_others p e rs others y n.1 o.1 in
     ((o.0, rest.0), rest.1)
+
+-- an error that no row has isn't answered
+pub never_says : {E : Type 0} (p : E → Bool) (e : E) (rs : List (Row E)) → p e ≡ true → NoneSays p rs → first_error rs ≡ Some e → ⊥
+never_says p e [] y n h = absurd (let f : None ≡ Some e = h in cc)
+never_says p e (r ∷ rs) y n h = let o = later p r.holds r.error e (first_error rs) n.0 y h in never_says p e rs y n.1 o.1

@@ -5,12 +5,11 @@ ghost use Rattle.call_rules.specs.Rows.{first_error};
 ghost use Rattle.call_rules.specs.GlRules.{gl_refusal, gl_rows, is_clear_mask, is_no_side, is_read_format, is_read_type, is_read_pair};
 
 use crate::gl_facts::GlFacts;
-use egl_calls::{Call, GlError, GlKind, Kind};
+use egl_calls::{Call, GlError, GlKind, Kind, unsigned};
 use egl_names::codes::{
     GL_COLOR_BUFFER_BIT, GL_DEPTH_BUFFER_BIT, GL_RGB, GL_RGBA, GL_STENCIL_BUFFER_BIT,
     GL_UNSIGNED_BYTE, GL_UNSIGNED_SHORT_5_6_5,
 };
-use egl_names::unsigned;
 
 const BUFFER_BITS: u64 = GL_COLOR_BUFFER_BIT | GL_DEPTH_BUFFER_BIT | GL_STENCIL_BUFFER_BIT;
 

@@ -1,16 +1,24 @@
 //! What follows where a call isn't refused, and where EGL_BAD_ALLOC comes: the contracts of functions that do nothing.
-ghost use Rattle.std.specs.Prelude.{◌≡◌, ◌↔◌, true, false};
+ghost use Rattle.std.specs.Prelude.{◌≡◌, ◌↔◌, ◌⊎◌, true, false};
 ghost use Rattle.egl_calls.specs.Calls.{CallValue};
 ghost use Rattle.egl_calls.specs.declared.kinds.Kind.TheVariants.{Egl, Gl};
-ghost use Rattle.egl_calls.specs.declared.kinds.EglKind.TheVariants.{ChooseConfig, GetConfigAttrib, CreatePbufferSurface, CreateContext, MakeCurrent};
+ghost use Rattle.egl_calls.specs.declared.kinds.EglKind.{EglKind as Kinds};
+ghost use Rattle.egl_calls.specs.declared.kinds.EglKind.TheVariants.{Initialize, Terminate, GetConfigs, ChooseConfig, GetConfigAttrib, CreatePbufferSurface, CreateContext, MakeCurrent};
 ghost use Rattle.egl_calls.specs.declared.kinds.GlKind.TheVariants.{Clear, ReadPixels};
 ghost use Rattle.egl_calls.specs.declared.errors.EglError.TheVariants.{BadAlloc};
 ghost use Rattle.call_rules.specs.declared.egl_facts.EglFacts.{EglFacts as Facts};
 ghost use Rattle.call_rules.specs.declared.gl_facts.GlFacts.{GlFacts as GlesFacts};
 ghost use Rattle.call_rules.specs.EglRules.{egl_refusal, is_release};
 ghost use Rattle.call_rules.specs.GlRules.{gl_refusal};
-ghost use Rattle.call_rules.specs.EglAllowed.{ChoiceAllowed, AttributeAllowed, PbufferAsked, PbufferAllowed, PbufferWants, ContextAsked, ContextAllowed, CurrentAllowed};
+ghost use Rattle.call_rules.specs.EglAllowed.{HasDisplay, ChoiceAllowed, AttributeAllowed, PbufferAsked, PbufferAllowed, PbufferWants, ContextAsked, ContextAllowed, CurrentAllowed};
 ghost use Rattle.call_rules.specs.GlAllowed.{ClearAllowed, ReadAllowed};
+
+/// eglInitialize and eglTerminate go through exactly with a display (EGL 1.5, section 3.2), and eglGetConfigs with an initialised one (section 3.4.1).
+pub fn display_call_is_allowed()
+    ensures initialize { (c : CallValue) (f : Facts) → c.kind ≡ Egl Initialize → (egl_refusal c f ≡ None) ↔ (f.is_display ≡ true) }
+    ensures terminate { (c : CallValue) (f : Facts) → c.kind ≡ Egl Terminate → (egl_refusal c f ≡ None) ↔ (f.is_display ≡ true) }
+    ensures configs { (c : CallValue) (f : Facts) → c.kind ≡ Egl GetConfigs → (egl_refusal c f ≡ None) ↔ HasDisplay f }
+{}
 
 /// eglChooseConfig goes through exactly with an initialised display and a list that is allowed (EGL 1.5, section 3.4.1).
 pub fn choice_is_allowed()
@@ -40,6 +48,11 @@ pub fn context_is_allowed()
 /// eglCreateContext answers EGL_BAD_ALLOC exactly where no other error comes first and the numbers of handles are used up.
 pub fn context_wants_handles()
     ensures { (c : CallValue) (f : Facts) → c.kind ≡ Egl CreateContext → (egl_refusal c f ≡ Some BadAlloc) ↔ (ContextAsked f × (f.are_handles_used_up ≡ true)) }
+{}
+
+/// No other call answers EGL_BAD_ALLOC.
+pub fn two_calls_want()
+    ensures { (c : CallValue) (f : Facts) (k : Kinds) → c.kind ≡ Egl k → egl_refusal c f ≡ Some BadAlloc → (k ≡ CreatePbufferSurface) ⊎ (k ≡ CreateContext) }
 {}
 
 /// eglMakeCurrent with 0 three times asks for a display alone; else it goes through exactly where all three fit and are free (section 3.7.3).

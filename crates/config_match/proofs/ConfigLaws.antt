@@ -1,16 +1,17 @@
 -- Which numbers are ids of configs, and which configs are compatible.
 use Rattle.std.proofs.Common.{◌≡◌, ℕ, zero, suc, ℤ, pos, negsuc, ◌<◌, Bool, true, false, ◌&&◌, List, Option, None, Some, Result, refl, sym, ap, ◌∙◌, map, arith}
-use Rattle.std.specs.Prelude.{IfOk, int_le, is_some}
+use Rattle.std.specs.Prelude.{IfOk, int_le, is_some, bit_and, unwrap_or}
 use Rattle.std.specs.List.{list_all}
 use Rattle.std.specs.Option.{option_map, option_and_then}
 use Rattle.std.specs.Ordering.{int_eq}
 use Rattle.std.proofs.lemmas.Bool.Decides.{nat_tests}
 use Rattle.std.proofs.lemmas.Cmp.{int_eq_equiv}
-use Rattle.egl_names.specs.Names.{unsigned}
+use Rattle.egl_calls.specs.Ranges.{unsigned}
+use Rattle.egl_names.specs.declared.codes.TheConstants.{EGL_PBUFFER_BIT, EGL_SURFACE_TYPE}
 use Rattle.config_match.specs.declared.table.Config.{Config}
 use Rattle.config_match.specs.Table.{attribute, attribute_of, config_in, configs, is_config, all_ids}
 use Rattle.config_match.specs.Compatible.{are_compatible, are_compatible_in, compared, is_same}
-use Rattle.config_match.specs.Laws.{IsCompatibility}
+use Rattle.config_match.specs.Laws.{AllHavePbuffers, IsCompatibility}
 use Rattle.config_match.proofs.ChoiceLaws.{if_ok_same}
 
 none_past : (n : ℕ) → 8 < n → config_in configs n ≡ None
@@ -43,6 +44,32 @@ below n = refl
 pub ids_are : (id : ℤ) → is_config id ≡ (int_le (pos 1) id && int_le id (pos 8))
 ids_are (pos n) = id_at n
 ids_are (negsuc n) = below n
+
+-- a config has the bit of pbuffers
+HasPbuffers : ℤ → Type 0
+HasPbuffers id = bit_and (unsigned (unwrap_or (attribute id (pos EGL_SURFACE_TYPE)) (pos 0))) EGL_PBUFFER_BIT ≡ EGL_PBUFFER_BIT
+
+no_config : (id : ℤ) → is_config id ≡ false → is_config id ≡ true → HasPbuffers id
+no_config id f t = absurd (let e : false ≡ true = sym f ∙ t in cc)
+
+pbuffers_at : (n : ℕ) → is_config (pos n) ≡ true → HasPbuffers (pos n)
+unfolding HasPbuffers attribute attribute_of
+pbuffers_at zero h = no_config (pos 0) (ids_are (pos 0)) h
+pbuffers_at (suc zero) h = refl
+pbuffers_at (suc (suc zero)) h = refl
+pbuffers_at (suc (suc (suc zero))) h = refl
+pbuffers_at (suc (suc (suc (suc zero)))) h = refl
+pbuffers_at (suc (suc (suc (suc (suc zero))))) h = refl
+pbuffers_at (suc (suc (suc (suc (suc (suc zero)))))) h = refl
+pbuffers_at (suc (suc (suc (suc (suc (suc (suc zero))))))) h = refl
+pbuffers_at (suc (suc (suc (suc (suc (suc (suc (suc zero)))))))) h = refl
+pbuffers_at (suc (suc (suc (suc (suc (suc (suc (suc (suc n))))))))) h =
+    let m = suc (suc (suc (suc (suc (suc (suc (suc (suc n)))))))) in no_config (pos m) (ids_are (pos m) ∙ past_one m (omega arith)) h
+
+pub pbuffers_are : AllHavePbuffers
+unfolding HasPbuffers
+pbuffers_are (pos n) h = pbuffers_at n h
+pbuffers_are (negsuc n) h = no_config (negsuc n) (ids_are (negsuc n)) h
 
 pub all_are : {E : Type 0} (r : Result (List ℤ) E) (rows : List Config) → rows ≡ configs → IfOk r (λ ids. ids ≡ map (λ c. pos c.id) rows) → IfOk r (λ ids. ids ≡ all_ids)
 unfolding all_ids

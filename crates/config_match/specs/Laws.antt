@@ -1,10 +1,12 @@
 -- What is true of the configs and of every choice.
-use Rattle.std.specs.Prelude.{◌≡◌, ℕ, ℤ, pos, ◌&&◌, List, Some, map, filter, slice_get, ◌≤◌, int_le}
+use Rattle.std.specs.Prelude.{◌≡◌, ℕ, ℤ, pos, true, ◌&&◌, List, Some, map, filter, slice_get, ◌≤◌, int_le, bit_and, unwrap_or}
+use Rattle.egl_calls.specs.Ranges.{unsigned}
+use Rattle.egl_names.specs.declared.codes.TheConstants.{EGL_PBUFFER_BIT, EGL_SURFACE_TYPE}
 use Rattle.std.specs.List.Sorted.{IsPermutation, IsSorted}
 use Rattle.std.specs.Ordering.{nat_cmp}
 use Rattle.std.specs.Cmp.Lexicographic.{slice_cmp}
 use Rattle.config_match.specs.declared.table.Config.{Config}
-use Rattle.config_match.specs.Table.{configs, is_config}
+use Rattle.config_match.specs.Table.{attribute, configs, is_config}
 use Rattle.config_match.specs.Compatible.{are_compatible}
 use Rattle.config_match.specs.Configs.{matches, key, id_of_key, requested_bits}
 
@@ -26,6 +28,10 @@ pub record IsChoice (list ids : List ℤ) : Type 0 where
 -- the ids are 1 to 8
 abbrev pub IdsAreOneToEight : Type 0
 IdsAreOneToEight = (id : ℤ) → is_config id ≡ (int_le (pos 1) id && int_le id (pos 8))
+
+-- each config has the bit of pbuffers among its kinds of surfaces (EGL 1.5, section 3.4)
+abbrev pub AllHavePbuffers : Type 0
+AllHavePbuffers = (id : ℤ) → is_config id ≡ true → bit_and (unsigned (unwrap_or (attribute id (pos EGL_SURFACE_TYPE)) (pos 0))) EGL_PBUFFER_BIT ≡ EGL_PBUFFER_BIT
 
 -- a config is compatible with itself, and with those that are compatible with it
 pub record IsCompatibility : Type 0 where

@@ -1,7 +1,7 @@
 -- The configs and their attributes.
 use Rattle.std.specs.Prelude.{ℕ, ◌+◌, ℤ, pos, Bool, List, [], ◌∷◌, Option, None, Some, ◌==◌, if◌then◌else◌, find, map, is_some}
 use Rattle.std.specs.Option.{option_map, option_or, option_and_then}
-use Rattle.egl_names.specs.Names.{unsigned}
+use Rattle.egl_calls.specs.Ranges.{unsigned}
 use Rattle.egl_names.specs.declared.codes.TheConstants.{EGL_BUFFER_SIZE, EGL_RED_SIZE, EGL_GREEN_SIZE, EGL_BLUE_SIZE, EGL_ALPHA_SIZE, EGL_LUMINANCE_SIZE, EGL_ALPHA_MASK_SIZE, EGL_DEPTH_SIZE, EGL_STENCIL_SIZE, EGL_SAMPLE_BUFFERS, EGL_SAMPLES, EGL_BIND_TO_TEXTURE_RGB, EGL_BIND_TO_TEXTURE_RGBA, EGL_CONFIG_CAVEAT, EGL_CONFIG_ID, EGL_MAX_SWAP_INTERVAL, EGL_MIN_SWAP_INTERVAL, EGL_NATIVE_RENDERABLE, EGL_NATIVE_VISUAL_ID, EGL_NATIVE_VISUAL_TYPE, EGL_TRANSPARENT_TYPE, EGL_TRANSPARENT_RED_VALUE, EGL_TRANSPARENT_GREEN_VALUE, EGL_TRANSPARENT_BLUE_VALUE, EGL_COLOR_BUFFER_TYPE, EGL_LEVEL, EGL_SURFACE_TYPE, EGL_RENDERABLE_TYPE, EGL_CONFORMANT, EGL_MAX_PBUFFER_WIDTH, EGL_MAX_PBUFFER_HEIGHT, EGL_MAX_PBUFFER_PIXELS, EGL_NONE, EGL_SLOW_CONFIG, EGL_NON_CONFORMANT_CONFIG, EGL_RGB_BUFFER}
 use Rattle.config_match.specs.declared.table.Config.{Config}
 use Rattle.config_match.specs.declared.table.Caveat.{Caveat}

@@ -14,8 +14,7 @@ use crate::key::{Key, key};
 use crate::matching::matches;
 use crate::table::{Config, attribute_of, standard_configs};
 use attrib_lists::{Allowed, AttribError, AttribList};
-use egl_calls::{NoMemory, Numbers};
-use egl_names::unsigned;
+use egl_calls::{NoMemory, Numbers, unsigned};
 use std::alloc::Global;
 use std::marker::Model;
 

@@ -2,12 +2,12 @@
 ghost use Rattle.std.specs.Prelude.{◌≡◌, ◌==◌, pos, int_le, bit_and};
 ghost use Rattle.std.specs.List.{list_all};
 ghost use Rattle.std.specs.Ordering.{int_eq};
-ghost use Rattle.attrib_lists.specs.Ranges.{is_dont_care};
 ghost use Rattle.config_match.specs.Configs.{wanted, value, has_at_least, has_exactly, has_bits, meets_all, matches};
 
 use crate::surface_bits::has_surface_bits;
 use crate::table::{Config, attribute_of};
-use attrib_lists::AttribList;
+use attrib_lists::{AttribList, is_dont_care};
+use egl_calls::unsigned;
 use egl_names::codes::{
     EGL_ALPHA_MASK_SIZE, EGL_ALPHA_SIZE, EGL_BIND_TO_TEXTURE_RGB, EGL_BIND_TO_TEXTURE_RGBA,
     EGL_BLUE_SIZE, EGL_BUFFER_SIZE, EGL_COLOR_BUFFER_TYPE, EGL_CONFIG_CAVEAT, EGL_CONFIG_ID,
@@ -16,7 +16,6 @@ use egl_names::codes::{
     EGL_OPENGL_ES_BIT, EGL_RED_SIZE, EGL_RENDERABLE_TYPE, EGL_RGB_BUFFER, EGL_SAMPLE_BUFFERS,
     EGL_SAMPLES, EGL_STENCIL_SIZE, EGL_SURFACE_TYPE, EGL_TRANSPARENT_TYPE, EGL_WINDOW_BIT,
 };
-use egl_names::unsigned;
 
 /// The attributes that a config must have at least, all 0 by default.
 static AT_LEAST: [u32; 11] = [
@@ -88,12 +87,6 @@ fn is_number(wanted: i64, value: u32) -> bool
     } else {
         wanted as u64 == value as u64
     }
-}
-
-fn is_dont_care(wanted: i64) -> bool
-    ensures { result ≡ is_dont_care wanted }
-{
-    wanted == EGL_DONT_CARE
 }
 
 #[tactic(auto, unfolding(crate::specs::Configs::has_at_least))]

@@ -99,7 +99,7 @@ impl Driver {
             is_share_here: self.is_share_here(call),
             version: listed(call, EGL_CONTEXT_CLIENT_VERSION, 1),
             minor_version: listed(call, EGL_CONTEXT_MINOR_VERSION, 0),
-            are_handles_used_up: self.displays.next_handle() >= 2_147_483_648,
+            are_handles_used_up: self.displays.are_used_up(),
             ..self.display_facts(call)
         }
     }

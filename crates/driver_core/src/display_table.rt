@@ -1,5 +1,5 @@
 //! The displays and the valid handles.
-ghost use Rattle.std.specs.Prelude.{◌≡◌, ◌+◌, ◌-◌, ◌<◌, not, ◌==◌, [], ◌∷◌, ◌++◌, false, filter, find, if◌then◌else◌, OnOk, vec_len, vec_capacity};
+ghost use Rattle.std.specs.Prelude.{◌≡◌, ◌+◌, ◌-◌, ◌<◌, nat_le, not, ◌==◌, [], ◌∷◌, ◌++◌, false, filter, find, if◌then◌else◌, OnOk, vec_len, vec_capacity};
 ghost use Rattle.egl_model.specs.Handles.{is_same_kind, is_named, is_named_on};
 ghost use Rattle.driver_core.specs.DisplayTables.{DisplaysValue};
 
@@ -7,6 +7,9 @@ use egl_calls::NoMemory;
 use egl_model::{Handle, HandleKind};
 use std::alloc::Global;
 use std::marker::Model;
+
+/// Handles have lower numbers, so that each fits an EGLint.
+const HANDLES_END: u32 = 2_147_483_648;
 
 /// Two displays, each initialised or not, and the valid handles of both.
 #[derive(Drop)]
@@ -101,6 +104,13 @@ impl DisplayTable {
         ensures { result ≡ self.now.next_handle }
     {
         self.next_handle
+    }
+
+    /// Whether no number is left for another handle.
+    pub fn are_used_up(&self) -> bool
+        ensures { result ≡ nat_le 2147483648 self.now.next_handle }
+    {
+        self.next_handle >= HANDLES_END
     }
 
     /// Sets whether a display is initialised.

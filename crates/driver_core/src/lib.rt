@@ -9,6 +9,7 @@ mod display_table;
 mod displays;
 mod drawing;
 mod machine;
+mod make_current;
 mod refusals;
 mod replies;
 mod stepping;

@@ -19,7 +19,7 @@ pub struct Driver {
     pub(crate) objects: ObjectTable,
     pub(crate) threads: ThreadTable,
     pub(crate) video: u64,
-    // whether nothing was released since the last sweep
+    // true only where nothing was released since the last sweep
     pub(crate) is_swept: bool,
 }
 

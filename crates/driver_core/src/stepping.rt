@@ -1,6 +1,6 @@
 //! One call of one thread.
-ghost use Rattle.std.specs.Prelude.{◌≡◌, ◌<◌, true, None, Some, IfOk, IsOk, OnOk, OnErr, pos};
-ghost use Rattle.driver_core.specs.Memory.{egl_takes_no_memory, takes_no_memory};
+ghost use Rattle.std.specs.Prelude.{◌≡◌, ◌<◌, true, None, Some, is_some, IfOk, IsOk, OnOk, OnErr, pos};
+ghost use Rattle.driver_core.specs.Memory.{egl_takes_no_memory, gl_takes_no_memory, takes_no_memory, is_refused};
 ghost use Rattle.egl_calls.specs.Kinds.{is_built};
 ghost use Rattle.egl_calls.specs.declared.kinds.Kind.TheVariants.{Egl as EglCall, Gl as GlCall};
 ghost use Rattle.std.specs.Prelude.{All};
@@ -116,6 +116,7 @@ impl Driver {
         ensures state { OnOk result (self.new ≡ record self.old { state = (egl_step self.old.state thread kind call.now).state }) }
         ensures err { OnErr result (self.new ≡ self.old) }
         ensures memory { egl_takes_no_memory kind ≡ true → IsOk result }
+        ensures refused { is_some (egl_refusal self.old.state thread kind call.now) ≡ true → IsOk result }
     {
         match self.egl_refusal(thread, kind, call) {
             Some(error) => {
@@ -146,6 +147,7 @@ impl Driver {
         ensures reply { IfOk result (λ r. r ≡ done (gl_effect self.old.state thread context kind call.now)) }
         ensures state { OnOk result (self.new ≡ record self.old { state = (gl_effect self.old.state thread context kind call.now).state }) }
         ensures err { OnErr result (self.new ≡ self.old) }
+        ensures memory { gl_takes_no_memory kind ≡ true → IsOk result }
     {
         match kind {
             GlKind::GetError | GlKind::ClearColorx => {
@@ -174,6 +176,8 @@ impl Driver {
         ensures reply { IfOk result (λ r. r ≡ (gl_step self.old.state thread kind call.now).reply) }
         ensures state { OnOk result (self.new ≡ record self.old { state = (gl_step self.old.state thread kind call.now).state }) }
         ensures err { OnErr result (self.new ≡ self.old) }
+        ensures memory { gl_takes_no_memory kind ≡ true → IsOk result }
+        ensures refused { is_some (gl_refusal call.now) ≡ true → IsOk result }
     {
         let Some(context) = self.current_context(thread) else {
             return Ok(bare(alloc, Outcome::Done));
@@ -198,6 +202,7 @@ impl Driver {
         ensures state { OnOk result (self.new ≡ record self.old { state = (step_by self.old.state thread call.now.kind call.now).state }) }
         ensures err { OnErr result (self.new ≡ self.old) }
         ensures memory { takes_no_memory call.now.kind ≡ true → IsOk result }
+        ensures refused { is_refused self.old.state thread call.now.kind call.now ≡ true → IsOk result }
     {
         match call.kind {
             Kind::Egl(kind) => self.egl_step(alloc, thread, kind, call),
@@ -206,7 +211,7 @@ impl Driver {
         }
     }
 
-    /// Plays one call of a thread, and answers its reply. Every refusal of the standard is a reply. Where memory runs out nothing has changed.
+    /// Plays one call of a thread, and answers its reply. Every refusal of the standard is a reply, and takes no memory. Where memory runs out nothing has changed.
     #[tactic(auto, using(egl_model::proofs::StepLaws::step_waits, egl_model::proofs::StepLaws::step_goes))]
     pub fn step(&mut self, alloc: Global, thread: u32, call: &Call) -> Result<Reply, NoMemory>
         requires made { thread < self.old.made }
@@ -215,6 +220,7 @@ impl Driver {
         ensures state { OnOk result (self.new ≡ record self.old { state = (step self.old.state thread call.now).state }) }
         ensures err { OnErr result (self.new ≡ self.old) }
         ensures memory { takes_no_memory call.now.kind ≡ true → IsOk result }
+        ensures refused { is_refused self.old.state thread call.now.kind call.now ≡ true → IsOk result }
     {
         if self.record(thread).wait.is_some() {
             return Ok(waiting_reply(alloc, call.kind));

@@ -9,7 +9,6 @@ ghost use Rattle.surface_store.specs.Formats.{format_of};
 ghost use Rattle.surface_store.specs.Surfaces.{pbuffer, taken};
 ghost use Rattle.driver_objects.specs.Storages.{stored};
 ghost use Rattle.egl_model.specs.Surfaces.{asked_width, asked_height, asks_for_largest, side_of, pbuffer_bytes, pbuffer_facts, pbuffer_objects, created_pbuffer};
-ghost use Rattle.egl_model.specs.Handles.{are_used_up};
 
 use crate::arguments::{listed, number, signed};
 use crate::configs::is_list_allowed;
@@ -18,10 +17,9 @@ use attrib_lists::Allowed;
 use call_rules::EglFacts;
 use config_match::Configs;
 use driver_objects::{BackedSurface, Object, Storage};
-use egl_calls::{Call, NoMemory};
+use egl_calls::{Call, NoMemory, unsigned};
 use egl_model::HandleKind;
 use egl_names::codes::{EGL_HEIGHT, EGL_LARGEST_PBUFFER, EGL_WIDTH};
-use egl_names::unsigned;
 use object_table::ObjectTable;
 use pixel_formats::bytes_of;
 use std::alloc::Global;
@@ -110,7 +108,7 @@ impl Driver {
             live_bytes: self.objects.live_bytes(),
             new_bytes: pbuffer_bytes(config, side_of(width), side_of(height)),
             video_limit: self.video,
-            are_handles_used_up: self.displays.next_handle() >= 2_147_483_648,
+            are_handles_used_up: self.displays.are_used_up(),
             ..self.display_facts(call)
         }
     }

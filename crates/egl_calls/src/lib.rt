@@ -8,6 +8,7 @@ mod errors;
 mod kinds;
 mod memory;
 mod number_list;
+mod numbers;
 mod replies;
 #[cfg(test)]
 mod tests;
@@ -20,5 +21,6 @@ pub use errors::{EglError, GlError, Outcome};
 pub use kinds::{EglKind, GlKind, Kind, OwnKind, is_built};
 pub use memory::NoMemory;
 pub use number_list::Numbers;
+pub use numbers::unsigned;
 pub use replies::Reply;
 pub use text_list::Text;

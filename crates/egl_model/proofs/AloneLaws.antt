@@ -15,7 +15,7 @@ use Rattle.egl_model.specs.declared.records.Bound.{Bound}
 use Rattle.egl_model.specs.declared.records.ThreadRecord.{ThreadRecord}
 use Rattle.egl_model.specs.State.{State, capacity, initial, opening, record_of}
 use Rattle.egl_model.specs.Currents.{has_context, has_surface, is_bound, is_context_elsewhere, is_surface_elsewhere}
-use Rattle.egl_model.specs.Contexts.{bind, bound_by, context_handle, current_facts, draw_handle, first_use, made_current, read_handle}
+use Rattle.egl_model.specs.MakeCurrent.{bind, bound_by, context_handle, current_facts, draw_handle, first_use, made_current, read_handle}
 use Rattle.egl_model.specs.EglFacts.{egl_refusal}
 use Rattle.egl_model.specs.Step.{step}
 use Rattle.egl_model.specs.Sound.{HasBothOrNone, IsAlone, NoWaits}

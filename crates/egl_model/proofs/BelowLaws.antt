@@ -22,7 +22,7 @@ use Rattle.egl_model.specs.State.{State, capacity, initial, opening, record_of, 
 use Rattle.egl_model.specs.Arguments.{number}
 use Rattle.egl_model.specs.Displays.{terminated}
 use Rattle.egl_model.specs.Handles.{is_named_on, with_handle}
-use Rattle.egl_model.specs.Contexts.{bind, bound_by, context_handle, draw_handle, first_use, made_current, read_handle}
+use Rattle.egl_model.specs.MakeCurrent.{bind, bound_by, context_handle, draw_handle, first_use, made_current, read_handle}
 use Rattle.egl_model.specs.EglEffects.{egl_effect}
 use Rattle.egl_model.specs.GlEffects.{gl_effect}
 use Rattle.egl_model.specs.Step.{step}

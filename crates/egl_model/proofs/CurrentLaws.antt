@@ -18,7 +18,7 @@ use Rattle.egl_model.specs.declared.records.ThreadRecord.{ThreadRecord}
 use Rattle.egl_model.specs.State.{State, initial, record_of}
 use Rattle.egl_model.specs.Arguments.{number}
 use Rattle.egl_model.specs.Handles.{is_named_on, is_same_kind}
-use Rattle.egl_model.specs.Contexts.{bound_by, context_handle, current_facts, draw_handle, made_current, read_handle}
+use Rattle.egl_model.specs.MakeCurrent.{bound_by, context_handle, current_facts, draw_handle, made_current, read_handle}
 use Rattle.egl_model.specs.EglFacts.{egl_refusal}
 use Rattle.egl_model.specs.Step.{step}
 use Rattle.egl_model.specs.CurrentCalls.{HasNoneCurrent, IsBoundBy, IsMadeCurrent, IsValid}

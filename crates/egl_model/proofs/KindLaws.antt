@@ -21,7 +21,7 @@ use Rattle.egl_model.specs.declared.records.ThreadRecord.{ThreadRecord}
 use Rattle.egl_model.specs.State.{State, initial, object_at, record_of, set_error}
 use Rattle.egl_model.specs.Displays.{terminated}
 use Rattle.egl_model.specs.Objects.{as_context, as_surface, context_in, surface_in, with_part, change_part, with_storage, change_storage}
-use Rattle.egl_model.specs.Contexts.{first_use}
+use Rattle.egl_model.specs.MakeCurrent.{first_use}
 use Rattle.egl_model.specs.Sweep.{is_reached, roots, sweep}
 use Rattle.egl_model.specs.Step.{note_error}
 use Rattle.egl_model.specs.Links.{IsLinked}

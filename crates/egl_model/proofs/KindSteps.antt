@@ -16,7 +16,7 @@ use Rattle.egl_model.specs.declared.records.ThreadRecord.{ThreadRecord}
 use Rattle.egl_model.specs.State.{State, initial, record_of}
 use Rattle.egl_model.specs.Arguments.{number}
 use Rattle.egl_model.specs.Handles.{is_named_on, is_same_kind}
-use Rattle.egl_model.specs.Contexts.{bind, bound_by, context_handle, draw_handle, first_use, made_current, read_handle}
+use Rattle.egl_model.specs.MakeCurrent.{bind, bound_by, context_handle, draw_handle, first_use, made_current, read_handle}
 use Rattle.egl_model.specs.Kinds.{IsA, KindsFit, NamesItsKind, named_kind}
 use Rattle.egl_model.proofs.KindLaws.{SameKinds, same_kinds, same_kinds-first_use, kinds_as}
 use Rattle.egl_model.proofs.Ways.{either}

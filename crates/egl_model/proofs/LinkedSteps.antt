@@ -26,7 +26,7 @@ use Rattle.egl_model.specs.Arguments.{number}
 use Rattle.egl_model.specs.Displays.{terminated}
 use Rattle.egl_model.specs.Handles.{is_named_on}
 use Rattle.egl_model.specs.Objects.{with_part, change_part, with_storage, change_storage}
-use Rattle.egl_model.specs.Contexts.{bind, bound_by, context_handle, draw_handle, first_use, made_current, read_handle}
+use Rattle.egl_model.specs.MakeCurrent.{bind, bound_by, context_handle, draw_handle, first_use, made_current, read_handle}
 use Rattle.egl_model.specs.Sweep.{bound_object, edges_at, edges_in, held_by, roots_of}
 use Rattle.egl_model.specs.Step.{note_error}
 use Rattle.egl_model.specs.Laws.{has_object}

@@ -28,7 +28,8 @@ use Rattle.egl_model.specs.Drawing.{clear_storage, clears_colour}
 use Rattle.egl_model.specs.Objects.{with_part, change_part, with_storage, change_storage}
 use Rattle.egl_model.specs.Surfaces.{asked_height, asked_width, asks_for_largest, created_pbuffer, pbuffer_bytes, pbuffer_facts, pbuffer_objects, side_of}
 use Rattle.egl_model.specs.Arguments.{number}
-use Rattle.egl_model.specs.Contexts.{context_handle, context_objects, created_context, draw_handle, first_use, shared_group}
+use Rattle.egl_model.specs.Contexts.{context_objects, created_context, shared_group}
+use Rattle.egl_model.specs.MakeCurrent.{context_handle, draw_handle, first_use}
 use Rattle.egl_model.specs.Sweep.{bytes_in, edges_at, kept_in, live_bytes, swept}
 use Rattle.egl_model.specs.EglFacts.{egl_refusal}
 use Rattle.egl_model.specs.EglEffects.{egl_effect}

@@ -28,7 +28,8 @@ use Rattle.egl_model.specs.Drawing.{clear_storage, clears_colour}
 use Rattle.egl_model.specs.Handles.{with_handle}
 use Rattle.egl_model.specs.Objects.{as_context, as_storage, as_surface, context_in, change_part, change_storage, with_part, with_storage}
 use Rattle.egl_model.specs.Surfaces.{asked_height, asked_width, asks_for_largest, pbuffer_objects, side_of}
-use Rattle.egl_model.specs.Contexts.{context_handle, context_objects, draw_handle, first_use, share_handle, shared_group}
+use Rattle.egl_model.specs.Contexts.{context_objects, share_handle, shared_group}
+use Rattle.egl_model.specs.MakeCurrent.{context_handle, draw_handle, first_use}
 use Rattle.egl_model.specs.Sweep.{edges_at, edges_in, is_reached, sweep}
 use Rattle.egl_model.specs.EglEffects.{egl_effect}
 use Rattle.egl_model.specs.GlEffects.{applied, gl_effect}

@@ -9,7 +9,7 @@ use Rattle.egl_calls.specs.declared.errors.EglError.{EglError}
 use Rattle.egl_calls.specs.declared.errors.EglError.TheVariants.{Success}
 use Rattle.egl_model.specs.declared.records.ThreadRecord.{ThreadRecord}
 use Rattle.egl_model.specs.State.{State, initial, set_error}
-use Rattle.egl_model.specs.Contexts.{made_current}
+use Rattle.egl_model.specs.MakeCurrent.{made_current}
 use Rattle.egl_model.specs.EglFacts.{egl_refusal}
 use Rattle.egl_model.specs.EglEffects.{egl_effect}
 use Rattle.egl_model.specs.GlEffects.{gl_effect}

@@ -12,6 +12,7 @@ pub mod Displays
 pub mod Configs
 pub mod Surfaces
 pub mod Contexts
+pub mod MakeCurrent
 pub mod Drawing
 pub mod EglEffects
 pub mod GlEffects

@@ -19,6 +19,7 @@ ghost use Rattle.egl_model.specs.State.{State, object_at, opening, record_of, se
 ghost use Rattle.egl_model.specs.Currents.{current_context, part_of_context};
 ghost use Rattle.egl_model.specs.Sweep.{is_reached, live_bytes, sweep};
 ghost use Rattle.egl_model.specs.EglFacts.{egl_refusal};
+ghost use Rattle.egl_model.specs.GlFacts.{gl_refusal};
 ghost use Rattle.egl_model.specs.Step.{bare, note_error, step, waiting_reply};
 ghost use Rattle.egl_model.specs.History.{replay_from, IsLegalFrom};
 ghost use Rattle.egl_model.specs.Laws.{has_object, HasNoLitter, IsAllowedEgl, IsEglCall, IsGlCall, IsRefusedEgl, IsRefusedGl, is_of_wait, HandlesAreNew, ObjectsAreNew};
@@ -33,7 +34,7 @@ ghost use Rattle.egl_model.specs.NewHandles.{HasNewHandle};
 ghost use Rattle.egl_model.specs.Displays.{is_initialized};
 ghost use Rattle.egl_model.specs.Arguments.{number};
 ghost use Rattle.egl_model.specs.Sound.{IsSound};
-ghost use Rattle.egl_model.specs.Wants.{Answers, AsksTooLarge, IsFaultlessContext, IsFaultlessPbuffer, PixelsFit, WantsNumber, WantsVideo, asked_bytes};
+ghost use Rattle.egl_model.specs.Wants.{Answers, AnswersGl, AsksTooLarge, IsFaultlessContext, IsFaultlessPbuffer, PixelsFit, WantsNumber, WantsVideo, asked_bytes};
 
 /// A sweep leaves each object that chains of references reach as it is, and no other; it changes what is reached for none.
 pub fn a_sweep_keeps_what_is_reached()
@@ -173,9 +174,12 @@ pub fn replay_goes_on()
     ensures legal { (s : State) (before after : List Entry) → IsLegalFrom s before → IsLegalFrom (replay_from s before) after → IsLegalFrom s (before ++ after) }
 {}
 
-/// A call of EGL that no wait holds up answers an error exactly where a rule refuses it.
+/// A call that no wait holds up answers an error exactly where a rule refuses it (of OpenGL ES where a context is current), and else it is done.
 pub fn a_reply_tells_its_refusal()
-    ensures { (s : State) (t : ℕ) (k : EglKind) (c : CallValue) (e : AnEglError) → IsEglCall s t k c → Answers s t c e ↔ (egl_refusal s t k c ≡ Some e) }
+    ensures egl { (s : State) (t : ℕ) (k : EglKind) (c : CallValue) (e : AnEglError) → IsEglCall s t k c → Answers s t c e ↔ (egl_refusal s t k c ≡ Some e) }
+    ensures gl { (s : State) (t n : ℕ) (k : GlKind) (c : CallValue) (e : AGlError) → IsGlCall s t k c → current_context s t ≡ Some n → AnswersGl s t c e ↔ (gl_refusal c ≡ Some e) }
+    ensures egl_done { (s : State) (t : ℕ) (k : EglKind) (c : CallValue) → IsEglCall s t k c → egl_refusal s t k c ≡ None → (step s t c).reply.outcome ≡ Done }
+    ensures gl_done { (s : State) (t : ℕ) (k : GlKind) (c : CallValue) → IsGlCall s t k c → gl_refusal c ≡ None → (step s t c).reply.outcome ≡ Done }
 {}
 
 /// eglCreatePbufferSurface answers EGL_BAD_ALLOC exactly where nothing else is wrong, and a side is too large, or the pixels that live before the call and the new ones are too many, or no number is left for its handle (EGL 1.5, section 3.5.2).
@@ -188,6 +192,11 @@ pub fn a_pbuffer_wants_size_pixels_or_a_number()
 pub fn a_context_wants_a_number()
     ensures faultless { (s : State) (t : ℕ) (c : CallValue) → IsEglCall s t CreateContext c → Answers s t c BadAlloc → IsFaultlessContext s c }
     ensures wants { (s : State) (t : ℕ) (c : CallValue) → IsEglCall s t CreateContext c → IsFaultlessContext s c → Answers s t c BadAlloc ↔ WantsNumber s }
+{}
+
+/// No other call answers EGL_BAD_ALLOC.
+pub fn two_calls_want()
+    ensures { (s : State) (t : ℕ) (k : EglKind) (c : CallValue) → IsEglCall s t k c → Answers s t c BadAlloc → (k ≡ CreatePbufferSurface) ⊎ (k ≡ CreateContext) }
 {}
 
 /// A new pbuffer takes the bytes that its refusal counts, and a new context none; so in each history all pixels that live fit.

@@ -8,7 +8,7 @@ use Rattle.std.specs.List.{slice_split, onto_first, position_or_len, All, list_a
 use Rattle.std.proofs.lemmas.List.Splits.{slice_split_none, slice_split_first}
 use Rattle.std.proofs.lemmas.List.Sums.{fails_before_first, position_or_len_is}
 use Rattle.egl_names.specs.Names.{bit_word, is_bit_word, code_of, number_word, plain_words, value_in}
-use Rattle.egl_names.specs.Joined.{is_bar, parts, is_unknown_name, joined_bits, joined, joined_word, known_word, begins_with, is_digit, is_name_start}
+use Rattle.egl_names.specs.Joined.{is_bar, parts, is_unknown_name, joined_bits, joined, joined_word, known_word, begins_with, is_name_start}
 use Rattle.egl_names.specs.Parts.{part_of, is_unknown_part, with_part, word_of_bits, single_word, joined_parts}
 use Rattle.egl_names.specs.declared.joined.Part.TheVariants.{Bit as PartBit, UnknownName as PartUnknownName, NoBit}
 use Rattle.egl_names.specs.declared.joined.Word.{Word}
@@ -100,28 +100,27 @@ pub word_after_all : (bits : Option ℕ) → word_after bits [] ≡ word_of_bits
 unfolding word_after bits_after
 word_after_all bits = refl
 
--- a text with no bar is one word
-one_cases : (o : Option ℤ) (u : Bool) → (if (u && is_none o) || false then UnknownName else option_map_or Number o BadForm) ≡ option_map_or Number o (if u then UnknownName else BadForm)
-one_cases (Some n) true = refl
-one_cases (Some n) false = refl
-one_cases None true = refl
-one_cases None false = refl
+-- a text with no bar is one word, which begins like a name
+one_cases : (o : Option ℤ) (b : Bool) → b ≡ true → (if (b && is_none o) || false then UnknownName else option_map_or Number o BadForm) ≡ option_map_or Number o UnknownName
+one_cases (Some n) true e = refl
+one_cases None true e = refl
+one_cases o false e = absurd (let g : false ≡ true = e in cc)
 
--- what parts give, but for a text that begins with a digit
+-- what parts give, where the text begins like a name
 parted : List (List ℕ) → Word
 parted ps = if list_any is_unknown_name ps then UnknownName else joined ps
 
-joined_word_parted : (w : List ℕ) → begins_with is_digit w ≡ false → joined_word w ≡ parted (parts w)
+joined_word_parted : (w : List ℕ) → begins_with is_name_start w ≡ true → joined_word w ≡ parted (parts w)
 unfolding joined_word parted
-joined_word_parted w d = ap (λ (b : Bool). if b then BadForm else parted (parts w)) d
+joined_word_parted w b = ap (λ (x : Bool). if x then parted (parts w) else BadForm) b
 
-pub joined_word_digit : (w : List ℕ) → begins_with is_digit w ≡ true → joined_word w ≡ BadForm
+pub joined_word_other : (w : List ℕ) → begins_with is_name_start w ≡ false → joined_word w ≡ BadForm
 unfolding joined_word parted
-joined_word_digit w d = ap (λ (b : Bool). if b then BadForm else parted (parts w)) d
+joined_word_other w b = ap (λ (x : Bool). if x then parted (parts w) else BadForm) b
 
-pub joined_word_one : (w : List ℕ) → begins_with is_digit w ≡ false → parts w ≡ w ∷ [] → joined_word w ≡ single_word w
+pub joined_word_one : (w : List ℕ) → begins_with is_name_start w ≡ true → parts w ≡ w ∷ [] → joined_word w ≡ single_word w
 unfolding parted
-joined_word_one w d e = joined_word_parted w d ∙ ap parted e ∙ one_cases (known_word w) (begins_with is_name_start w)
+joined_word_one w b e = joined_word_parted w b ∙ ap parted e ∙ one_cases (known_word w) (begins_with is_name_start w) b
 
 -- a text with a bar has two parts or more
 some_parts : (w : List ℕ) → (x : List ℕ) × (more : List (List ℕ)) × (parts w ≡ x ∷ more)
@@ -133,7 +132,7 @@ some_parts (x ∷ xs) = go (is_bar x) (some_parts xs)
     go true r = ([], slice_split is_bar xs, refl)
     go false r = (x ∷ r.0, r.1, ap (onto_first x) r.2)
 
-pub joined_word_more : (w p rest : List ℕ) → begins_with is_digit w ≡ false → parts w ≡ p ∷ parts rest → joined_word w ≡ joined_parts (parts w)
+pub joined_word_more : (w p rest : List ℕ) → begins_with is_name_start w ≡ true → parts w ≡ p ∷ parts rest → joined_word w ≡ joined_parts (parts w)
 unfolding joined_parts parted
 joined_word_more w p rest d e =
     let more = some_parts rest in

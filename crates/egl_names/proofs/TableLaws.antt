@@ -4,7 +4,8 @@ use Rattle.std.specs.Option.{is_some, option_or}
 use Rattle.std.proofs.lemmas.Bool.{false≢true}
 use Rattle.egl_names.specs.declared.names.TheConstants.{NAMES}
 use Rattle.egl_names.specs.declared.number_words.TheConstants.{PLAIN_WORDS, BIT_WORDS}
-use Rattle.egl_names.specs.Names.{names, errors, config_attributes, other_egl_names, gl_names, plain_words, bit_words, name_at, name_of, unsigned}
+use Rattle.egl_names.specs.Names.{names, errors, config_attributes, other_egl_names, gl_names, plain_words, bit_words, name_at, name_of}
+use Rattle.egl_calls.specs.Ranges.{unsigned}
 
 pub names_are : map (λ s. s.now) NAMES ≡ names
 unfolding names errors config_attributes other_egl_names gl_names

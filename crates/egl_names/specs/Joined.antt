@@ -14,10 +14,6 @@ known_word w = option_or (option_map pos (code_of w)) (number_word w)
 abbrev pub is_name_start : ℕ → Bool
 is_name_start b = (nat_le 65 b && nat_le b 90) || (nat_le 97 b && nat_le b 122) || (b == 95)
 
--- an ASCII digit
-abbrev pub is_digit : ℕ → Bool
-is_digit b = nat_le 48 b && nat_le b 57
-
 -- whether the first byte passes
 abbrev pub begins_with : (ℕ → Bool) → List ℕ → Bool
 begins_with test [] = false
@@ -45,6 +41,6 @@ joined [] = BadForm
 joined (w ∷ []) = option_map_or Number (known_word w) BadForm
 joined (w ∷ v ∷ ws) = joined_bits (w ∷ v ∷ ws)
 
--- a text that begins with a digit is never joined words; an unknown name at any part comes before all else that is wrong
+-- a text that doesn't begin like a name is no word; an unknown name at any part comes before all else that is wrong
 unfoldable pub joined_word : List ℕ → Word
-joined_word w = if begins_with is_digit w then BadForm else (if list_any is_unknown_name (parts w) then UnknownName else joined (parts w))
+joined_word w = if begins_with is_name_start w then (if list_any is_unknown_name (parts w) then UnknownName else joined (parts w)) else BadForm

@@ -204,11 +204,6 @@ unfoldable pub name_of : ℤ → Option (List ℕ)
 name_of (pos n) = name_at names n
 name_of (negsuc n) = None
 
--- a number that is not negative, else 0
-abbrev pub unsigned : ℤ → ℕ
-unsigned (pos n) = n
-unsigned (negsuc n) = 0
-
 -- the place of a word in a list of words, counted from 0
 abbrev pub place_of : List (List ℕ) → List ℕ → Option ℕ
 place_of words w = position_from (λ x. bytes_eq x w) 0 words

@@ -3,15 +3,15 @@ use Rattle.std.specs.Prelude.{ℕ, pos, Bool, true, false, List, Option, None, S
 use Rattle.std.specs.List.{list_any}
 use Rattle.std.specs.Option.{option_map_or}
 use Rattle.egl_names.specs.Names.{bit_word}
-use Rattle.egl_names.specs.Joined.{known_word, is_name_start, begins_with, is_unknown_name, joined_bits}
+use Rattle.egl_names.specs.Joined.{known_word, is_unknown_name, joined_bits}
 use Rattle.egl_names.specs.declared.joined.Part.{Part}
 use Rattle.egl_names.specs.declared.joined.Part.TheVariants.{Bit as PartBit, UnknownName as PartUnknownName, NoBit}
 use Rattle.egl_names.specs.declared.joined.Word.{Word}
 use Rattle.egl_names.specs.declared.joined.Word.TheVariants.{Number, UnknownName, BadForm}
 
--- a word with no bar in it
+-- a word that begins like a name, with no bar in it
 abbrev pub single_word : List ℕ → Word
-single_word w = option_map_or Number (known_word w) (if begins_with is_name_start w then UnknownName else BadForm)
+single_word w = option_map_or Number (known_word w) UnknownName
 
 -- a bit, a name that nobody knows, or another text
 abbrev pub part_of : List ℕ → Part

@@ -1,7 +1,7 @@
 //! Words joined by `|`.
 ghost use Rattle.std.specs.Prelude.{◌≡◌, ◌≤◌, length};
 ghost use Rattle.std.specs.List.{position_or_len};
-ghost use Rattle.egl_names.specs.Joined.{known_word, is_name_start, is_digit, begins_with, is_unknown_name, is_bar, parts, joined_bits, joined_word};
+ghost use Rattle.egl_names.specs.Joined.{known_word, is_name_start, begins_with, is_unknown_name, is_bar, parts, joined_bits, joined_word};
 ghost use Rattle.egl_names.specs.Parts.{part_of, is_unknown_part, with_part, word_of_bits, single_word, joined_parts};
 
 use crate::names::code_of_word;
@@ -12,9 +12,9 @@ use crate::number_words::{bit_of_word, number_of_word};
 pub enum Word {
     /// The code of a name, the number of a word that stands for one, or joined bits.
     Number(i64),
-    /// It begins like a name, or a part does, and is none.
+    /// It begins like a name, and is none, or a part of it does so.
     UnknownName,
-    /// It is no word, or its parts are not all bits.
+    /// It doesn't begin like a name, or its parts are not all bits.
     BadForm,
 }
 
@@ -29,21 +29,13 @@ pub fn known_word(word: &[u8]) -> Option<i64>
     }
 }
 
-fn begins_with_digit(word: &[u8]) -> bool
-    ensures { result ≡ begins_with is_digit word.now }
-{
-    match word {
-        [first, ..] => *first >= b'0' && *first <= b'9',
-        [] => false,
-    }
-}
-
 fn is_name_start(byte: u8) -> bool
     ensures { result ≡ is_name_start byte }
 {
     (byte >= b'A' && byte <= b'Z') || (byte >= b'a' && byte <= b'z') || byte == b'_'
 }
 
+/// Whether a word begins with a letter or `_`, as each name does.
 fn begins_like_a_name(word: &[u8]) -> bool
     ensures { result ≡ begins_with is_name_start word.now }
 {
@@ -72,19 +64,13 @@ fn bar_at(word: &[u8]) -> usize
     word.len()
 }
 
-/// A word with no bar in it.
+/// A word that begins like a name, with no bar in it.
 fn single_word(word: &[u8]) -> Word
     ensures { result ≡ single_word word.now }
 {
     match known_word(word) {
         Some(number) => Word::Number(number),
-        None => {
-            if begins_like_a_name(word) {
-                Word::UnknownName
-            } else {
-                Word::BadForm
-            }
-        }
+        None => Word::UnknownName,
     }
 }
 
@@ -161,11 +147,11 @@ fn joined_parts(words: &[u8]) -> Word
     }
 }
 
-/// The number of a known word, or of bits joined by `|`, as EGL_WINDOW_BIT|EGL_PBUFFER_BIT.
+/// The number of a known word, or of bits joined by `|`, as EGL_WINDOW_BIT|EGL_PBUFFER_BIT. What begins with no letter and no `_` is of bad form.
 pub fn joined_word(word: &[u8]) -> Word
     ensures { result ≡ joined_word word.now }
 {
-    if begins_with_digit(word) {
+    if !begins_like_a_name(word) {
         return Word::BadForm;
     }
     if bar_at(word) == word.len() {

@@ -1,10 +1,10 @@
 //! The names of EGL and OpenGL ES and their codes.
 ghost use Rattle.std.specs.Prelude.{◌≡◌, ℕ, ◌+◌, ◌^◌, ◌<◌, ◌≤◌, map, length};
 ghost use Rattle.std.specs.Option.{option_copied};
-ghost use Rattle.egl_names.specs.Names.{unsigned, name_at, name_of, code_of, place_of};
+ghost use Rattle.egl_names.specs.Names.{name_at, name_of, code_of, place_of};
 ghost use Rattle.egl_names.specs.Rows.{stands_at, first_at, AreByLength};
 
-use egl_calls::Text;
+use egl_calls::{Text, unsigned};
 
 /// Every name, in the order of the codes.
 pub static NAMES: [&str; 163] = [
@@ -295,14 +295,7 @@ fn name_at(list: &[&'static str], code: u64) -> Option<&'static str>
     list.get((code - FIRST_CODE as u64) as usize).copied()
 }
 
-/// The number, or 0 where it is negative. No code is 0.
-pub fn unsigned(z: i64) -> u64
-    ensures { result ≡ unsigned z }
-{
-    if z < 0 { 0 } else { z as u64 }
-}
-
-/// The name with a code.
+/// The name with a code. No code is 0 or negative.
 pub fn name_of(code: i64) -> Option<&'static str>
     ensures { option_copied result ≡ name_of code }
 {

@@ -195,7 +195,7 @@ static JOINED: [(&str, Word); 24] = [
     ("_", Word::UnknownName),
     ("EGL_WINDOW_BIT|FOO", Word::UnknownName),
     ("FOO|", Word::UnknownName),
-    ("|FOO", Word::UnknownName),
+    ("|FOO", Word::BadForm),
     ("EGL_TRUE|12|FOO", Word::UnknownName),
     ("EGL_WINDOW_BIT|EGL_TRUE", Word::BadForm),
     ("EGL_NONE|EGL_WINDOW_BIT", Word::BadForm),

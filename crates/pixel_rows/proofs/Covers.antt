@@ -15,7 +15,8 @@ use Rattle.pixel_rows.specs.Blocks.{in_range, in_block, in_block_at, block_of, R
 use Rattle.pixel_rows.specs.Images.{ImageValue, IsWhole}
 use Rattle.pixel_rows.specs.Masks.{masked, mask_in}
 use Rattle.pixel_rows.specs.Painting.{painted_at, painted_pixels, painted}
-use Rattle.pixel_rows.specs.Rects.{unsigned, is_in_span, is_in, is_at, IsInSide, IsInside}
+use Rattle.egl_calls.specs.Ranges.{unsigned}
+use Rattle.pixel_rows.specs.Rects.{is_in_span, is_in, is_at, IsInSide, IsInside}
 use Rattle.pixel_rows.specs.declared.fills.Block.{Block}
 use Rattle.pixel_rows.specs.declared.masks.Mask.{Mask}
 use Rattle.pixel_rows.specs.declared.rects.Rect.{Rect}

@@ -13,7 +13,7 @@ use Rattle.pixel_rows.proofs.Covers.{length-painted_pixels}
 use Rattle.pixel_rows.specs.Images.{ImageValue, IsImage, IsSameShape, no_pixel, pixel_at, rows_of}
 use Rattle.pixel_rows.specs.Masks.{written}
 use Rattle.pixel_rows.specs.Painting.{painted, painted_at, painted_pixels}
-use Rattle.pixel_rows.specs.Rects.{unsigned}
+use Rattle.egl_calls.specs.Ranges.{unsigned}
 use Rattle.pixel_rows.specs.Transfers.{row_bytes, line, stride, padding, zeros, bytes_at, pixel_bytes}
 use Rattle.pixel_rows.specs.declared.masks.Mask.{Mask}
 use Rattle.pixel_rows.specs.declared.rects.Rect.{Rect}

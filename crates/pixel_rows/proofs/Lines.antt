@@ -14,7 +14,7 @@ use Rattle.pixel_formats.specs.declared.formats.Layout.{Layout}
 use Rattle.pixel_formats.specs.declared.pixels.Pixel.{Pixel}
 use Rattle.pixel_rows.specs.Blocks.{in_range}
 use Rattle.pixel_rows.specs.Images.{no_pixel, ImageValue, IsImage}
-use Rattle.pixel_rows.specs.Rects.{unsigned}
+use Rattle.egl_calls.specs.Ranges.{unsigned}
 use Rattle.pixel_rows.specs.Transfers.{zeros, place_in, pixel_bytes, bytes_at, line, row_bytes, padding, stride}
 use Rattle.pixel_rows.specs.Windows.{packed_bytes, span_of, place_at, window_of, line_at, seen_row, seen_line, seen_rows}
 use Rattle.pixel_rows.specs.declared.rects.Rect.{Rect}

@@ -2,7 +2,7 @@
 use Rattle.std.specs.Prelude.{◌≡◌, ℕ, ◌+◌, ◌/◌, ◌%◌, ◌<◌, Bool, ◌&&◌, nat_lt, nat_le, List, length, if◌then◌else◌, slice_index_or}
 use Rattle.pixel_formats.specs.declared.pixels.Pixel.{Pixel}
 use Rattle.pixel_rows.specs.Images.{no_pixel}
-use Rattle.pixel_rows.specs.Rects.{unsigned}
+use Rattle.egl_calls.specs.Ranges.{unsigned}
 use Rattle.pixel_rows.specs.declared.fills.Block.{Block}
 use Rattle.pixel_rows.specs.declared.rects.Rect.{Rect}
 

@@ -6,7 +6,7 @@ use Rattle.pixel_formats.specs.declared.pixels.Pixel.{Pixel}
 use Rattle.pixel_rows.specs.Images.{ImageValue, IsImage, IsSameShape, no_pixel, pixel_at, rows_of}
 use Rattle.pixel_rows.specs.Masks.{written}
 use Rattle.pixel_rows.specs.Painting.{painted}
-use Rattle.pixel_rows.specs.Rects.{unsigned}
+use Rattle.egl_calls.specs.Ranges.{unsigned}
 use Rattle.pixel_rows.specs.Transfers.{row_bytes, stride}
 use Rattle.pixel_rows.specs.declared.masks.Mask.{Mask}
 use Rattle.pixel_rows.specs.declared.rects.Rect.{Rect}

@@ -1,11 +1,6 @@
 -- Rectangles of columns and rows.
-use Rattle.std.specs.Prelude.{ℕ, ℤ, pos, negsuc, ◌+ℤ◌, ◌≤ℤ◌, Bool, ◌&&◌, ◌==◌, int_lt, int_le}
+use Rattle.std.specs.Prelude.{ℕ, ℤ, pos, ◌+ℤ◌, ◌≤ℤ◌, Bool, ◌&&◌, ◌==◌, int_lt, int_le}
 use Rattle.pixel_rows.specs.declared.rects.Rect.{Rect}
-
--- the number itself, and 0 for a negative one
-abbrev pub unsigned : ℤ → ℕ
-unsigned (pos n) = n
-unsigned (negsuc n) = 0
 
 -- whether a place is one of `size` from `start` upward
 abbrev pub is_in_span : ℤ → ℤ → ℕ → Bool

@@ -8,7 +8,7 @@ use Rattle.pixel_formats.specs.declared.formats.Layout.{Layout}
 use Rattle.pixel_formats.specs.declared.pixels.Pixel.{Pixel}
 use Rattle.pixel_rows.specs.Blocks.{in_range}
 use Rattle.pixel_rows.specs.Images.{ImageValue}
-use Rattle.pixel_rows.specs.Rects.{unsigned}
+use Rattle.egl_calls.specs.Ranges.{unsigned}
 use Rattle.pixel_rows.specs.Transfers.{pixel_bytes, zeros}
 use Rattle.pixel_rows.specs.declared.rects.Rect.{Rect}
 use Rattle.pixel_rows.specs.declared.transfers.Span.{Span}

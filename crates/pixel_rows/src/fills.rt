@@ -8,7 +8,8 @@ ghost use Rattle.pixel_rows.specs.Painting.{painted_pixels};
 ghost use Rattle.pixel_rows.specs.Rects.{IsInside};
 
 use crate::masks::{Mask, masked};
-use crate::rects::{Rect, unsigned};
+use crate::rects::Rect;
+use egl_calls::unsigned;
 use pixel_formats::Pixel;
 
 /// The columns from `left` and the rows from `bottom`, up to before `right` and `top`.

@@ -9,8 +9,8 @@ ghost use Rattle.pixel_rows.specs.Windows as windows;
 ghost use Rattle.pixel_rows.specs.Windows.{IsWindowOf};
 
 use crate::images::Image;
-use crate::rects::{Rect, unsigned};
-use egl_calls::{Bytes, NoMemory};
+use crate::rects::Rect;
+use egl_calls::{Bytes, NoMemory, unsigned};
 use pixel_formats::{Format, Layout, Pixel, bytes_of, layout_of, pack_in};
 use std::alloc::Global;
 

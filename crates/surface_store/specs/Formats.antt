@@ -1,6 +1,6 @@
 -- How the pixels of a config's surfaces are stored.
 use Rattle.std.specs.Prelude.{ℕ, ℤ, pos, Bool, ◌&&◌, ◌==◌, List, [], ◌∷◌, find, unwrap_or}
-use Rattle.egl_names.specs.Names.{unsigned}
+use Rattle.egl_calls.specs.Ranges.{unsigned}
 use Rattle.egl_names.specs.declared.codes.TheConstants.{EGL_RED_SIZE, EGL_GREEN_SIZE, EGL_BLUE_SIZE, EGL_ALPHA_SIZE}
 use Rattle.config_match.specs.Table.{attribute}
 use Rattle.pixel_formats.specs.Formats.{layout_of}

@@ -3,7 +3,7 @@
 ghost use Rattle.std.specs.Prelude.{◌≡◌};
 ghost use Rattle.surface_store.specs.Formats as formats;
 
-use egl_names::unsigned;
+use egl_calls::unsigned;
 use pixel_formats::Format;
 
 /// The format of a config's surfaces, by the bits of the config's colours (EGL 1.5, section 3.4).

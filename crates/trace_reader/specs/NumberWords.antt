@@ -1,15 +1,11 @@
 -- The words that may stand for a number.
-use Rattle.std.specs.Prelude.{ℕ, Bool, true, false, ◌&&◌, ◌||◌, ℤ, pos, negsuc, int_lt, List, if◌then◌else◌, Option, None, Some}
+use Rattle.std.specs.Prelude.{ℕ, Bool, true, false, ◌||◌, ℤ, pos, negsuc, int_lt, List, if◌then◌else◌, Option, None, Some}
 use Rattle.std.specs.Option.{option_map, option_or}
-use Rattle.egl_names.specs.Joined.{is_name_start, begins_with, joined_word}
+use Rattle.egl_names.specs.Joined.{joined_word}
 use Rattle.egl_names.specs.declared.joined.Word.{Word}
 use Rattle.egl_names.specs.declared.joined.Word.TheVariants.{Number, UnknownName, BadForm}
 use Rattle.trace_reader.specs.Numerals.{signed_number}
 use Rattle.trace_reader.specs.Hexadecimals.{hexadecimal}
-
--- a word that stands where a name may stand
-abbrev pub is_name_word : List ℕ → Bool
-is_name_word w = begins_with is_name_start w
 
 abbrev pub is_unknown : Word → Bool
 is_unknown (Number z) = false
@@ -18,7 +14,7 @@ is_unknown BadForm = false
 
 -- a word that stands for a name, or joined words of which one does, and is none
 abbrev pub is_unknown_name : List ℕ → Bool
-is_unknown_name w = is_name_word w && is_unknown (joined_word w)
+is_unknown_name w = is_unknown (joined_word w)
 
 -- a number that an argument may have
 abbrev pub ranged : ℤ → Option ℤ
@@ -31,7 +27,7 @@ number_in BadForm = None
 
 -- the code of a name, the number of a word that stands for one, or joined bits
 abbrev pub named_number : List ℕ → Option ℤ
-named_number w = if is_name_word w then number_in (joined_word w) else None
+named_number w = number_in (joined_word w)
 
 -- a decimal number, a hexadecimal number, or such a word
 unfoldable pub argument_number : List ℕ → Option ℤ

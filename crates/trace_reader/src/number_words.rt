@@ -1,30 +1,16 @@
 //! The words that may stand for a number.
 ghost use Rattle.std.specs.Prelude.{◌≡◌, IfSome};
 ghost use Rattle.egl_calls.specs.Ranges.{IsNumber};
-ghost use Rattle.trace_reader.specs.NumberWords.{is_name_word, is_unknown_name, ranged, named_number, argument_number};
+ghost use Rattle.trace_reader.specs.NumberWords.{is_unknown_name, ranged, named_number, argument_number};
 
 use crate::hexadecimals::hexadecimal;
 use crate::numerals::{positive, signed_number};
 use egl_names::{Word, joined_word};
 
-/// Whether a word stands where a name may stand: it begins with a letter or an underscore.
-fn is_name_word(word: &[u8]) -> bool
-    ensures { result ≡ is_name_word word.now }
-{
-    if word.is_empty() {
-        return false;
-    }
-    let b = word[0];
-    (b >= b'A' && b <= b'Z') || (b >= b'a' && b <= b'z') || b == b'_'
-}
-
 /// Whether a word stands for a name, or one of joined words does, and is none.
 pub fn is_unknown_name(word: &[u8]) -> bool
     ensures { result ≡ is_unknown_name word.now }
 {
-    if !is_name_word(word) {
-        return false;
-    }
     match joined_word(word) {
         Word::UnknownName => true,
         Word::Number(_) | Word::BadForm => false,
@@ -46,9 +32,6 @@ fn named_number(word: &[u8]) -> Option<i64>
     ensures value { result ≡ named_number word.now }
     ensures number { IfSome result IsNumber }
 {
-    if !is_name_word(word) {
-        return None;
-    }
     match joined_word(word) {
         Word::Number(z) => ranged(z),
         Word::UnknownName | Word::BadForm => None,

@@ -2,8 +2,7 @@
 ghost use Rattle.std.specs.Prelude.{◌≡◌, ℕ, ◌<◌, ◌^◌};
 ghost use Rattle.trace_reader.specs.Pixels.{rows_of_bytes, rectangle_bytes, pixel_bytes};
 
-use egl_calls::{Call, GlKind, Kind};
-use egl_names::unsigned;
+use egl_calls::{Call, GlKind, Kind, unsigned};
 
 fn rows_of_bytes(width: u64, height: u64) -> u128
     requires width { width < 2 ^ 63 }

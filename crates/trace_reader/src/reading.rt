@@ -22,6 +22,9 @@ use std::alloc::Global;
 /// How many bytes of pixels and buffers there may be where the trace doesn't say.
 const VIDEO: u64 = 67_108_864;
 
+/// How many body lines a trace may have.
+const MOST_BODY_LINES: usize = 100_000;
+
 /// How many bytes of pixels all lines may ask for.
 const MOST_PIXEL_BYTES: u64 = 134_217_728;
 
@@ -73,7 +76,7 @@ fn next_line<'a>(
     match body_of(alloc, threads, variables, number, &parts) {
         Ok(body) => {
             let asked = pixel_bytes(&body.call);
-            if read.len() >= 100_000 || asked > (MOST_PIXEL_BYTES - *pixels) as u128 {
+            if read.len() >= MOST_BODY_LINES || asked > (MOST_PIXEL_BYTES - *pixels) as u128 {
                 return Err(TraceError::Malformed {
                     line: number,
                     reason: Reason::Limit,

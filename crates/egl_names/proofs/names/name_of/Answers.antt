@@ -1,7 +1,8 @@
 use Rattle.std.proofs.Common.{List, ℕ, ap, ◌∙◌}
 use Rattle.std.proofs.Common.{w64}
 use Rattle.std.proofs.lemmas.Int.{to_z-of_z}
-use Rattle.egl_names.specs.Names.{name_at, names, unsigned}
+use Rattle.egl_calls.specs.Ranges.{unsigned}
+use Rattle.egl_names.specs.Names.{name_at, names}
 use Rattle.egl_names.proofs.TableLaws.{names_are, name_of_is}
 use Rattle.egl_names.proofs.names.name_of.Goals as goal
 

@@ -1,6 +1,6 @@
 use Rattle.std.proofs.Common.{ap, ◌∙◌, w64}
 use Rattle.std.proofs.lemmas.Int.{to_z-of_z}
-use Rattle.egl_names.specs.Names.{unsigned}
+use Rattle.egl_calls.specs.Ranges.{unsigned}
 use Rattle.config_match.proofs.ConfigLaws.{compatible_of}
 use Rattle.config_match.proofs.choose.Configs.are_compatible.Goals as goal
 

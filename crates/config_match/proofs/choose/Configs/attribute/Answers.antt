@@ -1,7 +1,7 @@
 use Rattle.std.proofs.Common.{◌≡◌, ap, ◌∙◌, ℕ, List, pos, w64}
 use Rattle.std.specs.Option.{option_map}
 use Rattle.std.proofs.lemmas.Int.{to_z-of_z}
-use Rattle.egl_names.specs.Names.{unsigned}
+use Rattle.egl_calls.specs.Ranges.{unsigned}
 use Rattle.config_match.specs.declared.table.Config.{Config}
 use Rattle.config_match.specs.Table.{attribute, attribute_in, configs}
 use Rattle.config_match.proofs.choose.Configs.attribute.Goals as goal
