@@ -1,5 +1,5 @@
 -- What the laws of a node ask of one with a list of edges and one slot, 0.
-use Rattle.std.proofs.Common.{◌≡◌, ◌≢◌, ℕ, ◌+◌, ◌≤◌, true, eqb, List, ◌++◌, Option, sym, ◌∙◌, arith}
+use Rattle.std.proofs.Common.{◌≡◌, ◌≢◌, ℕ, ◌+◌, ◌<◌, ◌≤◌, true, eqb, List, ◌++◌, Option, sym, ◌∙◌, arith}
 use Rattle.std.proofs.lemmas.Bool.{eqb-true}
 use Rattle.ref_store.specs.Counts.{times, as_list}
 use Rattle.ref_store.proofs.CountLaws.{times_append}
@@ -15,3 +15,7 @@ moves_of xs link target n = omega (arith, times_append n xs (as_list link), time
 -- there is no other slot
 pub no_other : (slot other : ℕ) → eqb slot 0 ≡ true → eqb other 0 ≡ true → other ≢ slot → ⊥
 no_other slot other h k ne = ne (eqb-true other 0 k ∙ sym (eqb-true slot 0 h))
+
+-- the one kind is one of those that a store counts
+pub few_kinds : 1 < 16
+few_kinds = omega arith

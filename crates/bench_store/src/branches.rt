@@ -9,15 +9,25 @@ use std::mem;
 #[derive(Drop)]
 pub struct Branch {
     pub level: u32,
-    pub targets: Vec<u32>,
-    pub link: Option<u32>,
+    pub targets: Vec<u64>,
+    pub link: Option<u64>,
     ghost few: { vec_len targets < 2 ^ 32 - 1 },
 }
 
 impl Node for Branch {
     ghost use Rattle.std.specs.Prelude.{◌==◌, ◌++◌, true, refl};
     ghost use Rattle.ref_store.specs.Counts.{as_list};
-    ghost use Rattle.bench_store.specs.OneSlot.{is_edge_of, moves_of, no_other};
+    ghost use Rattle.bench_store.specs.OneSlot.{is_edge_of, moves_of, no_other, few_kinds};
+
+    ghost size = { λ b. 1 };
+
+    ghost kind = { λ b. 1 };
+
+    ghost kinds = { λ b. few_kinds };
+
+    ghost same_size = { λ b slot note target. refl };
+
+    ghost same_kind = { λ b slot note target. refl };
 
     ghost rank = { λ b. b.level };
 
@@ -41,6 +51,14 @@ impl Node for Branch {
 
     ghost moves = { λ b slot note target n h. moves_of b.targets.items b.link target n };
 
+    fn size(&self) -> u64 {
+        1
+    }
+
+    fn kind(&self) -> u32 {
+        1
+    }
+
     fn rank(&self) -> u32 {
         self.level
     }
@@ -49,7 +67,7 @@ impl Node for Branch {
         self.targets.len() as u32 + u32::from(self.link.is_some())
     }
 
-    fn edge(&self, k: u32) -> u32 {
+    fn edge(&self, k: u32) -> u64 {
         match self.targets.get(k as usize) {
             Some(target) => *target,
             None => match self.link {
@@ -63,8 +81,8 @@ impl Node for Branch {
         &mut self,
         _slot: u64,
         _note: u64,
-        target: Option<u32>,
-    ) -> Result<Option<u32>, NoMemory> {
+        target: Option<u64>,
+    ) -> Result<Option<u64>, NoMemory> {
         Ok(mem::replace(&mut self.link, target))
     }
 }

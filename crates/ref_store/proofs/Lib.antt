@@ -11,5 +11,6 @@ pub mod LinkFacts
 pub mod AddLaws
 pub mod FreesLaws
 pub mod ReachedLaws
-pub mod PlacedLaws
 pub mod TwoSlotLaws
+pub mod EmptyPlaces
+pub mod SumLaws

@@ -1,20 +1,27 @@
 //! What is read of the table.
 
-ghost use Rattle.std.specs.Prelude.{◌≡◌, ◌<◌, ℕ, IsSome, option_copied};
+ghost use Rattle.std.specs.Prelude.{◌≡◌, ◌<◌, ◌≤◌, ◌^◌, option_copied};
 ghost use Rattle.ref_store.specs.Kept.{at, shown_in, outside_at};
 ghost use Rattle.ref_store.specs.Counts.{count};
 ghost use Rattle.ref_store.specs.Laws.{IsLinked};
+ghost use Rattle.ref_store.specs.Sums.{sum_of, one_of};
 ghost use Rattle.ref_store.specs.Cells.{values, IsStore};
 
 use crate::cells::{Cell, Place};
+use crate::counted::Counted;
 use crate::nodes::Node;
-use slab::Slab;
+
+fn cell_at<K: Node>(cells: &Counted<K>, id: u64) -> Option<&Cell<K>>
+    ensures { option_copied result ≡ at cells.now.items id }
+{
+    cells.get(id)
+}
 
 // The node, unless it isn't stored or is taken out.
-pub(crate) fn get_in<K>(cells: &Slab<Cell<K>>, id: u32) -> Option<&K>
-    ensures { option_copied result ≡ shown_in (at (values cells.now.slots) id) }
+pub(crate) fn get_in<K: Node>(cells: &Counted<K>, id: u64) -> Option<&K>
+    ensures { option_copied result ≡ shown_in (at (values cells.now.items) id) }
 {
-    match cells.get(id as usize) {
+    match cell_at(cells, id) {
         Some(cell) => match &cell.place {
             Place::In(node) => Some(node),
             Place::Out(_) => None,
@@ -24,41 +31,44 @@ pub(crate) fn get_in<K>(cells: &Slab<Cell<K>>, id: u32) -> Option<&K>
 }
 
 // Whatever holds the node.
-pub(crate) fn count_in<K: Node>(cells: &Slab<Cell<K>>, id: u32) -> u64
-    requires { IsStore K.edges K.rank cells.now.slots }
-    ensures { result ≡ count K.edges (values cells.now.slots) id }
+pub(crate) fn count_in<K: Node>(cells: &Counted<K>, id: u64) -> u64
+    requires { IsStore K.edges K.rank cells.now.items }
+    ensures { result ≡ count K.edges (values cells.now.items) id }
 {
-    match cells.get(id as usize) {
+    match cell_at(cells, id) {
         Some(cell) => cell.total(),
         None => 0,
     }
 }
 
 // The holds on the node from outside.
-pub(crate) fn outside_in<K>(cells: &Slab<Cell<K>>, id: u32) -> u32
-    ensures { result ≡ outside_at (values cells.now.slots) id }
+pub(crate) fn outside_in<K: Node>(cells: &Counted<K>, id: u64) -> u32
+    ensures { result ≡ outside_at (values cells.now.items) id }
 {
-    match cells.get(id as usize) {
+    match cell_at(cells, id) {
         Some(cell) => cell.outside,
         None => 0,
     }
 }
 
-// A number above every key.
-pub(crate) fn key_end_in<K: Node>(cells: &Slab<Cell<K>>) -> u32
-    requires { IsStore K.edges K.rank cells.now.slots }
-    ensures { (n : ℕ) → IsSome (at (values cells.now.slots) n) → n < result }
+// Each edge leads to a stored node of lower rank.
+pub(crate) fn linked_in<K: Node>(cells: &Counted<K>)
+    requires { IsStore K.edges K.rank cells.now.items }
+    ensures { IsLinked K.edges K.rank (values cells.now.items) }
+{}
+
+// The sum of the sizes.
+pub(crate) fn bytes_in<K: Node>(cells: &Counted<K>) -> u64
+    ensures value { result ≡ sum_of K.size (values cells.now.items) }
+    ensures few { result ≤ 2 ^ 63 }
 {
-    let places = cells.capacity();
-    if places < 4_294_967_295 {
-        places as u32
-    } else {
-        u32::MAX
-    }
+    cells.bytes()
 }
 
-// Each edge leads to a stored node of lower rank.
-pub(crate) fn linked_in<K: Node>(cells: &Slab<Cell<K>>)
-    requires { IsStore K.edges K.rank cells.now.slots }
-    ensures { IsLinked K.edges K.rank (values cells.now.slots) }
-{}
+// How many nodes of a kind there are.
+pub(crate) fn count_of_in<K: Node>(cells: &Counted<K>, kind: u32) -> u64
+    requires { kind < 16 }
+    ensures { result ≡ sum_of (λ x. one_of kind (K.kind x)) (values cells.now.items) }
+{
+    cells.count_of(kind)
+}

@@ -1,0 +1,144 @@
+//! Values by number.
+
+ghost use Rattle.std.specs.Prelude.{◌≡◌, ◌≢◌, ℕ, ◌+◌, ◌-◌, ◌<◌, ◌≤◌, ◌^◌, [], length, is_some, Some, None, IsSome, OnOk, OnErr, slice_set, option_copied};
+ghost use Rattle.std.specs.Borrow.{sem};
+ghost use Rattle.std.specs.List.{count_by};
+ghost use Rattle.std.specs.Option.{option_copied_mut};
+ghost use Rattle.numbered.specs.Lists.{at};
+ghost use Rattle.numbered.specs.Lends.{lends_value};
+
+use indexmap::IndexMap;
+use std::alloc::Global;
+use std::marker::Model;
+
+/// Memory ran out, or there are 4,294,967,295 values. Everything is then as it was before the call.
+#[derive(Clone, Copy, Debug, PartialEq, Eq, Drop)]
+pub struct NoRoom;
+
+/// Values, each under a number that its caller gives. Memory goes by the most values that stood there at once.
+///
+/// Contracts see a list with a place for each number below its length, and how many more values fit with no memory.
+#[derive(Drop)]
+pub struct Numbered<X: Drop> {
+    values: IndexMap<u64, X>,
+    end: u64,
+    live: u64,
+    room: u64,
+}
+
+impl<X: Drop> Model for Numbered<X> {
+    ghost use Rattle.numbered.specs.Lists.{NumberedValue, numbered_code};
+
+    ghost Value = { NumberedValue X };
+
+    ghost coded = { numbered_code X.code };
+
+    ghost use Rattle.numbered.specs.Maps.{listed, IsNumbered};
+
+    ghost view = { λ s. record { items = listed s.end s.values; room = s.room } };
+
+    ghost invariant = { λ s. IsNumbered s.end s.live s.room s.values };
+}
+
+// The most values that there may be, with the room that was made for more.
+const MOST: u64 = 4_294_967_295;
+
+impl<X: Drop> Numbered<X> {
+    /// No values, and no memory.
+    pub fn new(alloc: Global) -> Self
+        ensures items { result.items ≡ [] }
+        ensures room { result.room ≡ 0 }
+    {
+        Numbered {
+            values: IndexMap::new(alloc),
+            end: 0,
+            live: 0,
+            room: 0,
+        }
+    }
+
+    /// Makes room for so many more values, so that they come with no memory.
+    pub fn reserve(&mut self, more: u64) -> Result<(), NoRoom>
+        ensures items { self.new.items ≡ self.old.items }
+        ensures room { OnOk result (self.new.room ≡ more) }
+        ensures err { OnErr result (self.new ≡ self.old) }
+    {
+        if more > MOST - self.live {
+            return Err(NoRoom);
+        }
+        match self.values.reserve(more as usize) {
+            Ok(()) => {
+                self.room = more;
+                Ok(())
+            }
+            Err(_) => Err(NoRoom),
+        }
+    }
+
+    /// The value of a number.
+    pub fn get(&self, n: u64) -> Option<&X>
+        ensures { option_copied result ≡ at self.now.items n }
+    {
+        self.values.get(&n)
+    }
+
+    /// The value of a number, to write.
+    pub fn get_mut(&mut self, n: u64) -> Option<&mut X>
+        ensures* writes_back { sem 𝓛 (lends_value X.row self.entry n result) }
+        ensures value { option_copied_mut result ≡ at self.old.items n }
+    {
+        self.values.get_mut(&n)
+    }
+
+    /// Makes the list long enough for a number. It takes no memory.
+    pub fn reach(&mut self, n: u64)
+        requires { n < 2 ^ 64 - 1 }
+        ensures long { n < length self.new.items }
+        ensures same { (m : ℕ) → at self.new.items m ≡ at self.old.items m }
+        ensures room { self.new.room ≡ self.old.room }
+    {
+        if self.end <= n {
+            self.end = n + 1;
+        }
+    }
+
+    /// Puts a value under a number that has none. It takes no memory.
+    pub fn fill(&mut self, n: u64, value: X)
+        requires place { n < length self.old.items }
+        requires vacant { at self.old.items n ≡ None }
+        requires room { 0 < self.old.room }
+        ensures items { self.new.items ≡ slice_set self.old.items n (Some value) }
+        ensures room { self.new.room + 1 ≡ self.old.room }
+    {
+        match self.values.insert(n, value) {
+            Ok(_) => {
+                self.live += 1;
+                self.room -= 1;
+            }
+            Err(_) => unreachable!(),
+        }
+    }
+
+    /// Takes the value of a number away. Its room stays with the values for the next one that is made room for.
+    pub fn remove(&mut self, n: u64) -> Option<X>
+        ensures value { result ≡ at self.old.items n }
+        ensures items { self.new.items ≡ slice_set self.old.items n None }
+        ensures room { self.new.room ≡ self.old.room }
+    {
+        match self.values.swap_remove(&n) {
+            Some(value) => {
+                self.live -= 1;
+                Some(value)
+            }
+            None => None,
+        }
+    }
+
+    /// There are few values. This is a law: there is nothing to run.
+    pub fn few(&self)
+        ensures few { count_by is_some self.now.items + self.now.room < 2 ^ 32 }
+        ensures long { length self.now.items < 2 ^ 64 }
+    {
+        let _end = self.end;
+    }
+}
