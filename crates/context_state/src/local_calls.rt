@@ -1,27 +1,27 @@
 //! The calls that read and change the state of their context alone.
-ghost use Rattle.std.specs.Prelude.{◌≡◌, true};
+ghost use Rattle.std.specs.Prelude.{◌≡◌, ◌<◌, ◌==◌, true, false, pos, None};
 ghost use Rattle.egl_calls.specs.Errors.{gl_code};
 ghost use Rattle.egl_calls.specs.Ranges.{IsNumber};
-ghost use Rattle.context_state.specs.Local.{apply, answered, is_local, colour};
-ghost use Rattle.context_state.specs.Parts.{IsClamped, clamped};
 ghost use Rattle.egl_calls.specs.declared.errors.GlError.TheVariants.{NoError};
+ghost use Rattle.context_state.specs.Arguments.{box, colour, has_negative_side, mask};
+ghost use Rattle.context_state.specs.Local.{aligned, answered, apply, changed, is_local, parameter, refused, switched, value};
+ghost use Rattle.context_state.specs.Parts.{is_alignment};
+ghost use Rattle.context_state.specs.Refusals.{refusal};
 
+use crate::arguments::{box_of, colour, mask, number};
+use crate::bindings::name_bound;
+use crate::kinds::{LocalKind, local_kind};
 use crate::parts::ContextPart;
-use egl_calls::{Bytes, Call, GlError, GlKind, Kind, Numbers, Outcome, Reply};
+use crate::refusals::refusal;
+use egl_calls::{Bytes, Call, GlError, Numbers, Outcome, Reply};
+use egl_names::codes::{
+    GL_MAX_TEXTURE_SIZE, GL_PACK_ALIGNMENT, GL_REPLACE, GL_SCISSOR_BOX, GL_SCISSOR_TEST,
+    GL_TEXTURE_2D, GL_UNPACK_ALIGNMENT, GL_VIEWPORT,
+};
 use std::alloc::Global;
 
-fn clamped(z: i64) -> i64
-    ensures value { result ≡ clamped z }
-    ensures within { IsClamped result }
-{
-    if z < 0 {
-        0
-    } else if z > 65_536 {
-        65_536
-    } else {
-        z
-    }
-}
+/// The longest side of a texture, in pixels: the answer for GL_MAX_TEXTURE_SIZE.
+const MAX_TEXTURE_SIZE: i64 = 1_024;
 
 fn answered(alloc: Global, value: i64) -> Reply
     requires { IsNumber value }
@@ -35,36 +35,175 @@ fn answered(alloc: Global, value: i64) -> Reply
     }
 }
 
+fn refused(alloc: Global, error: GlError) -> Reply
+    ensures { result ≡ refused error }
+{
+    Reply {
+        outcome: Outcome::Gl(error),
+        value: 0,
+        list: Numbers::new(alloc),
+        bytes: Bytes::new(alloc),
+    }
+}
+
 impl ContextPart {
-    fn take_error(&mut self) -> GlError
-        ensures value { result ≡ self.old.error }
-        ensures part { self.new ≡ record self.old { error = NoError } }
+    fn kept_error(&self) -> i64
+        ensures value { result ≡ pos (gl_code self.now.error) }
+        ensures number { IsNumber result }
     {
-        let error = self.error;
+        i64::from(self.error.code())
+    }
+
+    fn parameter(&self, pname: u64, index: usize) -> i64
+        requires { index < 4 }
+        ensures value { result ≡ parameter pname index self.now }
+        ensures number { IsNumber result }
+    {
+        if pname == GL_VIEWPORT {
+            return self.viewport[index];
+        }
+        if pname == GL_SCISSOR_BOX {
+            return self.scissor_box[index];
+        }
+        if pname == GL_MAX_TEXTURE_SIZE {
+            return MAX_TEXTURE_SIZE;
+        }
+        if pname == GL_UNPACK_ALIGNMENT {
+            return i64::from(self.unpack_alignment);
+        }
+        if pname == GL_PACK_ALIGNMENT {
+            return i64::from(self.pack_alignment);
+        }
+        i64::from(name_bound(pname, &self.bound))
+    }
+
+    fn value(&self, kind: LocalKind, call: &Call) -> i64
+        requires { refusal kind call.now ≡ None }
+        ensures value { result ≡ value kind call.now self.now }
+        ensures number { IsNumber result }
+    {
+        match kind {
+            LocalKind::GetError => self.kept_error(),
+            LocalKind::GetIntegerv => self.parameter(number(call, 0), number(call, 1) as usize),
+            LocalKind::Enable
+            | LocalKind::Disable
+            | LocalKind::Scissor
+            | LocalKind::Viewport
+            | LocalKind::ClearColorx
+            | LocalKind::Color4x
+            | LocalKind::ClearDepthx
+            | LocalKind::ClearStencil
+            | LocalKind::ColorMask
+            | LocalKind::TexEnvx
+            | LocalKind::PixelStorei => 0,
+        }
+    }
+
+    fn clear_error(&mut self)
+        ensures { self.new ≡ record self.old { error = NoError } }
+    {
         self.error = GlError::NoError;
-        error
+    }
+
+    fn switch(&mut self, cap: u64, on: bool)
+        ensures { self.new ≡ switched cap on self.old }
+    {
+        if cap == GL_TEXTURE_2D {
+            self.is_texture_enabled = on;
+        }
+        if cap == GL_SCISSOR_TEST {
+            self.is_scissor_enabled = on;
+        }
+    }
+
+    fn set_scissor_box(&mut self, call: &Call)
+        requires kind { is_local call.now.kind ≡ true }
+        requires sides { has_negative_side call.now ≡ false }
+        ensures { self.new ≡ record self.old { scissor_box = box call.now } }
+    {
+        self.scissor_box = box_of(call);
+    }
+
+    fn set_viewport(&mut self, call: &Call)
+        requires kind { is_local call.now.kind ≡ true }
+        requires sides { has_negative_side call.now ≡ false }
+        ensures { self.new ≡ record self.old { viewport = box call.now } }
+    {
+        self.viewport = box_of(call);
     }
 
     fn set_clear_color(&mut self, call: &Call)
         ensures { self.new ≡ record self.old { clear_color = colour call.now } }
     {
-        let [r, g, b, a, ..] = call.args;
-        self.clear_color = [clamped(r), clamped(g), clamped(b), clamped(a)];
+        self.clear_color = colour(call);
     }
 
-    /// Does a call of OpenGL ES that reads and changes this state alone. It takes no memory.
+    fn set_color(&mut self, call: &Call)
+        ensures { self.new ≡ record self.old { color = colour call.now } }
+    {
+        self.color = colour(call);
+    }
+
+    fn set_mask(&mut self, call: &Call)
+        ensures { self.new ≡ record self.old { mask = mask call.now } }
+    {
+        self.mask = mask(call);
+    }
+
+    fn set_environment(&mut self, param: u64)
+        ensures { self.new ≡ record self.old { is_replacing = param == GL_REPLACE } }
+    {
+        self.is_replacing = param == GL_REPLACE;
+    }
+
+    fn align(&mut self, pname: u64, n: u64)
+        requires { is_alignment n ≡ true }
+        ensures { self.new ≡ aligned pname n self.old }
+    {
+        let n = n as u32;
+        if pname == GL_PACK_ALIGNMENT {
+            self.pack_alignment = n;
+        }
+        if pname == GL_UNPACK_ALIGNMENT {
+            self.unpack_alignment = n;
+        }
+    }
+
+    fn change(&mut self, kind: LocalKind, call: &Call)
+        requires kind { is_local call.now.kind ≡ true }
+        requires allowed { refusal kind call.now ≡ None }
+        ensures { self.new ≡ changed kind call.now self.old }
+    {
+        match kind {
+            LocalKind::GetError => self.clear_error(),
+            LocalKind::Enable => self.switch(number(call, 0), true),
+            LocalKind::Disable => self.switch(number(call, 0), false),
+            LocalKind::Scissor => self.set_scissor_box(call),
+            LocalKind::Viewport => self.set_viewport(call),
+            LocalKind::ClearColorx => self.set_clear_color(call),
+            LocalKind::Color4x => self.set_color(call),
+            LocalKind::ColorMask => self.set_mask(call),
+            LocalKind::TexEnvx => self.set_environment(number(call, 2)),
+            LocalKind::PixelStorei => self.align(number(call, 0), number(call, 1)),
+            LocalKind::ClearDepthx | LocalKind::ClearStencil | LocalKind::GetIntegerv => {}
+        }
+    }
+
+    /// Does a call of OpenGL ES that reads and changes this state alone: one of those that `is_local` names. A refused one keeps its error, if none is kept, and changes nothing else. It takes no memory.
     pub fn apply(&mut self, alloc: Global, call: &Call) -> Reply
         requires { is_local call.now.kind ≡ true }
         ensures reply { result ≡ (apply call.now self.old).reply }
         ensures part { self.new ≡ (apply call.now self.old).part }
     {
-        match call.kind {
-            Kind::Gl(GlKind::GetError) => answered(alloc, i64::from(self.take_error().code())),
-            Kind::Gl(GlKind::ClearColorx) => {
-                self.set_clear_color(call);
-                answered(alloc, 0)
-            }
-            _ => unreachable!(),
+        let Some(kind) = local_kind(call.kind) else {
+            unreachable!()
+        };
+        if let Some(error) = refusal(kind, call) {
+            self.note_error(error);
+            return refused(alloc, error);
         }
+        let value = self.value(kind, call);
+        self.change(kind, call);
+        answered(alloc, value)
     }
 }

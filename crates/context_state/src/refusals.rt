@@ -1,0 +1,127 @@
+//! When a call is refused.
+ghost use Rattle.std.specs.Prelude.{◌≡◌};
+ghost use Rattle.context_state.specs.Arguments.{may_enable, may_disable, is_environment, is_store, is_box_name, is_parameter, is_index};
+ghost use Rattle.context_state.specs.Parts.{is_alignment};
+ghost use Rattle.context_state.specs.Refusals.{refusal};
+
+use crate::arguments::{has_negative_side, number, signed};
+use crate::bindings::is_binding_code;
+use crate::kinds::LocalKind;
+use egl_calls::{Call, GlError};
+use egl_names::codes::{
+    GL_ALPHA_TEST, GL_BLEND, GL_CULL_FACE, GL_DEPTH_TEST, GL_DITHER, GL_FOG, GL_LIGHTING,
+    GL_MAX_TEXTURE_SIZE, GL_MODULATE, GL_PACK_ALIGNMENT, GL_REPLACE, GL_SCISSOR_BOX,
+    GL_SCISSOR_TEST, GL_STENCIL_TEST, GL_TEXTURE_2D, GL_TEXTURE_ENV, GL_TEXTURE_ENV_MODE,
+    GL_UNPACK_ALIGNMENT, GL_VIEWPORT,
+};
+
+fn may_enable(cap: u64) -> bool
+    ensures { result ≡ may_enable cap }
+{
+    cap == GL_TEXTURE_2D || cap == GL_SCISSOR_TEST || cap == GL_DITHER
+}
+
+fn may_disable(cap: u64) -> bool
+    ensures { result ≡ may_disable cap }
+{
+    cap == GL_TEXTURE_2D
+        || cap == GL_SCISSOR_TEST
+        || cap == GL_DITHER
+        || cap == GL_BLEND
+        || cap == GL_DEPTH_TEST
+        || cap == GL_ALPHA_TEST
+        || cap == GL_STENCIL_TEST
+        || cap == GL_CULL_FACE
+        || cap == GL_LIGHTING
+        || cap == GL_FOG
+}
+
+fn is_environment(target: u64, pname: u64, param: u64) -> bool
+    ensures { result ≡ is_environment target pname param }
+{
+    target == GL_TEXTURE_ENV
+        && pname == GL_TEXTURE_ENV_MODE
+        && (param == GL_MODULATE || param == GL_REPLACE)
+}
+
+fn is_store(pname: u64) -> bool
+    ensures { result ≡ is_store pname }
+{
+    pname == GL_UNPACK_ALIGNMENT || pname == GL_PACK_ALIGNMENT
+}
+
+fn is_alignment(n: u64) -> bool
+    ensures { result ≡ is_alignment n }
+{
+    n == 1 || n == 2 || n == 4 || n == 8
+}
+
+fn is_box_name(pname: u64) -> bool
+    ensures { result ≡ is_box_name pname }
+{
+    pname == GL_VIEWPORT || pname == GL_SCISSOR_BOX
+}
+
+fn is_parameter(pname: u64) -> bool
+    ensures { result ≡ is_parameter pname }
+{
+    is_binding_code(pname) || is_box_name(pname) || pname == GL_MAX_TEXTURE_SIZE || is_store(pname)
+}
+
+fn is_index(pname: u64, index: i64) -> bool
+    ensures { result ≡ is_index pname index }
+{
+    let last = if is_box_name(pname) { 3 } else { 0 };
+    index >= 0 && index <= last
+}
+
+/// The error that refuses a call: that of the first condition that holds.
+pub(crate) fn refusal(kind: LocalKind, call: &Call) -> Option<GlError>
+    ensures { result ≡ refusal kind call.now }
+{
+    match kind {
+        LocalKind::Enable => {
+            if !may_enable(number(call, 0)) {
+                return Some(GlError::InvalidEnum);
+            }
+        }
+        LocalKind::Disable => {
+            if !may_disable(number(call, 0)) {
+                return Some(GlError::InvalidEnum);
+            }
+        }
+        LocalKind::Scissor | LocalKind::Viewport => {
+            if has_negative_side(call) {
+                return Some(GlError::InvalidValue);
+            }
+        }
+        LocalKind::TexEnvx => {
+            if !is_environment(number(call, 0), number(call, 1), number(call, 2)) {
+                return Some(GlError::InvalidEnum);
+            }
+        }
+        LocalKind::PixelStorei => {
+            if !is_store(number(call, 0)) {
+                return Some(GlError::InvalidEnum);
+            }
+            if !is_alignment(number(call, 1)) {
+                return Some(GlError::InvalidValue);
+            }
+        }
+        LocalKind::GetIntegerv => {
+            if !is_parameter(number(call, 0)) {
+                return Some(GlError::InvalidEnum);
+            }
+            if !is_index(number(call, 0), signed(call, 1)) {
+                return Some(GlError::InvalidValue);
+            }
+        }
+        LocalKind::GetError
+        | LocalKind::ClearColorx
+        | LocalKind::Color4x
+        | LocalKind::ClearDepthx
+        | LocalKind::ClearStencil
+        | LocalKind::ColorMask => {}
+    }
+    None
+}

@@ -1,0 +1,9 @@
+//! EGL images (EGL 1.5, section 3.9; OES_EGL_image).
+#![tactic(auto)]
+
+mod images;
+
+pub use images::{EglImage, may_create, may_target_renderbuffer};
+
+#[cfg(test)]
+mod tests;

@@ -1,0 +1,4 @@
+pub mod InternalFormats
+pub mod Renderbuffers
+pub mod Framebuffers
+pub mod Completeness

@@ -1,0 +1,16 @@
+//! Renderbuffers and framebuffers (OES_framebuffer_object).
+#![tactic(auto)]
+
+mod completeness;
+mod framebuffers;
+mod internal_formats;
+mod points;
+mod renderbuffers;
+
+pub use completeness::{Part, status};
+pub use framebuffers::{Attached, Framebuffer};
+pub use points::Point;
+pub use renderbuffers::Renderbuffer;
+
+#[cfg(test)]
+mod tests;
