@@ -1,0 +1,233 @@
+//! The displays.
+ghost use Rattle.std.specs.Prelude.{◌≡◌, ◌+◌, pos, [], ◌∷◌, ◌++◌, true, false, IfOk, IfErr, OnOk, OnErr};
+ghost use Rattle.egl_calls.specs.Ranges.{unsigned};
+ghost use Rattle.display_table.specs.Handles as handles;
+ghost use Rattle.display_table.specs.Handles.{is_display, on_display, without, RiseFrom, Takes};
+ghost use Rattle.display_table.specs.Tables.{are_used_up, flag_of, with_flag, HasCause};
+
+use crate::HANDLES_END;
+use crate::errors::HandleError;
+use crate::handles::HandleKind;
+use crate::making::{add_first, add_second};
+use crate::tables::{Table, object_in, rising_in, take};
+use crate::taking::{take_first, take_second};
+use egl_calls::unsigned;
+use std::alloc::Global;
+use std::collections::BTreeMap;
+use std::marker::Model;
+
+/// Which of the two displays are initialised, and the valid handles of both.
+///
+/// Handles are numbered from 3 in the order of their making. A number is never given again.
+///
+/// Contracts see the two flags, the valid handles in the order of their making, and the number of the next one. The
+/// handles of each display are kept by their numbers, so that no call looks at others than those that it names.
+#[derive(Drop)]
+pub struct Displays {
+    first: bool,
+    second: bool,
+    first_handles: Table,
+    second_handles: Table,
+    next_handle: u32,
+}
+
+impl Model for Displays {
+    ghost use Rattle.std.specs.Ordering.{nat_cmp};
+    ghost use Rattle.std.specs.BTreeMap.{get};
+    ghost use Rattle.display_table.specs.Tables.{DisplaysValue, handles_in, AreTables};
+
+    ghost Value = { DisplaysValue };
+
+    ghost view = { λ d. record { first = d.first; second = d.second; handles = handles_in (get nat_cmp d.first_handles) (get nat_cmp d.second_handles) d.next_handle; next_handle = d.next_handle } };
+
+    ghost invariant = { λ d. AreTables (get nat_cmp d.first_handles) (get nat_cmp d.second_handles) d.next_handle };
+}
+
+impl Displays {
+    /// Two displays that aren't initialised and have no handles. It takes no memory.
+    pub fn new(alloc: Global) -> Displays
+        ensures { result ≡ record { first = false; second = false; handles = []; next_handle = 3 } }
+    {
+        Displays {
+            first: false,
+            second: false,
+            first_handles: BTreeMap::new(alloc),
+            second_handles: BTreeMap::new(alloc),
+            next_handle: 3,
+        }
+    }
+
+    // Displays without handles, of which one can still be made.
+    #[cfg(test)]
+    pub(crate) fn before_last(alloc: Global) -> Displays {
+        Displays {
+            first: false,
+            second: false,
+            first_handles: BTreeMap::new(alloc),
+            second_handles: BTreeMap::new(alloc),
+            next_handle: HANDLES_END - 1,
+        }
+    }
+
+    /// Marks display 1 or 2 as initialised (EGL 1.5, section 3.2).
+    pub fn init(&mut self, display: i64)
+        requires { is_display (unsigned display) ≡ true }
+        ensures { self.new ≡ with_flag (unsigned display) true self.old }
+    {
+        if unsigned(display) == 1 {
+            self.first = true;
+        } else {
+            self.second = true;
+        }
+    }
+
+    /// Whether a display is initialised; never for a number that is no display.
+    pub fn is_init(&self, display: i64) -> bool
+        ensures { result ≡ flag_of (unsigned display) self.now }
+    {
+        match unsigned(display) {
+            1 => self.first,
+            2 => self.second,
+            _ => false,
+        }
+    }
+
+    /// The object that a valid handle of the display names, where it is of this kind.
+    pub fn valid(&self, display: i64, handle: i64, kind: HandleKind) -> Option<u64>
+        ensures { result ≡ handles.valid (unsigned display) (unsigned handle) kind self.now.handles }
+    {
+        self.object_on(unsigned(display), unsigned(handle), kind)
+    }
+
+    /// The object that a valid handle of either display names, where it is of this kind.
+    pub fn valid_anywhere(&self, handle: i64, kind: HandleKind) -> Option<u64>
+        ensures { result ≡ handles.valid_anywhere (unsigned handle) kind self.now.handles }
+    {
+        self.object_of(unsigned(handle), kind)
+    }
+
+    /// The number of the next handle.
+    pub fn next_handle(&self) -> u32
+        ensures { result ≡ self.now.next_handle }
+    {
+        self.next_handle
+    }
+
+    /// Makes a handle of display 1 or 2 for an object, and answers its number.
+    ///
+    /// `Limit` comes exactly where the number would be 2,147,483,648. After either error all is as it was.
+    pub fn new_handle(
+        &mut self,
+        display: i64,
+        kind: HandleKind,
+        object: u64,
+    ) -> Result<i64, HandleError>
+        requires { is_display (unsigned display) ≡ true }
+        ensures number { IfOk result (λ n. n ≡ pos self.old.next_handle) }
+        ensures made { OnOk result (self.new ≡ record self.old {
+          handles = self.old.handles ++ record { number = self.old.next_handle; display = unsigned display; kind = kind; object = object } ∷ [];
+          next_handle = self.old.next_handle + 1;
+        }) }
+        ensures fits { OnOk result (are_used_up self.old.next_handle ≡ false) }
+        ensures cause { IfErr result (HasCause self.old.next_handle) }
+        ensures same { OnErr result (self.new ≡ self.old) }
+    {
+        if self.next_handle >= HANDLES_END {
+            return Err(HandleError::Limit);
+        }
+        if unsigned(display) == 1 {
+            return add_first(
+                &mut self.first_handles,
+                &self.second_handles,
+                &mut self.next_handle,
+                kind,
+                object,
+            );
+        }
+        add_second(
+            &self.first_handles,
+            &mut self.second_handles,
+            &mut self.next_handle,
+            kind,
+            object,
+        )
+    }
+
+    /// Removes a handle. It changes nothing where no valid handle has the number, and takes no memory.
+    pub fn remove(&mut self, handle: i64)
+        ensures { self.new ≡ record self.old { handles = without (unsigned handle) self.old.handles } }
+    {
+        self.remove_number(unsigned(handle));
+    }
+
+    /// Removes the handle of the display that was made last, and answers its object: none exactly where the display has
+    /// no handle. Called until then it answers each object of the display once for each handle. It takes no memory.
+    pub fn take_handle(&mut self, display: i64) -> Option<u64>
+        requires { is_display (unsigned display) ≡ true }
+        ensures taken { Takes (unsigned display) self.old.handles self.new.handles result }
+        ensures same { self.new ≡ record self.old { handles = self.new.handles } }
+    {
+        if unsigned(display) == 1 {
+            take_first(
+                &mut self.first_handles,
+                &self.second_handles,
+                self.next_handle,
+            )
+        } else {
+            take_second(
+                &self.first_handles,
+                &mut self.second_handles,
+                self.next_handle,
+            )
+        }
+    }
+
+    /// Marks display 1 or 2 as not initialised, once it has no handles (EGL 1.5, section 3.2). It takes no memory.
+    pub fn terminate(&mut self, display: i64)
+        requires display { is_display (unsigned display) ≡ true }
+        requires empty { on_display (unsigned display) self.old.handles ≡ [] }
+        ensures { self.new ≡ with_flag (unsigned display) false self.old }
+    {
+        if unsigned(display) == 1 {
+            self.first = false;
+        } else {
+            self.second = false;
+        }
+    }
+
+    /// Handles rise in the order of their making, from 3 on, and are below the next one; so no two have one number.
+    /// This is a law: there is nothing to run.
+    pub fn handles_rise(&self)
+        ensures { RiseFrom 3 self.now.handles self.now.next_handle }
+    {
+        rising_in(&self.first_handles, &self.second_handles, self.next_handle);
+    }
+
+    fn object_on(&self, display: u64, number: u64, kind: HandleKind) -> Option<u64>
+        ensures { result ≡ handles.valid display number kind self.now.handles }
+    {
+        if display == 1 {
+            object_in(&self.first_handles, number, kind)
+        } else if display == 2 {
+            object_in(&self.second_handles, number, kind)
+        } else {
+            None
+        }
+    }
+
+    fn object_of(&self, number: u64, kind: HandleKind) -> Option<u64>
+        ensures { result ≡ handles.valid_anywhere number kind self.now.handles }
+    {
+        match object_in(&self.first_handles, number, kind) {
+            Some(object) => Some(object),
+            None => object_in(&self.second_handles, number, kind),
+        }
+    }
+
+    fn remove_number(&mut self, number: u64)
+        ensures { self.new ≡ record self.old { handles = without number self.old.handles } }
+    {
+        take(&mut self.first_handles, number);
+        take(&mut self.second_handles, number);
+    }
+}

@@ -1,0 +1,18 @@
+//! The two displays and their handles: which displays are initialised, and which objects the valid handles name.
+#![tactic(auto)]
+
+mod displays;
+mod errors;
+mod handles;
+mod making;
+mod tables;
+mod taking;
+#[cfg(test)]
+mod tests;
+
+pub use displays::Displays;
+pub use errors::HandleError;
+pub use handles::{Handle, HandleKind};
+
+/// Handles have lower numbers, so that each fits an EGLint.
+pub const HANDLES_END: u32 = 2_147_483_648;

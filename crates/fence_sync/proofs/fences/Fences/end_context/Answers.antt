@@ -1,0 +1,6 @@
+use Rattle.std.proofs.Common.{refl}
+use Rattle.fence_sync.proofs.FenceLaws.{forgotten}
+use Rattle.fence_sync.proofs.fences.Fences.end_context.Goals as goal
+
+pub returns : goal.returns
+returns c = rw (← c.self.view_is, forgotten _ _ _ _ _ c.forget.ensures) refl

@@ -1,0 +1,5 @@
+pub mod NameLaws
+pub mod ForkLaws
+pub mod NodeLaws
+pub mod GenLaws
+pub mod FreeLaws

@@ -1,0 +1,15 @@
+//! The names of a share group: textures, buffers, renderbuffers and framebuffers.
+#![tactic(auto)]
+
+mod edges;
+mod generating;
+mod groups;
+mod laws;
+mod names;
+#[cfg(test)]
+mod tests;
+mod trees;
+
+pub use groups::Group;
+pub use laws::{as_many_names_as_asked, freeing_one_name, smallest_unused_name};
+pub use names::{Name, NameKind};
