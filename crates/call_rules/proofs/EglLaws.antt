@@ -13,11 +13,11 @@ use Rattle.egl_calls.specs.declared.kinds.EglKind.TheVariants.{Initialize, Termi
 use Rattle.egl_calls.specs.declared.errors.EglError.{EglError}
 use Rattle.egl_calls.specs.declared.errors.EglError.TheVariants.{BadAlloc, BadAttribute, BadConfig, BadContext, BadMatch, BadParameter}
 use Rattle.call_rules.specs.declared.egl_facts.EglFacts.{EglFacts}
-use Rattle.call_rules.specs.Rows.{Row, ◌⇒◌, first_error}
+use Rattle.call_rules.specs.Rows.{AllOff, IsFirst, Row, ◌⇒◌, first_error}
 use Rattle.call_rules.specs.Arguments.{is_zero}
 use Rattle.call_rules.specs.EglRules.{display_row, display_rows, is_long, is_later_version, is_supported_version, is_release, is_wrong, current_rows, egl_rows, egl_refusal_by, egl_refusal}
 use Rattle.call_rules.specs.EglAllowed.{HasDisplay, ChoiceAllowed, AttributeAllowed, PbufferAsked, SidesFit, PbufferAllowed, IsTooLarge, PbufferWants, ContextAsked, ContextAllowed, CurrentAllowed}
-use Rattle.call_rules.proofs.RowLaws.{AllOff, all_off, past_off, none_on, NoneSays, from_others, never_says}
+use Rattle.call_rules.proofs.RowLaws.{all_off, first_is, first_of, past_off, none_on, NoneSays, from_others, is_not_said, some_says}
 use Rattle.call_rules.proofs.TestLaws.{not_below, below, is_not_below, is_below, within, is_within, past, is_past}
 
 of_kind : (c : CallValue) (f : EglFacts) (k : EglKind) → c.kind ≡ Egl k → egl_refusal c f ≡ first_error (egl_rows k c f)
@@ -28,10 +28,10 @@ off : (b : Bool) → b ≡ true → not b ≡ false
 off b h = ap not h
 
 -- the rows of a call whose kind is known are all off where it isn't refused, and the other way round
-rows_off : (c : CallValue) (f : EglFacts) (k : EglKind) → c.kind ≡ Egl k → egl_refusal c f ≡ None → AllOff (egl_rows k c f)
+pub rows_off : (c : CallValue) (f : EglFacts) (k : EglKind) → c.kind ≡ Egl k → egl_refusal c f ≡ None → AllOff (egl_rows k c f)
 rows_off c f k h n = all_off (egl_rows k c f) (sym (of_kind c f k h) ∙ n)
 
-refused_not : (c : CallValue) (f : EglFacts) (k : EglKind) → c.kind ≡ Egl k → AllOff (egl_rows k c f) → egl_refusal c f ≡ None
+pub refused_not : (c : CallValue) (f : EglFacts) (k : EglKind) → c.kind ≡ Egl k → AllOff (egl_rows k c f) → egl_refusal c f ≡ None
 refused_not c f k h a = of_kind c f k h ∙ none_on (egl_rows k c f) a
 
 display : (f : EglFacts) → not f.is_display ≡ false → not f.is_initialized ≡ false → HasDisplay f
@@ -401,20 +401,22 @@ release_passes c f h r d = release_is c f h r ∙ none_on (display_row f ∷ [])
 
 -- the other calls have no row of EGL_BAD_ALLOC
 
-no_alloc_current : (b : Bool) (c : CallValue) (f : EglFacts) → NoneSays is_bad_alloc (cond b (display_row f ∷ []) (current_rows c f))
-no_alloc_current true c f = (refl, tt)
-no_alloc_current false c f = (refl, (refl, (refl, (refl, (refl, (refl, (refl, (refl, tt))))))))
+no_alloc_current : (b : Bool) (c : CallValue) (f : EglFacts) → some_says is_bad_alloc (cond b (display_row f ∷ []) (current_rows c f)) ≡ false
+no_alloc_current true c f = refl
+no_alloc_current false c f = refl
 
 only_two : (k : EglKind) (c : CallValue) (f : EglFacts) → first_error (egl_rows k c f) ≡ Some BadAlloc → (k ≡ CreatePbufferSurface) ⊎ (k ≡ CreateContext)
 only_two CreatePbufferSurface c f h = inl refl
 only_two CreateContext c f h = inr refl
-only_two Initialize c f h = absurd (never_says is_bad_alloc BadAlloc (egl_rows Initialize c f) refl (refl, tt) h)
-only_two Terminate c f h = absurd (never_says is_bad_alloc BadAlloc (egl_rows Terminate c f) refl (refl, tt) h)
-only_two GetConfigs c f h = absurd (never_says is_bad_alloc BadAlloc (egl_rows GetConfigs c f) refl (refl, (refl, tt)) h)
-only_two ChooseConfig c f h = absurd (never_says is_bad_alloc BadAlloc (egl_rows ChooseConfig c f) refl (refl, (refl, (refl, tt))) h)
-only_two GetConfigAttrib c f h = absurd (never_says is_bad_alloc BadAlloc (egl_rows GetConfigAttrib c f) refl (refl, (refl, (refl, (refl, tt)))) h)
-only_two MakeCurrent c f h = absurd (never_says is_bad_alloc BadAlloc (egl_rows MakeCurrent c f) refl (no_alloc_current (is_release c) c f) h)
-only_two k c f h = absurd (let e : None ≡ Some BadAlloc = h in cc)
+only_two MakeCurrent c f h = absurd (is_not_said is_bad_alloc BadAlloc (egl_rows MakeCurrent c f) refl (no_alloc_current (is_release c) c f) h)
+only_two k c f h = absurd (is_not_said is_bad_alloc BadAlloc (egl_rows k c f) refl refl h)
 
 pub two_want : (c : CallValue) (f : EglFacts) (k : EglKind) → c.kind ≡ Egl k → egl_refusal c f ≡ Some BadAlloc → (k ≡ CreatePbufferSurface) ⊎ (k ≡ CreateContext)
 two_want c f k h n = only_two k c f (sym (of_kind c f k h) ∙ n)
+
+-- ---- Any call, by its rows.
+pub refused_first : (c : CallValue) (f : EglFacts) (k : EglKind) (e : EglError) → c.kind ≡ Egl k → egl_refusal c f ≡ Some e → IsFirst e (egl_rows k c f)
+refused_first c f k e h n = first_of e (egl_rows k c f) (sym (of_kind c f k h) ∙ n)
+
+pub first_refused : (c : CallValue) (f : EglFacts) (k : EglKind) (e : EglError) → c.kind ≡ Egl k → IsFirst e (egl_rows k c f) → egl_refusal c f ≡ Some e
+first_refused c f k e h n = of_kind c f k h ∙ first_is e (egl_rows k c f) n

@@ -1,5 +1,5 @@
 -- What no refusal of a call of OpenGL ES says.
-use Rattle.std.proofs.Common.{◌≡◌, ℕ, ℤ, pos, Bool, true, false, not, ◌||◌, ◌&&◌, None, refl, sym, ap, ◌∙◌, ◌⊎◌, inl, inr, bit_or}
+use Rattle.std.proofs.Common.{◌≡◌, ℕ, ℤ, pos, Bool, true, false, not, ◌||◌, ◌&&◌, None, Some, refl, sym, ap, ◌∙◌, ◌⊎◌, inl, inr, bit_or}
 use Rattle.std.specs.Prelude.{int_lt, ◌==◌}
 use Rattle.std.proofs.lemmas.Bool.{not-false, or_parts, or_from, or_cases, and_parts, and_from}
 use Rattle.std.proofs.lemmas.Bool.Decides.{Decides-eqb}
@@ -8,24 +8,25 @@ use Rattle.egl_calls.specs.declared.kinds.Kind.{Kind}
 use Rattle.egl_calls.specs.declared.kinds.Kind.TheVariants.{Gl}
 use Rattle.egl_calls.specs.declared.kinds.GlKind.{GlKind}
 use Rattle.egl_calls.specs.declared.kinds.GlKind.TheVariants.{Clear, ReadPixels}
+use Rattle.egl_calls.specs.declared.errors.GlError.{GlError}
 use Rattle.egl_calls.specs.Ranges.{unsigned}
 use Rattle.egl_names.specs.declared.codes.TheConstants.{GL_RGB, GL_RGBA, GL_UNSIGNED_BYTE, GL_UNSIGNED_SHORT_5_6_5}
 use Rattle.call_rules.specs.declared.gl_facts.GlFacts.{GlFacts}
-use Rattle.call_rules.specs.Rows.{first_error}
+use Rattle.call_rules.specs.Rows.{AllOff, IsFirst, first_error}
 use Rattle.call_rules.specs.Arguments.{signed}
 use Rattle.call_rules.specs.GlRules.{buffer_bits, is_no_side, is_read_format, is_read_type, is_read_pair, read_format, read_type, gl_rows, gl_refusal_by, gl_refusal}
 use Rattle.call_rules.specs.GlAllowed.{ClearAllowed, IsSide, ReadAllowed}
-use Rattle.call_rules.proofs.RowLaws.{AllOff, all_off, none_on}
+use Rattle.call_rules.proofs.RowLaws.{all_off, first_is, first_of, none_on}
 use Rattle.call_rules.proofs.TestLaws.{not_below, is_not_below}
 
 of_kind : (c : CallValue) (f : GlFacts) (k : GlKind) → c.kind ≡ Gl k → gl_refusal c f ≡ first_error (gl_rows k c f)
 unfolding gl_refusal
 of_kind c f k h = ap (λ (kind : Kind). gl_refusal_by kind c f) h
 
-rows_off : (c : CallValue) (f : GlFacts) (k : GlKind) → c.kind ≡ Gl k → gl_refusal c f ≡ None → AllOff (gl_rows k c f)
+pub rows_off : (c : CallValue) (f : GlFacts) (k : GlKind) → c.kind ≡ Gl k → gl_refusal c f ≡ None → AllOff (gl_rows k c f)
 rows_off c f k h n = all_off (gl_rows k c f) (sym (of_kind c f k h) ∙ n)
 
-refused_not : (c : CallValue) (f : GlFacts) (k : GlKind) → c.kind ≡ Gl k → AllOff (gl_rows k c f) → gl_refusal c f ≡ None
+pub refused_not : (c : CallValue) (f : GlFacts) (k : GlKind) → c.kind ≡ Gl k → AllOff (gl_rows k c f) → gl_refusal c f ≡ None
 refused_not c f k h a = of_kind c f k h ∙ none_on (gl_rows k c f) a
 
 off : (b : Bool) → b ≡ true → not b ≡ false
@@ -93,3 +94,10 @@ read_passes c f h a = refused_not c f ReadPixels h (
     ),
   ),
 )
+
+-- ---- Any call, by its rows.
+pub refused_first : (c : CallValue) (f : GlFacts) (k : GlKind) (e : GlError) → c.kind ≡ Gl k → gl_refusal c f ≡ Some e → IsFirst e (gl_rows k c f)
+refused_first c f k e h n = first_of e (gl_rows k c f) (sym (of_kind c f k h) ∙ n)
+
+pub first_refused : (c : CallValue) (f : GlFacts) (k : GlKind) (e : GlError) → c.kind ≡ Gl k → IsFirst e (gl_rows k c f) → gl_refusal c f ≡ Some e
+first_refused c f k e h n = of_kind c f k h ∙ first_is e (gl_rows k c f) n

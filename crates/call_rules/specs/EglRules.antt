@@ -7,11 +7,11 @@ use Rattle.egl_calls.specs.Calls.{CallValue}
 use Rattle.egl_calls.specs.declared.kinds.Kind.{Kind}
 use Rattle.egl_calls.specs.declared.kinds.Kind.TheVariants.{Egl}
 use Rattle.egl_calls.specs.declared.kinds.EglKind.{EglKind}
-use Rattle.egl_calls.specs.declared.kinds.EglKind.TheVariants.{Initialize, Terminate, GetConfigs, ChooseConfig, GetConfigAttrib, CreatePbufferSurface, CreateContext, MakeCurrent}
+use Rattle.egl_calls.specs.declared.kinds.EglKind.TheVariants.{GetError, GetDisplay, Initialize, Terminate, GetConfigs, ChooseConfig, GetConfigAttrib, CreatePbufferSurface, CreateContext, MakeCurrent, GetCurrentContext}
 use Rattle.egl_calls.specs.declared.errors.EglError.{EglError}
 use Rattle.egl_calls.specs.declared.errors.EglError.TheVariants.{NotInitialized, BadAccess, BadAlloc, BadAttribute, BadConfig, BadContext, BadDisplay, BadMatch, BadParameter, BadSurface}
 use Rattle.call_rules.specs.declared.egl_facts.EglFacts.{EglFacts}
-use Rattle.call_rules.specs.Rows.{Row, ◌⇒◌, first_error}
+use Rattle.call_rules.specs.Rows.{Row, ◌⇒◌, first_error, unbuilt}
 use Rattle.call_rules.specs.Arguments.{is_zero}
 
 -- the facts of a call that asks for none
@@ -68,7 +68,10 @@ is_supported_version version minor = int_eq version (pos 1) && (int_eq minor (po
 
 -- the rows of the calls that are judged by facts alone, whatever their numbers, in the order of the tests
 abbrev pub fact_rows : EglKind → EglFacts → List (Row EglError)
--- EGL 1.5, section 3.2
+-- EGL 1.5, section 3.1: never refused
+fact_rows GetError f = []
+-- section 3.2
+fact_rows GetDisplay f = []
 fact_rows Initialize f =
     display_row f ∷
     []
@@ -103,8 +106,10 @@ fact_rows CreateContext f = display_rows f ++
     (not (is_supported_version f.version f.minor_version) ⇒ BadMatch) ∷
     (f.are_handles_used_up ⇒ BadAlloc) ∷
     []
--- a call that is never refused, is local to a thread, or isn't built
-fact_rows k f = []
+-- section 3.7.4: never refused
+fact_rows GetCurrentContext f = []
+-- a call that isn't built
+fact_rows k f = unbuilt NotInitialized
 
 -- without draw surface, read surface and context: the current context is released (section 3.7.3)
 abbrev pub is_release : CallValue → Bool

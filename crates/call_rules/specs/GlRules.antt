@@ -6,13 +6,13 @@ use Rattle.egl_calls.specs.Calls.{CallValue}
 use Rattle.egl_calls.specs.declared.kinds.Kind.{Kind}
 use Rattle.egl_calls.specs.declared.kinds.Kind.TheVariants.{Gl}
 use Rattle.egl_calls.specs.declared.kinds.GlKind.{GlKind}
-use Rattle.egl_calls.specs.declared.kinds.GlKind.TheVariants.{Clear, ReadPixels}
+use Rattle.egl_calls.specs.declared.kinds.GlKind.TheVariants.{GetError, ClearColorx, Clear, ReadPixels}
 use Rattle.egl_calls.specs.declared.errors.GlError.{GlError}
 use Rattle.egl_calls.specs.declared.errors.GlError.TheVariants.{InvalidEnum, InvalidValue, InvalidOperation, InvalidFramebufferOperation}
 use Rattle.egl_calls.specs.Ranges.{unsigned}
 use Rattle.egl_names.specs.declared.codes.TheConstants.{GL_RGB, GL_RGBA, GL_UNSIGNED_BYTE, GL_UNSIGNED_SHORT_5_6_5, GL_COLOR_BUFFER_BIT, GL_DEPTH_BUFFER_BIT, GL_STENCIL_BUFFER_BIT}
 use Rattle.call_rules.specs.declared.gl_facts.GlFacts.{GlFacts}
-use Rattle.call_rules.specs.Rows.{Row, ◌⇒◌, first_error}
+use Rattle.call_rules.specs.Rows.{Row, ◌⇒◌, first_error, unbuilt}
 use Rattle.call_rules.specs.Arguments.{signed}
 
 -- the bits of the buffers that glClear clears (OpenGL ES 1.1, section 4.2.3)
@@ -54,7 +54,10 @@ framebuffer_row f = not f.is_framebuffer_complete ⇒ InvalidFramebufferOperatio
 
 -- the rows of each call, in the order of the tests
 abbrev pub gl_rows : GlKind → CallValue → GlFacts → List (Row GlError)
--- OpenGL ES 1.1, section 4.2.3
+-- OpenGL ES 1.1, section 2.5: never refused
+gl_rows GetError c f = []
+-- section 4.2.3
+gl_rows ClearColorx c f = []
 gl_rows Clear c f =
     (not (is_clear_mask (signed c 0)) ⇒ InvalidValue) ∷
     framebuffer_row f ∷
@@ -66,8 +69,8 @@ gl_rows ReadPixels c f =
     (not (is_read_pair (read_format c) (read_type c)) ⇒ InvalidOperation) ∷
     framebuffer_row f ∷
     []
--- a call that is local to a thread, or isn't built
-gl_rows k c f = []
+-- a call that isn't built
+gl_rows k c f = unbuilt InvalidOperation
 
 -- a call that isn't one of OpenGL ES has no row
 abbrev pub gl_refusal_by : Kind → CallValue → GlFacts → Option GlError

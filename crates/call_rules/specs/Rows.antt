@@ -1,5 +1,5 @@
 -- Rows of a table of refusals.
-use Rattle.std.specs.Prelude.{Bool, List, [], ◌∷◌, if◌then◌else◌}
+use Rattle.std.specs.Prelude.{◌≡◌, ◌⊎◌, Bool, true, false, List, [], ◌∷◌, if◌then◌else◌}
 use Rattle.std.specs.declared.option.Option.{Option}
 use Rattle.std.specs.declared.option.Option.TheVariants.{None, Some}
 
@@ -17,3 +17,21 @@ b ⇒ e = record { holds = b; error = e }
 abbrev pub first_error : {E : Type 0} → List (Row E) → Option E
 first_error [] = None
 first_error (r ∷ rs) = if r.holds then Some r.error else first_error rs
+
+-- whether a call that isn't built is refused: nothing can be proved of it, so no code can be proved to tell it
+pub is_unbuilt_refused : Bool
+is_unbuilt_refused = false
+
+-- the row of a call that isn't built
+abbrev pub unbuilt : {E : Type 0} → E → List (Row E)
+unbuilt e = (is_unbuilt_refused ⇒ e) ∷ []
+
+-- no row holds
+abbrev pub AllOff : {E : Type 0} → List (Row E) → Type 0
+AllOff [] = Unit {0}
+AllOff (r ∷ rs) = (r.holds ≡ false) × AllOff rs
+
+-- a row holds that has this error, and none before it does
+abbrev pub IsFirst : {E : Type 0} → E → List (Row E) → Type 0
+IsFirst e [] = ⊥
+IsFirst e (r ∷ rs) = ((r.holds ≡ true) × (r.error ≡ e)) ⊎ ((r.holds ≡ false) × IsFirst e rs)

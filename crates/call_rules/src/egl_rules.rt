@@ -1,5 +1,6 @@
 //! When each call of EGL is refused.
-ghost use Rattle.std.specs.Prelude.{◌≡◌, ◌+◌, nat_lt, [], ◌∷◌};
+ghost use Rattle.std.specs.Prelude.{◌≡◌, ◌+◌, nat_lt, true, [], ◌∷◌};
+ghost use Rattle.egl_calls.specs.Kinds.{is_built};
 ghost use Rattle.egl_calls.specs.declared.kinds.EglKind.TheVariants.{ChooseConfig, GetConfigAttrib, CreatePbufferSurface, CreateContext, MakeCurrent};
 ghost use Rattle.call_rules.specs.Rows.{first_error};
 ghost use Rattle.call_rules.specs.EglRules.{egl_refusal, egl_rows, fact_rows, display_row, display_rows, current_rows, is_long, is_later_version, is_supported_version};
@@ -59,11 +60,8 @@ fn initialized_display(facts: &EglFacts) -> Option<EglError>
 fn choose_config(facts: &EglFacts) -> Option<EglError>
     ensures { result ≡ first_error (fact_rows ChooseConfig facts.now) }
 {
-    if !facts.is_display {
-        return Some(EglError::BadDisplay);
-    }
-    if !facts.is_initialized {
-        return Some(EglError::NotInitialized);
+    if let Some(error) = initialized_display(facts) {
+        return Some(error);
     }
     if !facts.is_list_allowed {
         return Some(EglError::BadAttribute);
@@ -75,11 +73,8 @@ fn choose_config(facts: &EglFacts) -> Option<EglError>
 fn get_config_attrib(facts: &EglFacts) -> Option<EglError>
     ensures { result ≡ first_error (fact_rows GetConfigAttrib facts.now) }
 {
-    if !facts.is_display {
-        return Some(EglError::BadDisplay);
-    }
-    if !facts.is_initialized {
-        return Some(EglError::NotInitialized);
+    if let Some(error) = initialized_display(facts) {
+        return Some(error);
     }
     if !facts.is_config {
         return Some(EglError::BadConfig);
@@ -94,11 +89,8 @@ fn get_config_attrib(facts: &EglFacts) -> Option<EglError>
 fn create_pbuffer_surface(facts: &EglFacts) -> Option<EglError>
     ensures { result ≡ first_error (fact_rows CreatePbufferSurface facts.now) }
 {
-    if !facts.is_display {
-        return Some(EglError::BadDisplay);
-    }
-    if !facts.is_initialized {
-        return Some(EglError::NotInitialized);
+    if let Some(error) = initialized_display(facts) {
+        return Some(error);
     }
     if !facts.is_config {
         return Some(EglError::BadConfig);
@@ -125,11 +117,8 @@ fn create_pbuffer_surface(facts: &EglFacts) -> Option<EglError>
 fn create_context(facts: &EglFacts) -> Option<EglError>
     ensures { result ≡ first_error (fact_rows CreateContext facts.now) }
 {
-    if !facts.is_display {
-        return Some(EglError::BadDisplay);
-    }
-    if !facts.is_initialized {
-        return Some(EglError::NotInitialized);
+    if let Some(error) = initialized_display(facts) {
+        return Some(error);
     }
     if !facts.is_config {
         return Some(EglError::BadConfig);
@@ -160,11 +149,8 @@ fn make_some_current(call: &Call, facts: &EglFacts) -> Option<EglError>
     ensures { result ≡ first_error (current_rows call.now facts.now) }
 {
     let [_, draw, read, context, ..] = call.args;
-    if !facts.is_display {
-        return Some(EglError::BadDisplay);
-    }
-    if !facts.is_initialized {
-        return Some(EglError::NotInitialized);
+    if let Some(error) = initialized_display(facts) {
+        return Some(error);
     }
     if draw != 0 && !facts.is_draw || read != 0 && !facts.is_read {
         return Some(EglError::BadSurface);
@@ -198,12 +184,15 @@ fn make_current(call: &Call, facts: &EglFacts) -> Option<EglError>
     make_some_current(call, facts)
 }
 
-/// The error that a call of EGL answers, and None where it isn't refused. A call that is never refused, is local to a thread, isn't built, or is of another interface has no row.
+/// The error that a call of EGL answers, and None where it isn't refused. A call of another interface has no row.
 #[tactic(auto, unfolding(crate::specs::EglRules::egl_refusal))]
 pub fn egl_refusal(call: &Call, facts: &EglFacts) -> Option<EglError>
+    requires { is_built call.now.kind ≡ true }
     ensures { result ≡ egl_refusal call.now facts.now }
 {
     match call.kind {
+        Kind::Egl(EglKind::GetError) => None,
+        Kind::Egl(EglKind::GetDisplay) => None,
         Kind::Egl(EglKind::Initialize) => any_display(facts),
         Kind::Egl(EglKind::Terminate) => any_display(facts),
         Kind::Egl(EglKind::GetConfigs) => initialized_display(facts),
@@ -212,6 +201,8 @@ pub fn egl_refusal(call: &Call, facts: &EglFacts) -> Option<EglError>
         Kind::Egl(EglKind::CreatePbufferSurface) => create_pbuffer_surface(facts),
         Kind::Egl(EglKind::CreateContext) => create_context(facts),
         Kind::Egl(EglKind::MakeCurrent) => make_current(call, facts),
-        _ => None,
+        Kind::Egl(EglKind::GetCurrentContext) => None,
+        Kind::Egl(_) => unreachable!(),
+        Kind::Gl(_) | Kind::Own(_) => None,
     }
 }

@@ -1,5 +1,6 @@
 //! When each call of OpenGL ES is refused.
-ghost use Rattle.std.specs.Prelude.{◌≡◌};
+ghost use Rattle.egl_calls.specs.Kinds.{is_built};
+ghost use Rattle.std.specs.Prelude.{◌≡◌, true};
 ghost use Rattle.egl_calls.specs.declared.kinds.GlKind.TheVariants.{Clear, ReadPixels};
 ghost use Rattle.call_rules.specs.Rows.{first_error};
 ghost use Rattle.call_rules.specs.GlRules.{gl_refusal, gl_rows, is_clear_mask, is_no_side, is_read_format, is_read_type, is_read_pair};
@@ -79,14 +80,18 @@ fn read_pixels(call: &Call, facts: &GlFacts) -> Option<GlError>
     None
 }
 
-/// The error that a call of OpenGL ES keeps in its context and comes out with, and None where it isn't refused. A call that is local to a thread, isn't built, or is of another interface has no row.
+/// The error that a call of OpenGL ES keeps in its context and comes out with, and None where it isn't refused. A call of another interface has no row.
 #[tactic(auto, unfolding(crate::specs::GlRules::gl_refusal))]
 pub fn gl_refusal(call: &Call, facts: &GlFacts) -> Option<GlError>
+    requires { is_built call.now.kind ≡ true }
     ensures { result ≡ gl_refusal call.now facts.now }
 {
     match call.kind {
+        Kind::Gl(GlKind::GetError) => None,
+        Kind::Gl(GlKind::ClearColorx) => None,
         Kind::Gl(GlKind::Clear) => clear(call, facts),
         Kind::Gl(GlKind::ReadPixels) => read_pixels(call, facts),
-        _ => None,
+        Kind::Gl(_) => unreachable!(),
+        Kind::Egl(_) | Kind::Own(_) => None,
     }
 }

@@ -4,14 +4,26 @@ ghost use Rattle.egl_calls.specs.Calls.{CallValue};
 ghost use Rattle.egl_calls.specs.declared.kinds.Kind.TheVariants.{Egl, Gl};
 ghost use Rattle.egl_calls.specs.declared.kinds.EglKind.{EglKind as Kinds};
 ghost use Rattle.egl_calls.specs.declared.kinds.EglKind.TheVariants.{Initialize, Terminate, GetConfigs, ChooseConfig, GetConfigAttrib, CreatePbufferSurface, CreateContext, MakeCurrent};
+ghost use Rattle.egl_calls.specs.declared.kinds.GlKind.{GlKind as GlKinds};
 ghost use Rattle.egl_calls.specs.declared.kinds.GlKind.TheVariants.{Clear, ReadPixels};
+ghost use Rattle.egl_calls.specs.declared.errors.EglError.{EglError as AnEglError};
+ghost use Rattle.egl_calls.specs.declared.errors.GlError.{GlError as AGlError};
+ghost use Rattle.call_rules.specs.Rows.{AllOff, IsFirst};
 ghost use Rattle.egl_calls.specs.declared.errors.EglError.TheVariants.{BadAlloc};
 ghost use Rattle.call_rules.specs.declared.egl_facts.EglFacts.{EglFacts as Facts};
 ghost use Rattle.call_rules.specs.declared.gl_facts.GlFacts.{GlFacts as GlesFacts};
-ghost use Rattle.call_rules.specs.EglRules.{egl_refusal, is_release};
-ghost use Rattle.call_rules.specs.GlRules.{gl_refusal};
+ghost use Rattle.call_rules.specs.EglRules.{egl_refusal, egl_rows, is_release};
+ghost use Rattle.call_rules.specs.GlRules.{gl_refusal, gl_rows};
 ghost use Rattle.call_rules.specs.EglAllowed.{HasDisplay, ChoiceAllowed, AttributeAllowed, PbufferAsked, PbufferAllowed, PbufferWants, ContextAsked, ContextAllowed, CurrentAllowed};
 ghost use Rattle.call_rules.specs.GlAllowed.{ClearAllowed, ReadAllowed};
+
+/// A call goes through exactly where none of its rows holds, and is refused with an error exactly where that of the first row that holds is this error.
+pub fn a_call_is_judged_by_its_rows()
+    ensures egl_allowed { (c : CallValue) (f : Facts) (k : Kinds) → c.kind ≡ Egl k → (egl_refusal c f ≡ None) ↔ AllOff (egl_rows k c f) }
+    ensures egl_refused { (c : CallValue) (f : Facts) (k : Kinds) (e : AnEglError) → c.kind ≡ Egl k → (egl_refusal c f ≡ Some e) ↔ IsFirst e (egl_rows k c f) }
+    ensures gl_allowed { (c : CallValue) (f : GlesFacts) (k : GlKinds) → c.kind ≡ Gl k → (gl_refusal c f ≡ None) ↔ AllOff (gl_rows k c f) }
+    ensures gl_refused { (c : CallValue) (f : GlesFacts) (k : GlKinds) (e : AGlError) → c.kind ≡ Gl k → (gl_refusal c f ≡ Some e) ↔ IsFirst e (gl_rows k c f) }
+{}
 
 /// eglInitialize and eglTerminate go through exactly with a display (EGL 1.5, section 3.2), and eglGetConfigs with an initialised one (section 3.4.1).
 pub fn display_call_is_allowed()

@@ -1,6 +1,6 @@
 //! Which error a call of EGL or OpenGL ES answers first, given facts about the state and the call's own numbers.
 //!
-//! The calls are those that are built and aren't local to a thread. `specs/EglRules.antt` and `specs/GlRules.antt` have a table for each call, a row for each condition and its error. The conditions are the standards'; the order in which they are tried, and the error where several hold, are this project's own.
+//! The calls are those that are built. `specs/EglRules.antt` and `specs/GlRules.antt` have a table for each call, a row for each condition and its error. The conditions are the standards'; the order in which they are tried, and the error where several hold, are this project's own.
 #![tactic(auto)]
 
 mod egl_facts;

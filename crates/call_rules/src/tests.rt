@@ -1,6 +1,6 @@
 //! Tables of conditions that hold alone or together, and the error that comes first.
 use crate::{EglFacts, GlFacts, egl_refusal, gl_refusal};
-use egl_calls::{Call, EglError, EglKind, GlError, GlKind, Kind, Numbers};
+use egl_calls::{Call, EglError, EglKind, GlError, GlKind, Kind, Numbers, is_built};
 use egl_names::codes::{
     GL_ALPHA, GL_RGB, GL_RGBA, GL_UNSIGNED_BYTE, GL_UNSIGNED_SHORT_4_4_4_4, GL_UNSIGNED_SHORT_5_6_5,
 };
@@ -238,7 +238,7 @@ static WITHOUT_CONTEXT: [EglRow; 3] = [
     (&[NoContext, SurfaceElsewhere], Some(EglError::BadMatch)),
 ];
 
-/// Calls that are never refused, local to a thread, or not built.
+/// Calls that are never refused.
 static NO_ROW: [EglRow; 2] = [
     (&[], None),
     (&[NoDisplay, NoConfig, NoDraw, LastHandle], None),
@@ -265,6 +265,7 @@ fn egl_call(alloc: Global, kind: EglKind, args: [i32; 4]) -> Call {
 
 /// Each row's error is answered to the call.
 fn expect_egl(rt: &impl Abort, call: &Call, rows: &[EglRow]) {
+    assert!(rt; is_built(call.kind));
     for (buts, error) in rows {
         assert_eq!(rt; egl_refusal(call, &facts_but(buts)), *error);
     }
@@ -273,7 +274,8 @@ fn expect_egl(rt: &impl Abort, call: &Call, rows: &[EglRow]) {
 #[test]
 fn first_egl_error_is_answered(rt: HostRuntime) {
     let alloc = rt.alloc();
-    let table: [(EglKind, [i32; 4], &[EglRow]); 14] = [
+    let table: [(EglKind, [i32; 4], &[EglRow]); 15] = [
+        (EglKind::GetError, [0; 4], &NO_ROW),
         (EglKind::Initialize, [1, 0, 0, 0], &ANY_DISPLAY),
         (EglKind::Terminate, [1, 0, 0, 0], &ANY_DISPLAY),
         (EglKind::GetConfigs, [1, 1, 8, 0], &GET_CONFIGS),
@@ -297,6 +299,7 @@ fn first_egl_error_is_answered(rt: HostRuntime) {
         is_display: true,
         ..EglFacts::none()
     };
+    assert!(rt; is_built(call.kind));
     assert_eq!(rt; egl_refusal(&call, &facts), Some(EglError::NotInitialized));
 }
 
@@ -406,8 +409,8 @@ static READ_PIXELS: [GlRow; 20] = [
     ),
 ];
 
-/// A call that is local to a thread.
-static CLEAR_COLOR: [GlRow; 1] = [([-1, -1, -1], [0, 0], false, None)];
+/// Calls that are never refused.
+static NO_GL_ROW: [GlRow; 1] = [([-1, -1, -1], [0, 0], false, None)];
 
 fn gl_call(alloc: Global, kind: GlKind, numbers: [i32; 3], codes: [u32; 2]) -> Call {
     let [first, width, height] = numbers;
@@ -433,6 +436,7 @@ fn gl_call(alloc: Global, kind: GlKind, numbers: [i32; 3], codes: [u32; 2]) -> C
 fn expect_gl(rt: &impl Abort, alloc: Global, kind: GlKind, rows: &[GlRow]) {
     for (numbers, codes, is_framebuffer_complete, error) in rows {
         let call = gl_call(alloc, kind, *numbers, *codes);
+        assert!(rt; is_built(call.kind));
         let facts = GlFacts {
             is_framebuffer_complete: *is_framebuffer_complete,
         };
@@ -444,7 +448,8 @@ fn expect_gl(rt: &impl Abort, alloc: Global, kind: GlKind, rows: &[GlRow]) {
 fn first_gl_error_is_kept(rt: HostRuntime) {
     expect_gl(&rt, rt.alloc(), GlKind::Clear, &CLEAR);
     expect_gl(&rt, rt.alloc(), GlKind::ReadPixels, &READ_PIXELS);
-    expect_gl(&rt, rt.alloc(), GlKind::ClearColorx, &CLEAR_COLOR);
+    expect_gl(&rt, rt.alloc(), GlKind::ClearColorx, &NO_GL_ROW);
+    expect_gl(&rt, rt.alloc(), GlKind::GetError, &NO_GL_ROW);
 }
 
 #[test]
@@ -453,7 +458,9 @@ fn kinds_of_the_other_interface_are_not_refused(rt: HostRuntime) {
     let facts = GlFacts {
         is_framebuffer_complete: false,
     };
+    assert!(rt; is_built(call.kind));
     assert_eq!(rt; gl_refusal(&call, &facts), None);
     let call = gl_call(rt.alloc(), GlKind::Clear, [8, 0, 0], [0; 2]);
+    assert!(rt; is_built(call.kind));
     assert_eq!(rt; egl_refusal(&call, &EglFacts::none()), None);
 }

@@ -1,6 +1,10 @@
 pub mod PaddedLaws
 pub mod OtherLaws
-pub mod PushLaws
-pub mod MadeLaws
-pub mod SweptLaws
+pub mod RootLaws
+pub mod StepLaws
 pub mod Allowed
+pub mod CostLaws
+pub mod OutsideLaws
+pub mod PartLaws
+pub mod HandleLaws
+pub mod AwayLaws

@@ -1,5 +1,5 @@
 //! The displays and the valid handles.
-ghost use Rattle.std.specs.Prelude.{◌≡◌, ◌+◌, ◌-◌, ◌<◌, nat_le, not, ◌==◌, [], ◌∷◌, ◌++◌, false, filter, find, if◌then◌else◌, OnOk, vec_len, vec_capacity};
+ghost use Rattle.std.specs.Prelude.{◌≡◌, ◌≢◌, AllPairs, ◌+◌, ◌-◌, ◌<◌, ◌≤◌, length, nat_le, not, ◌==◌, [], ◌∷◌, ◌++◌, false, filter, find, if◌then◌else◌, OnOk, vec_len, vec_capacity};
 ghost use Rattle.egl_model.specs.Handles.{is_same_kind, is_named, is_named_on};
 ghost use Rattle.driver_core.specs.DisplayTables.{DisplaysValue};
 
@@ -22,11 +22,13 @@ pub struct DisplayTable {
 
 impl Model for DisplayTable {
     ghost use Rattle.std.specs.Prelude.{◌-◌, vec_len, vec_capacity};
-    ghost use Rattle.driver_core.specs.DisplayTables.{DisplaysValue};
+    ghost use Rattle.driver_core.specs.DisplayTables.{DisplaysValue, AreNumbered};
 
     ghost Value = { DisplaysValue };
 
     ghost view = { λ d. record { first = d.first; second = d.second; handles = d.handles.items; next_handle = d.next_handle; spare = vec_capacity d.handles - vec_len d.handles } };
+
+    ghost invariant = { λ d. AreNumbered d.handles.items d.next_handle };
 }
 
 fn is_same_kind(kind: HandleKind, other: HandleKind) -> bool
@@ -160,7 +162,7 @@ impl DisplayTable {
     }
 
     /// Adds the next handle, for an object of a display.
-    pub fn push(&mut self, display: u64, kind: HandleKind, object: u32)
+    pub fn push(&mut self, display: u64, kind: HandleKind, object: u64)
         requires spare { 0 < self.old.spare }
         requires numbers { self.old.next_handle < 2147483648 }
         ensures handles { self.new.handles ≡ self.old.handles ++ record { number = self.old.next_handle; display = display; kind = kind; object = object } ∷ [] }
@@ -175,6 +177,21 @@ impl DisplayTable {
             object,
         });
         self.next_handle += 1;
+    }
+
+    /// There are at most 2,147,483,648 handles, each with a number of its own. This is a law.
+    pub fn few(&self)
+        ensures ends { length self.now.handles ≤ 2147483648 }
+        ensures apart { AllPairs (λ g h. g.number ≢ h.number) self.now.handles }
+    {
+        self.handles.as_slice();
+    }
+
+    /// The numbers of handles fit an EGLint. This is a law.
+    pub fn ends(&self)
+        ensures { self.now.next_handle ≤ 2147483648 }
+    {
+        self.handles.as_slice();
     }
 
     pub fn as_slice(&self) -> &[Handle]

@@ -2,6 +2,7 @@
 #![tactic(auto)]
 
 mod arguments;
+mod bindings;
 mod configs;
 mod contexts;
 mod currents;
@@ -10,6 +11,8 @@ mod displays;
 mod drawing;
 mod machine;
 mod make_current;
+mod parts;
+mod playing;
 mod refusals;
 mod replies;
 mod stepping;
@@ -17,3 +20,4 @@ mod surfaces;
 mod threads;
 
 pub use machine::{Driver, Run};
+pub use parts::a_part_fits_after_local_calls;

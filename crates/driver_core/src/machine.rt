@@ -1,7 +1,10 @@
 //! The driver and what it stands for.
-ghost use Rattle.std.specs.Prelude.{◌≡◌, ◌<◌, ◌≤◌, IfOk, OnOk};
-ghost use Rattle.egl_model.specs.State.{opening, set_error, record_of};
-ghost use Rattle.egl_model.specs.Sweep.{census, sweep};
+ghost use Rattle.std.specs.Prelude.{◌≡◌, ◌≢◌, AllPairs, ◌+◌, ◌<◌, ◌≤◌, ◌∷◌, ◌++◌, [], true, false, Bool, Some, IsSome, find, IfOk, OnErr, OnOk};
+ghost use Rattle.egl_model.specs.State.{opening, set_error, record_of, object_at};
+ghost use Rattle.egl_model.specs.declared.handles.Handle.{Handle};
+ghost use Rattle.egl_model.specs.Sweep.{census, roots, settled, tidied};
+ghost use Rattle.ref_store.specs.Counts.{times};
+ghost use Rattle.object_table.specs.Tables.{references_to};
 ghost use Rattle.driver_core.specs.Machine.{Machine};
 
 use crate::display_table::DisplayTable;
@@ -19,18 +22,16 @@ pub struct Driver {
     pub(crate) objects: ObjectTable,
     pub(crate) threads: ThreadTable,
     pub(crate) video: u64,
-    // true only where nothing was released since the last sweep
-    pub(crate) is_swept: bool,
 }
 
 impl Model for Driver {
-    ghost use Rattle.driver_core.specs.Machine.{Machine, KnowsSwept, state_of};
+    ghost use Rattle.driver_core.specs.Machine.{Machine, KnowsRoots, state_of};
 
     ghost Value = { Machine };
 
-    ghost view = { λ d. record { made = d.threads.made; state = state_of d.displays d.objects.objects d.threads.records d.video } };
+    ghost view = { λ d. record { made = d.threads.made; state = state_of d.displays d.objects.objects d.threads.records d.video; away = d.threads.away } };
 
-    ghost invariant = { λ d. KnowsSwept d.is_swept (state_of d.displays d.objects.objects d.threads.records d.video) };
+    ghost invariant = { λ d. KnowsRoots d.displays d.objects d.threads.records };
 }
 
 /// A played run: its journal, and the driver that made it.
@@ -46,14 +47,34 @@ impl Driver {
         requires { video ≤ 1073741824 }
         ensures state { IfOk result (λ d. d.state ≡ opening video) }
         ensures made { IfOk result (λ d. d.made ≡ 1) }
+        ensures away { IfOk result (λ d. d.away ≡ false ∷ []) }
     {
         Ok(Driver {
             displays: DisplayTable::new(alloc),
             objects: ObjectTable::new(alloc),
             threads: ThreadTable::new(alloc)?,
             video,
-            is_swept: false,
         })
+    }
+
+    /// How many threads were made: at most 65,536.
+    pub fn threads(&self) -> u32
+        ensures value { result ≡ self.now.made }
+        ensures few { result ≤ 65536 }
+    {
+        self.threads.made()
+    }
+
+    /// Makes one thread more, which has made no call and whose part is in, and answers its number.
+    pub fn add_thread(&mut self) -> Result<u32, NoMemory>
+        requires { self.old.made < 65536 }
+        ensures number { IfOk result (λ n. n ≡ self.old.made) }
+        ensures ok { OnOk result (self.new ≡ record self.old { made = self.old.made + 1; away = self.old.away ++ false ∷ [] }) }
+        ensures err { OnErr result (self.new ≡ self.old) }
+    {
+        let number = self.threads.made();
+        self.threads.add()?;
+        Ok(number)
     }
 
     /// How many objects of each kind there are (contexts, groups, textures, buffers, renderbuffers, framebuffers, surfaces, storages, images, syncs), and the live bytes.
@@ -61,6 +82,13 @@ impl Driver {
         ensures { result ≡ census self.now.state }
     {
         self.objects.census()
+    }
+
+    /// How many references lead to an object: from objects, valid handles and threads.
+    pub fn references(&self, object: u64) -> u64
+        ensures { result ≡ references_to object self.now.state.objects + times object (roots self.now.state) }
+    {
+        self.objects.references(object)
     }
 
     /// What is kept for a thread.
@@ -81,15 +109,32 @@ impl Driver {
         self.threads.set(thread, kept);
     }
 
-    /// Drops what no chain of references reaches any more.
-    pub(crate) fn sweep(&mut self)
-        ensures { self.new ≡ record self.old { state = sweep self.old.state } }
+    /// Nothing is left that no chain of references reaches, and there is no fence to signal. This is a law: there is nothing to run.
+    pub(crate) fn settled(&self)
+        ensures { tidied self.now.state ≡ self.now.state }
     {
-        if self.is_swept {
-            return;
-        }
-        self.objects
-            .sweep(self.displays.as_slice(), self.threads.as_slice());
-        self.is_swept = true;
+        self.objects.settled();
+        self.objects.has_no_fences();
+    }
+
+    /// There is no fence to signal. This is a law.
+    pub(crate) fn unfenced(&self)
+        ensures { settled self.now.state ≡ self.now.state }
+    {
+        self.objects.has_no_fences();
+    }
+
+    /// No two handles have one number. This is a law.
+    pub(crate) fn apart(&self)
+        ensures { AllPairs (λ g h. g.number ≢ h.number) self.now.state.handles }
+    {
+        self.displays.few();
+    }
+
+    /// What a valid handle names is there. This is a law.
+    pub(crate) fn named(&self)
+        ensures { (p : Handle → Bool) (h : Handle) → find p self.now.state.handles ≡ Some h → IsSome (object_at self.now.state h.object) }
+    {
+        self.objects.held_exist();
     }
 }

@@ -1,9 +1,11 @@
 //! One call of one thread.
-ghost use Rattle.std.specs.Prelude.{◌≡◌, ◌<◌, true, None, Some, is_some, IfOk, IsOk, OnOk, OnErr, pos};
-ghost use Rattle.driver_core.specs.Memory.{egl_takes_no_memory, gl_takes_no_memory, takes_no_memory, is_refused};
+ghost use Rattle.std.specs.Prelude.{◌≡◌, ◌<◌, true, None, Some, is_some, IfOk, IsOk, OnOk, OnErr, pos, false, All, slice_index_or};
+ghost use Rattle.driver_core.specs.Costs.{IsCheap, IsBounded};
+ghost use Rattle.driver_core.specs.Releases.{releases};
+ghost use Rattle.egl_model.specs.Sweep.{tidied};
+ghost use Rattle.driver_core.specs.Memory.{egl_takes_no_memory, gl_takes_no_memory, takes_no_memory, is_bare, is_bare_on};
 ghost use Rattle.egl_calls.specs.Kinds.{is_built};
 ghost use Rattle.egl_calls.specs.declared.kinds.Kind.TheVariants.{Egl as EglCall, Gl as GlCall};
-ghost use Rattle.std.specs.Prelude.{All};
 ghost use Rattle.egl_calls.specs.Ranges.{IsNumber};
 ghost use Rattle.attrib_lists.specs.Lists.{bad_place};
 ghost use Rattle.attrib_lists.specs.declared.allowed.Allowed.TheVariants.{Config};
@@ -12,21 +14,26 @@ ghost use Rattle.egl_model.specs.EglFacts.{egl_refusal};
 ghost use Rattle.egl_model.specs.GlFacts.{gl_refusal};
 ghost use Rattle.egl_model.specs.EglEffects.{egl_effect};
 ghost use Rattle.egl_model.specs.GlEffects.{gl_effect};
-ghost use Rattle.egl_model.specs.Step.{egl_step, gl_step, step, step_by, own_reply, waiting_reply, done};
+ghost use Rattle.egl_model.specs.Step.{egl_step, gl_step, step, step_by, done};
 ghost use Rattle.egl_model.specs.Currents.{current_context};
+ghost use Rattle.egl_model.specs.State.{State};
+ghost use Rattle.egl_model.specs.Sound.{IsSound};
+ghost use Rattle.egl_model.specs.Hidden.{hide};
+ghost use Rattle.driver_core.specs.Machine.{outs};
 
 use crate::arguments::{number, signed};
 use crate::configs::attribute_value;
 use crate::displays::display_of;
 use crate::machine::Driver;
-use crate::refusals::gl_refusal;
 use crate::replies::{bare, listed, read, valued};
 use attrib_lists::AttribError;
 use config_match::Configs;
 use egl_calls::{
-    Call, EglError, EglKind, GlKind, Kind, NoMemory, Numbers, Outcome, OwnKind, Reply,
+    Call, EglError, EglKind, GlKind, Kind, NoMemory, Numbers, Outcome, Reply, ReplyPair,
 };
+use ref_store::Steps;
 use std::alloc::Global;
+use std::sync::ledger::Ledger;
 
 /// The ids of the configs that a list chooses, where the list is allowed.
 fn chosen(alloc: Global, call: &Call) -> Result<Numbers, NoMemory>
@@ -41,38 +48,21 @@ fn chosen(alloc: Global, call: &Call) -> Result<Numbers, NoMemory>
     }
 }
 
-fn own_reply(alloc: Global, kind: OwnKind) -> Reply
-    ensures { result ≡ own_reply kind }
-{
-    match kind {
-        OwnKind::WaitEnd => bare(alloc, Outcome::NoWait),
-        _ => bare(alloc, Outcome::Done),
-    }
-}
-
-/// What a thread that waits is answered.
-fn waiting_reply(alloc: Global, kind: Kind) -> Reply
-    ensures { result ≡ waiting_reply kind }
-{
-    match kind {
-        Kind::Own(OwnKind::WaitEnd) => bare(alloc, Outcome::Waiting),
-        _ => bare(alloc, Outcome::InWait),
-    }
-}
-
 impl Driver {
-    /// Does a call of EGL that no rule refuses.
-    fn egl_effect(
+    /// Does a call of EGL that no rule refuses and that releases nothing.
+    fn kept_effect(
         &mut self,
         alloc: Global,
         thread: u32,
         kind: EglKind,
         call: &Call,
-    ) -> Result<Reply, NoMemory>
+    ) -> Result<ReplyPair, NoMemory>
         requires made { thread < self.old.made }
         requires kind { call.now.kind ≡ EglCall kind }
+        requires built { is_built (EglCall kind) ≡ true }
         requires allowed { egl_refusal self.old.state thread kind call.now ≡ None }
-        ensures reply { IfOk result (λ r. r ≡ done (egl_effect self.old.state thread kind call.now)) }
+        requires keeps { releases kind ≡ false }
+        ensures reply { IfOk result (λ r. r.reply ≡ done (egl_effect self.old.state thread kind call.now)) }
         ensures state { OnOk result (self.new ≡ record self.old { state = (egl_effect self.old.state thread kind call.now).state }) }
         ensures err { OnErr result (self.new ≡ self.old) }
         ensures memory { egl_takes_no_memory kind ≡ true → IsOk result }
@@ -84,39 +74,72 @@ impl Driver {
                 self.initialize(number(call, 0));
                 Ok(valued(alloc, 1))
             }
-            EglKind::Terminate => {
-                self.terminate(number(call, 0));
-                Ok(valued(alloc, 1))
-            }
-            EglKind::GetConfigs => Ok(listed(alloc, Configs::standard().all(alloc)?)),
-            EglKind::ChooseConfig => Ok(listed(alloc, chosen(alloc, call)?)),
+            EglKind::GetConfigs => listed(alloc, Configs::standard().all(alloc)?),
+            EglKind::ChooseConfig => listed(alloc, chosen(alloc, call)?),
             EglKind::GetConfigAttrib => Ok(valued(alloc, attribute_value(call))),
             EglKind::CreatePbufferSurface => Ok(valued(alloc, self.create_pbuffer(alloc, call)?)),
             EglKind::CreateContext => Ok(valued(alloc, self.create_context(call)?)),
-            EglKind::MakeCurrent => {
-                self.make_current(thread, call);
-                Ok(valued(alloc, 1))
-            }
             EglKind::GetCurrentContext => Ok(valued(alloc, self.current_number(thread))),
-            _ => Ok(valued(alloc, 0)),
+            _ => unreachable!(),
         }
     }
 
-    #[tactic(auto, using(egl_model::proofs::StepLaws::egl_refused, egl_model::proofs::StepLaws::egl_done))]
-    fn egl_step(
+    /// Does a call of EGL that no rule refuses. What nothing reaches any more is gone then.
+    fn egl_effect<L: Ledger>(
         &mut self,
         alloc: Global,
         thread: u32,
         kind: EglKind,
         call: &Call,
-    ) -> Result<Reply, NoMemory>
+        steps: &mut Steps<L>,
+    ) -> Result<ReplyPair, NoMemory>
         requires made { thread < self.old.made }
         requires kind { call.now.kind ≡ EglCall kind }
-        ensures reply { IfOk result (λ r. r ≡ (egl_step self.old.state thread kind call.now).reply) }
-        ensures state { OnOk result (self.new ≡ record self.old { state = (egl_step self.old.state thread kind call.now).state }) }
+        requires built { is_built (EglCall kind) ≡ true }
+        requires allowed { egl_refusal self.old.state thread kind call.now ≡ None }
+        ensures reply { IfOk result (λ r. r.reply ≡ done (egl_effect self.old.state thread kind call.now)) }
+        ensures state { OnOk result (self.new ≡ record self.old { state = tidied (egl_effect self.old.state thread kind call.now).state }) }
+        ensures steps { IsCheap self.old.state self.new.state steps.old steps.new }
         ensures err { OnErr result (self.new ≡ self.old) }
         ensures memory { egl_takes_no_memory kind ≡ true → IsOk result }
-        ensures refused { is_some (egl_refusal self.old.state thread kind call.now) ≡ true → IsOk result }
+    {
+        match kind {
+            EglKind::Terminate => {
+                self.terminate(number(call, 0), steps);
+                self.unfenced();
+                Ok(valued(alloc, 1))
+            }
+            EglKind::MakeCurrent => {
+                self.make_current(thread, call, steps);
+                self.unfenced();
+                Ok(valued(alloc, 1))
+            }
+            _ => {
+                let reply = self.kept_effect(alloc, thread, kind, call)?;
+                self.settled();
+                Ok(reply)
+            }
+        }
+    }
+
+    #[tactic(auto, using(egl_model::proofs::StepLaws::egl_refused, crate::proofs::StepLaws::egl_done_tidied))]
+    fn egl_step<L: Ledger>(
+        &mut self,
+        alloc: Global,
+        thread: u32,
+        kind: EglKind,
+        call: &Call,
+        steps: &mut Steps<L>,
+    ) -> Result<ReplyPair, NoMemory>
+        requires made { thread < self.old.made }
+        requires kind { call.now.kind ≡ EglCall kind }
+        requires built { is_built (EglCall kind) ≡ true }
+        ensures reply { IfOk result (λ r. r.reply ≡ (egl_step self.old.state thread kind call.now).reply) }
+        ensures state { OnOk result (self.new ≡ record self.old { state = (egl_step self.old.state thread kind call.now).state }) }
+        ensures steps { IsCheap self.old.state self.new.state steps.old steps.new }
+        ensures err { OnErr result (self.new ≡ self.old) }
+        ensures memory { egl_takes_no_memory kind ≡ true → IsOk result }
+        ensures bare { is_some (egl_refusal self.old.state thread kind call.now) ≡ true → IsOk result }
     {
         match self.egl_refusal(thread, kind, call) {
             Some(error) => {
@@ -124,9 +147,8 @@ impl Driver {
                 Ok(bare(alloc, Outcome::Egl(error)))
             }
             None => {
-                let reply = self.egl_effect(alloc, thread, kind, call)?;
+                let reply = self.egl_effect(alloc, thread, kind, call, steps)?;
                 self.set_error(thread, EglError::Success);
-                self.sweep();
                 Ok(reply)
             }
         }
@@ -137,14 +159,15 @@ impl Driver {
         &mut self,
         alloc: Global,
         thread: u32,
-        context: u32,
+        context: u64,
         kind: GlKind,
         call: &Call,
-    ) -> Result<Reply, NoMemory>
+    ) -> Result<ReplyPair, NoMemory>
         requires made { thread < self.old.made }
         requires kind { call.now.kind ≡ GlCall kind }
-        requires allowed { gl_refusal call.now ≡ None }
-        ensures reply { IfOk result (λ r. r ≡ done (gl_effect self.old.state thread context kind call.now)) }
+        requires built { is_built (GlCall kind) ≡ true }
+        requires allowed { gl_refusal self.old.state thread context kind call.now ≡ None }
+        ensures reply { IfOk result (λ r. r.reply ≡ done (gl_effect self.old.state thread context kind call.now)) }
         ensures state { OnOk result (self.new ≡ record self.old { state = (gl_effect self.old.state thread context kind call.now).state }) }
         ensures err { OnErr result (self.new ≡ self.old) }
         ensures memory { gl_takes_no_memory kind ≡ true → IsOk result }
@@ -158,73 +181,138 @@ impl Driver {
                 self.clear(thread, context, call)?;
                 Ok(valued(alloc, 0))
             }
-            GlKind::ReadPixels => Ok(read(alloc, self.read_pixels(alloc, thread, call)?)),
-            _ => Ok(valued(alloc, 0)),
+            GlKind::ReadPixels => read(alloc, self.read_pixels(alloc, thread, context, call)?),
+            _ => unreachable!(),
         }
     }
 
-    #[tactic(auto, using(egl_model::proofs::StepLaws::gl_refused, egl_model::proofs::StepLaws::gl_done, egl_model::proofs::StepLaws::gl_without_context))]
+    #[tactic(auto, using(egl_model::proofs::StepLaws::gl_refused, crate::proofs::StepLaws::gl_done_as, egl_model::proofs::StepLaws::gl_without_context))]
     fn gl_step(
         &mut self,
         alloc: Global,
         thread: u32,
         kind: GlKind,
         call: &Call,
-    ) -> Result<Reply, NoMemory>
+    ) -> Result<ReplyPair, NoMemory>
         requires made { thread < self.old.made }
         requires kind { call.now.kind ≡ GlCall kind }
-        ensures reply { IfOk result (λ r. r ≡ (gl_step self.old.state thread kind call.now).reply) }
+        requires built { is_built (GlCall kind) ≡ true }
+        ensures reply { IfOk result (λ r. r.reply ≡ (gl_step self.old.state thread kind call.now).reply) }
         ensures state { OnOk result (self.new ≡ record self.old { state = (gl_step self.old.state thread kind call.now).state }) }
         ensures err { OnErr result (self.new ≡ self.old) }
         ensures memory { gl_takes_no_memory kind ≡ true → IsOk result }
-        ensures refused { is_some (gl_refusal call.now) ≡ true → IsOk result }
+        ensures bare { is_bare_on self.old.state thread (current_context self.old.state thread) kind call.now ≡ true → IsOk result }
     {
         let Some(context) = self.current_context(thread) else {
             return Ok(bare(alloc, Outcome::Done));
         };
-        match gl_refusal(call) {
+        match self.gl_refusal(thread, context, kind, call) {
             Some(error) => {
                 self.note_error(context, error);
                 Ok(bare(alloc, Outcome::Gl(error)))
             }
             None => {
                 let reply = self.gl_effect(alloc, thread, context, kind, call)?;
-                self.sweep();
+                self.settled();
                 Ok(reply)
             }
         }
     }
 
-    /// Does a call of a thread that doesn't wait.
-    fn step_by(&mut self, alloc: Global, thread: u32, call: &Call) -> Result<Reply, NoMemory>
-        requires { thread < self.old.made }
-        ensures reply { IfOk result (λ r. r ≡ (step_by self.old.state thread call.now.kind call.now).reply) }
+    /// Does a call of a thread that doesn't wait. None of this project's own calls is built.
+    fn step_by<L: Ledger>(
+        &mut self,
+        alloc: Global,
+        thread: u32,
+        call: &Call,
+        steps: &mut Steps<L>,
+    ) -> Result<ReplyPair, NoMemory>
+        requires made { thread < self.old.made }
+        requires built { is_built call.now.kind ≡ true }
+        ensures reply { IfOk result (λ r. r.reply ≡ (step_by self.old.state thread call.now.kind call.now).reply) }
         ensures state { OnOk result (self.new ≡ record self.old { state = (step_by self.old.state thread call.now.kind call.now).state }) }
+        ensures steps { IsCheap self.old.state self.new.state steps.old steps.new }
         ensures err { OnErr result (self.new ≡ self.old) }
         ensures memory { takes_no_memory call.now.kind ≡ true → IsOk result }
-        ensures refused { is_refused self.old.state thread call.now.kind call.now ≡ true → IsOk result }
+        ensures bare { is_bare self.old.state thread call.now.kind call.now ≡ true → IsOk result }
     {
         match call.kind {
-            Kind::Egl(kind) => self.egl_step(alloc, thread, kind, call),
+            Kind::Egl(kind) => self.egl_step(alloc, thread, kind, call, steps),
             Kind::Gl(kind) => self.gl_step(alloc, thread, kind, call),
-            Kind::Own(kind) => Ok(own_reply(alloc, kind)),
+            Kind::Own(_) => unreachable!(),
         }
     }
 
+    /// The same of any thread.
+    #[tactic(auto, using(crate::proofs::StepLaws::step_held, egl_model::proofs::StepLaws::step_goes))]
+    fn step_in<L: Ledger>(
+        &mut self,
+        alloc: Global,
+        thread: u32,
+        call: &Call,
+        steps: &mut Steps<L>,
+    ) -> Result<ReplyPair, NoMemory>
+        requires made { thread < self.old.made }
+        requires built { is_built call.now.kind ≡ true }
+        ensures reply { IfOk result (λ r. r.reply ≡ (step self.old.state thread call.now).reply) }
+        ensures state { OnOk result (self.new ≡ record self.old { state = (step self.old.state thread call.now).state }) }
+        ensures steps { IsCheap self.old.state self.new.state steps.old steps.new }
+        ensures err { OnErr result (self.new ≡ self.old) }
+        ensures memory { takes_no_memory call.now.kind ≡ true → IsOk result }
+        ensures bare { is_bare self.old.state thread call.now.kind call.now ≡ true → IsOk result }
+    {
+        if self.record(thread).wait.is_some() {
+            return Ok(bare(alloc, Outcome::InWait));
+        }
+        self.step_by(alloc, thread, call, steps)
+    }
+
     /// Plays one call of a thread, and answers its reply. Every refusal of the standard is a reply, and takes no memory. Where memory runs out nothing has changed.
-    #[tactic(auto, using(egl_model::proofs::StepLaws::step_waits, egl_model::proofs::StepLaws::step_goes))]
-    pub fn step(&mut self, alloc: Global, thread: u32, call: &Call) -> Result<Reply, NoMemory>
+    ///
+    /// Where the driver stands for a sound state outside the parts of some threads, and the thread isn't one of these, the reply is the step's from that state, and the driver then stands for the state after it outside the same parts.
+    pub fn step<L: Ledger>(
+        &mut self,
+        alloc: Global,
+        thread: u32,
+        call: &Call,
+        steps: &mut Steps<L>,
+    ) -> Result<Reply, NoMemory>
         requires made { thread < self.old.made }
         requires built { is_built call.now.kind ≡ true }
         ensures reply { IfOk result (λ r. r ≡ (step self.old.state thread call.now).reply) }
         ensures state { OnOk result (self.new ≡ record self.old { state = (step self.old.state thread call.now).state }) }
+        ensures outside { (s : State) → IsSound s → slice_index_or self.old.away thread false ≡ false → self.old.state ≡ hide (outs self.old.away) s → IfOk result (λ r. r ≡ (step s thread call.now).reply) × OnOk result (self.new ≡ record self.old { state = hide (outs self.old.away) (step s thread call.now).state }) }
+        ensures steps { IsCheap self.old.state self.new.state steps.old steps.new }
+        ensures bound { IsBounded self.old.state self.new.state steps.old steps.new }
         ensures err { OnErr result (self.new ≡ self.old) }
         ensures memory { takes_no_memory call.now.kind ≡ true → IsOk result }
-        ensures refused { is_refused self.old.state thread call.now.kind call.now ≡ true → IsOk result }
+        ensures bare { is_bare self.old.state thread call.now.kind call.now ≡ true → IsOk result }
     {
-        if self.record(thread).wait.is_some() {
-            return Ok(waiting_reply(alloc, call.kind));
-        }
-        self.step_by(alloc, thread, call)
+        self.apart();
+        let ReplyPair { reply, copy: _ } = self.step_in(alloc, thread, call, steps)?;
+        Ok(reply)
+    }
+
+    /// The same with two equal replies.
+    pub fn step_with_copy<L: Ledger>(
+        &mut self,
+        alloc: Global,
+        thread: u32,
+        call: &Call,
+        steps: &mut Steps<L>,
+    ) -> Result<ReplyPair, NoMemory>
+        requires made { thread < self.old.made }
+        requires built { is_built call.now.kind ≡ true }
+        ensures reply { IfOk result (λ r. r.reply ≡ (step self.old.state thread call.now).reply) }
+        ensures state { OnOk result (self.new ≡ record self.old { state = (step self.old.state thread call.now).state }) }
+        ensures outside { (s : State) → IsSound s → slice_index_or self.old.away thread false ≡ false → self.old.state ≡ hide (outs self.old.away) s → IfOk result (λ r. r.reply ≡ (step s thread call.now).reply) × OnOk result (self.new ≡ record self.old { state = hide (outs self.old.away) (step s thread call.now).state }) }
+        ensures steps { IsCheap self.old.state self.new.state steps.old steps.new }
+        ensures bound { IsBounded self.old.state self.new.state steps.old steps.new }
+        ensures err { OnErr result (self.new ≡ self.old) }
+        ensures memory { takes_no_memory call.now.kind ≡ true → IsOk result }
+        ensures bare { is_bare self.old.state thread call.now.kind call.now ≡ true → IsOk result }
+    {
+        self.apart();
+        self.step_in(alloc, thread, call, steps)
     }
 }

@@ -3,6 +3,7 @@ ghost use Rattle.std.specs.Prelude.{◌≡◌, ◌≤◌, ◌<◌, length, slice
 ghost use Rattle.driver_objects.specs.Objects.{kind_of, bytes_of, edges_of};
 
 use crate::contexts::Context;
+use crate::fences::Fence;
 use crate::kinds::ObjectKind;
 use crate::storages::Storage;
 use crate::surfaces::BackedSurface;
@@ -17,6 +18,7 @@ pub enum Object {
     Texture,
     Surface(BackedSurface),
     Storage(Storage),
+    Sync(Fence),
 }
 
 impl Object {
@@ -29,6 +31,7 @@ impl Object {
             Object::Texture => ObjectKind::Texture,
             Object::Surface(_) => ObjectKind::Surface,
             Object::Storage(_) => ObjectKind::Storage,
+            Object::Sync(_) => ObjectKind::Sync,
         }
     }
 
@@ -39,7 +42,11 @@ impl Object {
     {
         match self {
             Object::Storage(storage) => storage.bytes(),
-            _ => 0,
+            Object::Context(_)
+            | Object::Group
+            | Object::Texture
+            | Object::Surface(_)
+            | Object::Sync(_) => 0,
         }
     }
 
@@ -50,12 +57,12 @@ impl Object {
         match self {
             Object::Context(_) => 2,
             Object::Surface(_) => 1,
-            _ => 0,
+            Object::Group | Object::Texture | Object::Storage(_) | Object::Sync(_) => 0,
         }
     }
 
     /// The object that a reference leads to; references are counted from 0.
-    pub fn edge(&self, k: u32) -> u32
+    pub fn edge(&self, k: u32) -> u64
         requires { k < length (edges_of self.now) }
         ensures { result ≡ slice_index_or (edges_of self.now) k 0 }
     {
@@ -68,7 +75,9 @@ impl Object {
                 }
             }
             Object::Surface(surface) => surface.storage,
-            _ => 0,
+            Object::Group | Object::Texture | Object::Storage(_) | Object::Sync(_) => {
+                unreachable!()
+            }
         }
     }
 }

@@ -12,12 +12,13 @@ use Rattle.egl_calls.specs.Kinds.{is_built}
 use Rattle.egl_calls.specs.declared.entries.Entry.{Entry}
 use Rattle.egl_calls.specs.declared.kinds.Kind.{Kind}
 use Rattle.egl_calls.specs.declared.kinds.Kind.TheVariants.{Egl, Gl, Own}
-use Rattle.egl_calls.specs.declared.kinds.OwnKind.{OwnKind}
-use Rattle.egl_calls.specs.declared.kinds.OwnKind.TheVariants.{WaitEnd}
+use Rattle.egl_calls.specs.declared.kinds.EglKind.{EglKind}
+use Rattle.egl_calls.specs.declared.kinds.EglKind.TheVariants.{GetError as EglGetError}
 use Rattle.egl_calls.specs.declared.errors.EglError.{EglError}
 use Rattle.egl_calls.specs.declared.errors.GlError.{GlError}
-use Rattle.egl_calls.specs.declared.errors.Outcome.TheVariants.{Waiting, InWait}
+use Rattle.egl_calls.specs.declared.errors.Outcome.TheVariants.{Done, Waiting}
 use Rattle.egl_calls.specs.declared.kinds.GlKind.{GlKind}
+use Rattle.egl_calls.specs.declared.kinds.GlKind.TheVariants.{GetError as GlGetError}
 use Rattle.egl_model.specs.State.{State, record_of}
 use Rattle.egl_model.specs.Currents.{current_context}
 use Rattle.egl_model.specs.Effects.{Effect}
@@ -25,7 +26,8 @@ use Rattle.egl_model.specs.EglFacts.{egl_refusal}
 use Rattle.egl_model.specs.EglEffects.{egl_effect}
 use Rattle.egl_model.specs.GlFacts.{gl_refusal}
 use Rattle.egl_model.specs.GlEffects.{gl_effect}
-use Rattle.egl_model.specs.Step.{step, step_in, step_by, egl_step, gl_step, gl_step_on, after_egl_rules, after_gl_rules, own_reply, is_wait_end}
+use Rattle.egl_model.specs.Step.{step, step_in, step_by, egl_step, gl_step, gl_step_on, after_egl_rules, after_gl_rules, wait_step}
+use Rattle.egl_model.specs.Waits.{is_signalled, is_wait_end}
 use Rattle.egl_model.specs.History.{replay_from}
 use Rattle.egl_model.proofs.HistoryLaws.{replay_from-append}
 use Rattle.trace_reader.specs.declared.traces.Line.{Line}
@@ -35,41 +37,48 @@ use Rattle.trace_model.specs.Resolve.{is_waiting, answers, answer_of, is_variabl
 use Rattle.trace_model.specs.Serial.{entry_of, played}
 use Rattle.egl_cli.specs.Sessions.{put_value, put_values, called_with, entry_with, value_kept, Plays}
 
--- ---- No line of a trace ends a wait, so none is answered Waiting.
-after_egl_goes_on : (s : State) (t : ℕ) (o : Option EglError) (f : Effect) → is_waiting (after_egl_rules s t o f).reply.outcome ≡ false
-after_egl_goes_on s t None f = refl
-after_egl_goes_on s t (Some e) f = refl
+-- ---- No call that is built waits for a sync, so no line is answered Waiting.
+egl_goes_on : (s : State) (t : ℕ) (k : EglKind) (c : CallValue) → (egl_effect s t k c).waits ≡ false
+egl_goes_on s t EglGetError c = refl
+egl_goes_on s t k c = refl
 
-after_gl_goes_on : (s : State) (n : ℕ) (o : Option GlError) (f : Effect) → is_waiting (after_gl_rules s n o f).reply.outcome ≡ false
-after_gl_goes_on s n None f = refl
-after_gl_goes_on s n (Some e) f = refl
+gl_goes_on : (s : State) (t n : ℕ) (k : GlKind) (c : CallValue) → (gl_effect s t n k c).waits ≡ false
+gl_goes_on s t n GlGetError c = refl
+gl_goes_on s t n k c = refl
 
-gl_goes_on : (s : State) (t : ℕ) (o : Option ℕ) (k : GlKind) (c : CallValue) → is_waiting (gl_step_on s t o k c).reply.outcome ≡ false
-gl_goes_on s t None k c = refl
-gl_goes_on s t (Some n) k c = after_gl_goes_on s n (gl_refusal c) (gl_effect s t n k c)
+outcome_goes_on : (waits : Bool) → waits ≡ false → is_waiting (if waits then Waiting else Done) ≡ false
+outcome_goes_on waits h = ap (λ (b : Bool). is_waiting (if b then Waiting else Done)) h
 
-own_goes_on : (k : OwnKind) → is_waiting (own_reply k).outcome ≡ false
-own_goes_on WaitEnd = refl
-own_goes_on k = refl
+after_egl_goes_on : (s : State) (t : ℕ) (o : Option EglError) (f : Effect) → f.waits ≡ false → is_waiting (after_egl_rules s t o f).reply.outcome ≡ false
+after_egl_goes_on s t None f h = outcome_goes_on f.waits h
+after_egl_goes_on s t (Some e) f h = refl
 
-step_goes_on : (s : State) (t : ℕ) (k : Kind) (c : CallValue) → is_waiting (step_by s t k c).reply.outcome ≡ false
+after_gl_goes_on : (s : State) (n : ℕ) (o : Option GlError) (f : Effect) → f.waits ≡ false → is_waiting (after_gl_rules s n o f).reply.outcome ≡ false
+after_gl_goes_on s n None f h = outcome_goes_on f.waits h
+after_gl_goes_on s n (Some e) f h = refl
+
+gl_on_goes_on : (s : State) (t : ℕ) (o : Option ℕ) (k : GlKind) (c : CallValue) → is_waiting (gl_step_on s t o k c).reply.outcome ≡ false
+gl_on_goes_on s t None k c = refl
+gl_on_goes_on s t (Some n) k c = after_gl_goes_on s n (gl_refusal s t n k c) (gl_effect s t n k c) (gl_goes_on s t n k c)
+
+step_goes_on : (s : State) (t : ℕ) (k : Kind) (c : CallValue) → is_built k ≡ true → is_waiting (step_by s t k c).reply.outcome ≡ false
 unfolding egl_step gl_step
-step_goes_on s t (Egl k) c = after_egl_goes_on s t (egl_refusal s t k c) (egl_effect s t k c)
-step_goes_on s t (Gl k) c = gl_goes_on s t (current_context s t) k c
-step_goes_on s t (Own k) c = own_goes_on k
+step_goes_on s t (Egl k) c h = after_egl_goes_on s t (egl_refusal s t k c) (egl_effect s t k c) (egl_goes_on s t k c)
+step_goes_on s t (Gl k) c h = gl_on_goes_on s t (current_context s t) k c
+step_goes_on s t (Own k) c h = absurd (let f : false ≡ true = h in cc)
 
 ends_no_wait : (k : Kind) → is_built k ≡ true → is_wait_end k ≡ false
 ends_no_wait (Egl k) h = refl
 ends_no_wait (Gl k) h = refl
 ends_no_wait (Own k) h = absurd (let f : false ≡ true = h in cc)
 
-in_goes_on : (s : State) (t : ℕ) (w : Option ℕ) (c : CallValue) → is_wait_end c.kind ≡ false → is_waiting (step_in w s t c).reply.outcome ≡ false
-in_goes_on s t None c h = step_goes_on s t c.kind c
-in_goes_on s t (Some sync) c h = ap (λ (b : Bool). is_waiting (if b then Waiting else InWait)) h
+in_goes_on : (s : State) (t : ℕ) (w : Option ℕ) (c : CallValue) → is_built c.kind ≡ true → is_waiting (step_in w s t c).reply.outcome ≡ false
+in_goes_on s t None c h = step_goes_on s t c.kind c h
+in_goes_on s t (Some sync) c h = ap (λ (b : Bool). is_waiting (wait_step s t b (is_signalled s sync)).reply.outcome) (ends_no_wait c.kind h)
 
 goes_on : (s : State) (t : ℕ) (c : CallValue) → is_built c.kind ≡ true → is_waiting (step s t c).reply.outcome ≡ false
 unfolding step
-goes_on s t c h = in_goes_on s t (record_of s t).wait c (ends_no_wait c.kind h)
+goes_on s t c h = in_goes_on s t (record_of s t).wait c h
 
 -- ---- The answer to a line once one more entry stands.
 here : ℕ → ℕ → Entry → Option ReplyValue

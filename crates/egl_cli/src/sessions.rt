@@ -90,7 +90,7 @@ fn play_line(
 {
     let call = resolved(alloc, values, line)?;
     journal.reserve(1)?;
-    let reply = driver.step(alloc, line.thread, &call)?;
+    let reply = driver.play(alloc, line.thread, &call)?;
     keep_value(values, line.assigns, value_of(&reply))?;
     journal.push(Entry {
         thread: line.thread,

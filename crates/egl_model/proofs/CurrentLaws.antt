@@ -24,8 +24,11 @@ use Rattle.egl_model.specs.Step.{step}
 use Rattle.egl_model.specs.CurrentCalls.{HasNoneCurrent, IsBoundBy, IsMadeCurrent, IsValid}
 use Rattle.egl_model.proofs.KindSteps.{found, same_kind}
 use Rattle.egl_model.proofs.RefusalLaws.{allowed_egl_state}
-use Rattle.egl_model.proofs.ThreadLaws.{same_at_set}
-use Rattle.egl_model.proofs.Ways.{either}
+use Rattle.egl_model.proofs.Places.{same_at_set}
+
+either : (P : State → Type 0) (b : Bool) (x y : State) → P x → P y → P (cond b x y)
+either P true x y p q = p
+either P false x y p q = q
 
 -- what f tells of the thread's record, where the error says nothing to f
 told : {A : Type 0} (f : ThreadRecord → A) (s : State) (t : ℕ) (c : CallValue) → ((r : ThreadRecord) → f (record r { error = Success }) ≡ f r) → IsMadeCurrent s t c →

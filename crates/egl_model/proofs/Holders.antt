@@ -7,7 +7,7 @@ use Rattle.egl_calls.specs.declared.entries.Entry.{Entry}
 use Rattle.driver_objects.specs.declared.contexts.Context.{Context as ContextObject}
 use Rattle.driver_objects.specs.declared.surfaces.BackedSurface.{BackedSurface}
 use Rattle.driver_objects.specs.declared.objects.Object.{Object}
-use Rattle.driver_objects.specs.declared.objects.Object.TheVariants.{Context, Group, Texture, Surface, Storage}
+use Rattle.driver_objects.specs.declared.objects.Object.TheVariants.{Context, Group, Texture, Surface, Storage, Sync}
 use Rattle.egl_model.specs.declared.handles.Handle.{Handle}
 use Rattle.egl_model.specs.declared.records.Bound.{Bound}
 use Rattle.egl_model.specs.declared.records.ThreadRecord.{ThreadRecord}
@@ -21,7 +21,7 @@ use Rattle.egl_model.specs.Links.{is_root, refers}
 use Rattle.egl_model.specs.Named.{Exists, IsBoundTo, IsHandled, IsHeldBy, IsHeldByThread, IsUsed}
 use Rattle.egl_model.proofs.GraphLaws.{any_found, is_in-flat_map}
 use Rattle.egl_model.proofs.LinkedSteps.{head_or_tail, in_cases, named_by, roots_cases}
-use Rattle.egl_model.proofs.LinkedMade.{no_edge}
+use Rattle.egl_model.proofs.Slots.{no_edge}
 use Rattle.egl_model.proofs.LitterLaws.{no_litter-opening, no_litter-replay}
 
 -- ---- Handles.
@@ -97,6 +97,7 @@ used_by (Some (Surface x)) n i = elim (head_or_tail n x.storage [] i) [
   | inr e ↦ no_edge n e
 ]
 used_by (Some (Storage x)) n i = no_edge n i
+used_by (Some (Sync x)) n i = no_edge n i
 
 -- ---- So what exists is named.
 root_or_next : (s : State) (n : ℕ) → is_reached s n ≡ true → (is_root s n ≡ true) ⊎ ((m : ℕ) × (refers s m n ≡ true))

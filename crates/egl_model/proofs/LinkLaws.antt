@@ -5,7 +5,7 @@ use Rattle.std.proofs.lemmas.List.Folds.{list_any-append}
 use Rattle.std.specs.Prelude.{◌==◌}
 use Rattle.std.specs.List.{flat_map}
 use Rattle.driver_objects.specs.declared.objects.Object.{Object}
-use Rattle.driver_objects.specs.declared.objects.Object.TheVariants.{Context, Group, Texture, Surface, Storage}
+use Rattle.driver_objects.specs.declared.objects.Object.TheVariants.{Context, Group, Texture, Surface, Storage, Sync}
 use Rattle.egl_model.specs.Graph.{is_in, marked}
 use Rattle.egl_model.specs.State.{State, object_at}
 use Rattle.egl_model.specs.Sweep.{edges_at, is_reached, roots, sweep}
@@ -21,6 +21,7 @@ rank_top (Some Group) = omega arith
 rank_top (Some Texture) = omega arith
 rank_top (Some (Surface x)) = omega arith
 rank_top (Some (Storage x)) = omega arith
+rank_top (Some (Sync x)) = omega arith
 
 pub root_marked : (rs : List ℕ) (edges : ℕ → List ℕ) (k n : ℕ) → is_in n rs ≡ true → is_in n (marked rs edges k) ≡ true
 unfolding marked
@@ -85,7 +86,7 @@ kept_whole false o h = absurd (let e : false ≡ true = h in cc)
 pub same_object : (s : State) (n : ℕ) → is_reached s n ≡ true → object_at (sweep s) n ≡ object_at s n
 same_object s n h = object_at-sweep s n ∙ kept_whole (is_reached s n) (object_at s n) h
 
-reached_on : (s : State) → IsLinked s → (m n : ℕ) → is_reached s m ≡ true → refers s m n ≡ true → is_reached s n ≡ true
+pub reached_on : (s : State) → IsLinked s → (m n : ℕ) → is_reached s m ≡ true → refers s m n ≡ true → is_reached s n ≡ true
 reached_on s l m n h e = chains_are_short s l 5 n (next_marked (roots s) (edges_at s.objects) 4 m n h e)
 
 kept_object : (s : State) → IsLinked s → (n : ℕ) → is_reached s n ≡ true → has_object (sweep s) n ≡ true

@@ -27,3 +27,14 @@ pub mod CurrentCalls
 pub mod NewHandles
 pub mod Wants
 pub mod Sound
+pub mod Slots
+pub mod Shapes
+pub mod Full
+pub mod Extents
+pub mod Waits
+pub mod OwnCalls
+pub mod Parts
+pub mod Hidden
+pub mod Local
+pub mod Frame
+pub mod Refs

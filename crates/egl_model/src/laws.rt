@@ -1,5 +1,5 @@
 //! What is true of every sweep, step and history: the contracts of functions that do nothing.
-ghost use Rattle.std.specs.Prelude.{◌≡◌, ◌≢◌, ◌<◌, ◌+◌, ◌⊎◌, ◌↔◌, ℕ, pos, ◌&&◌, ◌==◌, true, false, All, if◌then◌else◌, length, List, ◌++◌, Option, None, Some};
+ghost use Rattle.std.specs.Prelude.{◌≡◌, ◌≢◌, ◌<◌, ◌+◌, ◌⊎◌, ◌↔◌, ℕ, pos, ◌&&◌, ◌||◌, not, ◌==◌, true, false, All, AllPairs, ◌≤◌, if◌then◌else◌, length, List, ◌++◌, Option, None, Some};
 ghost use Rattle.egl_calls.specs.Calls.{CallValue};
 ghost use Rattle.egl_calls.specs.declared.entries.Entry.{Entry};
 ghost use Rattle.egl_calls.specs.declared.kinds.Kind.TheVariants.{Egl, Own};
@@ -7,33 +7,40 @@ ghost use Rattle.egl_calls.specs.declared.kinds.EglKind.{EglKind};
 ghost use Rattle.egl_calls.specs.declared.kinds.EglKind.TheVariants.{Initialize, Terminate, CreatePbufferSurface, CreateContext};
 ghost use Rattle.egl_calls.specs.declared.kinds.GlKind.{GlKind};
 ghost use Rattle.egl_calls.specs.declared.kinds.OwnKind.{OwnKind};
+ghost use Rattle.egl_calls.specs.declared.kinds.OwnKind.TheVariants.{ReadBuffer, WaitEnd};
 ghost use Rattle.egl_calls.specs.declared.errors.EglError.{EglError as AnEglError};
 ghost use Rattle.egl_calls.specs.declared.errors.EglError.TheVariants.{BadAlloc};
 ghost use Rattle.egl_calls.specs.declared.errors.GlError.{GlError as AGlError};
 ghost use Rattle.egl_calls.specs.declared.errors.GlError.TheVariants.{NoError};
-ghost use Rattle.egl_calls.specs.declared.errors.Outcome.TheVariants.{Done, Egl as RefusedEgl, Gl as RefusedGl};
+ghost use Rattle.egl_calls.specs.declared.errors.Outcome.TheVariants.{Done, InWait, NoWait, Waiting, Egl as RefusedEgl, Gl as RefusedGl};
 ghost use Rattle.context_state.specs.Parts.{PartValue};
 ghost use Rattle.call_rules.specs.EglRules.{is_release};
 ghost use Rattle.egl_model.specs.declared.handles.HandleKind.TheVariants.{Context, Surface};
 ghost use Rattle.egl_model.specs.State.{State, object_at, opening, record_of, set_error};
 ghost use Rattle.egl_model.specs.Currents.{current_context, part_of_context};
-ghost use Rattle.egl_model.specs.Sweep.{is_reached, live_bytes, sweep};
+ghost use Rattle.egl_model.specs.Sweep.{is_reached, live_bytes, sweep, tidied};
+ghost use Rattle.egl_model.specs.Objects.{fence_in};
+ghost use Rattle.egl_model.specs.Shapes.{shapes};
+ghost use Rattle.driver_objects.specs.declared.fences.Fence.{Fence as AFence};
+ghost use Rattle.driver_objects.specs.declared.kinds.ObjectKind.TheVariants.{Context as ContextKind};
 ghost use Rattle.egl_model.specs.EglFacts.{egl_refusal};
 ghost use Rattle.egl_model.specs.GlFacts.{gl_refusal};
-ghost use Rattle.egl_model.specs.Step.{bare, note_error, step, waiting_reply};
+ghost use Rattle.egl_model.specs.Step.{bare, done, note_error, step};
+ghost use Rattle.egl_model.specs.Waits.{ended, is_signalled};
 ghost use Rattle.egl_model.specs.History.{replay_from, IsLegalFrom};
-ghost use Rattle.egl_model.specs.Laws.{has_object, HasNoLitter, IsAllowedEgl, IsEglCall, IsGlCall, IsRefusedEgl, IsRefusedGl, is_of_wait, HandlesAreNew, ObjectsAreNew};
+ghost use Rattle.egl_model.specs.Laws.{has_object, HasNoLitter, IsAllowedEgl, IsEglCall, IsGlCall, IsRefusedEgl, IsRefusedGl, HandlesAreNew, ObjectsAreNew};
 ghost use Rattle.egl_model.specs.Surfaces.{created_pbuffer};
 ghost use Rattle.egl_model.specs.Contexts.{created_context};
 ghost use Rattle.egl_model.specs.Links.{IsHeld, IsLinked};
 ghost use Rattle.egl_model.specs.Named.{Exists, IsHandled, IsHeldByThread, IsUsed};
-ghost use Rattle.egl_model.specs.Kinds.{KindsFit};
+ghost use Rattle.egl_model.specs.Kinds.{IsA, KindsFit};
 ghost use Rattle.egl_model.specs.DisplayCalls.{IsInitialized, IsTerminated};
 ghost use Rattle.egl_model.specs.CurrentCalls.{HasNoneCurrent, IsBoundBy, IsMadeCurrent};
 ghost use Rattle.egl_model.specs.NewHandles.{HasNewHandle};
 ghost use Rattle.egl_model.specs.Displays.{is_initialized};
 ghost use Rattle.egl_model.specs.Arguments.{number};
 ghost use Rattle.egl_model.specs.Sound.{IsSound};
+ghost use Rattle.egl_model.specs.Refs.{size, objects_gone, refs_gone};
 ghost use Rattle.egl_model.specs.Wants.{Answers, AnswersGl, AsksTooLarge, IsFaultlessContext, IsFaultlessPbuffer, PixelsFit, WantsNumber, WantsVideo, asked_bytes};
 
 /// A sweep leaves each object that chains of references reach as it is, and no other; it changes what is reached for none.
@@ -60,7 +67,7 @@ pub fn no_litter_is_left()
 /// Each root and each reference leads to an object, before the first call and after a step wherever it was so before; then no chain is longer than those that a sweep follows.
 pub fn references_lead_to_objects()
     ensures opening { (video : ℕ) → IsLinked (opening video) }
-    ensures step { (s : State) (t : ℕ) (c : CallValue) → IsLinked s → IsLinked (step s t c).state }
+    ensures step { (s : State) (t : ℕ) (c : CallValue) → IsSound s → IsLinked (step s t c).state }
     ensures chains { (s : State) (n : ℕ) → IsLinked s → IsHeld s n → is_reached s n ≡ true }
 {}
 
@@ -71,9 +78,9 @@ pub fn an_object_exists_exactly_where_it_is_held()
 
 /// Handles name objects of their kind; a context and surfaces are current to threads; a context has a group and a texture, and a surface a storage. So it's before the first call, and after a step wherever it was so before.
 pub fn names_lead_to_objects_of_their_kind()
-    ensures opening { (video : ℕ) → KindsFit (opening video) }
-    ensures step { (s : State) (t : ℕ) (c : CallValue) → IsLinked s → KindsFit s → KindsFit (step s t c).state }
-    ensures history { (video : ℕ) (entries : List Entry) → KindsFit (replay_from (opening video) entries) }
+    ensures opening { (video : ℕ) → let s = opening video in KindsFit (shapes s.objects) s }
+    ensures step { (s : State) (t : ℕ) (c : CallValue) → IsSound s → let a = (step s t c).state in KindsFit (shapes a.objects) a }
+    ensures history { (video : ℕ) (entries : List Entry) → let s = replay_from (opening video) entries in KindsFit (shapes s.objects) s }
 {}
 
 /// In each history what exists has a handle, or is current to a thread, or is used by a context or a surface.
@@ -105,11 +112,24 @@ pub fn without_a_context_nothing_changes()
     ensures { (s : State) (t : ℕ) (k : GlKind) (c : CallValue) → IsGlCall s t k c → current_context s t ≡ None → step s t c ≡ record { reply = bare Done; state = s } }
 {}
 
-/// A thread that waits for a sync changes nothing, nor does a call whose outcome says so, nor one of this project's own.
-pub fn waits_and_own_calls_change_nothing()
-    ensures waiting { (s : State) (t : ℕ) (c : CallValue) (sync : ℕ) → (record_of s t).wait ≡ Some sync → step s t c ≡ record { reply = waiting_reply c.kind; state = s } }
-    ensures outcome { (s : State) (t : ℕ) (c : CallValue) → is_of_wait (step s t c).reply.outcome ≡ true → (step s t c).state ≡ s }
-    ensures own { (s : State) (t : ℕ) (k : OwnKind) (c : CallValue) → c.kind ≡ Own k → (step s t c).state ≡ s }
+/// A thread that waits for a sync makes no call but the end of its wait: any other is held up and changes nothing. The end comes once the sync is signalled; then the thread waits no more, and what nothing else holds is gone. Without a wait there is none to end (EGL 1.5, section 3.8.1).
+pub fn a_wait_holds_up_until_its_end()
+    ensures held_up { (s : State) (t : ℕ) (c : CallValue) (sync : ℕ) → (record_of s t).wait ≡ Some sync → c.kind ≢ Own WaitEnd → step s t c ≡ record { reply = bare InWait; state = s } }
+    ensures waits { (s : State) (t : ℕ) (c : CallValue) (sync : ℕ) → (record_of s t).wait ≡ Some sync → c.kind ≡ Own WaitEnd → is_signalled s sync ≡ false → step s t c ≡ record { reply = bare Waiting; state = s } }
+    ensures ends { (s : State) (t : ℕ) (c : CallValue) (sync : ℕ) → (record_of s t).wait ≡ Some sync → c.kind ≡ Own WaitEnd → is_signalled s sync ≡ true → step s t c ≡ record { reply = done (ended s t); state = tidied (ended s t).state } }
+    ensures none { (s : State) (t : ℕ) (c : CallValue) → (record_of s t).wait ≡ None → c.kind ≡ Own WaitEnd → step s t c ≡ record { reply = bare NoWait; state = s } }
+{}
+
+/// This project's own calls change nothing, but for the end of a wait, and readBuffer, whose context keeps its error.
+pub fn own_calls_change_nothing()
+    ensures { (s : State) (t : ℕ) (k : OwnKind) (c : CallValue) → c.kind ≡ Own k → k ≢ ReadBuffer → k ≢ WaitEnd → (step s t c).state ≡ s }
+{}
+
+/// After a sweep a fence is signalled where it was, or its context is gone; no other object is changed by that. So in each history the context of a fence that isn't signalled exists (EGL 1.5, section 3.8.1).
+pub fn fences_are_signalled_with_their_contexts()
+    ensures fence { (s : State) (n : ℕ) (x : AFence) → fence_in (sweep s).objects n ≡ Some x → fence_in (tidied s).objects n ≡ Some (record x { signalled = x.signalled || not (has_object (sweep s) x.context) }) }
+    ensures rest { (s : State) (n : ℕ) → fence_in (sweep s).objects n ≡ None → object_at (tidied s) n ≡ object_at (sweep s) n }
+    ensures history { (video : ℕ) (entries : List Entry) (n : ℕ) (x : AFence) → let s = replay_from (opening video) entries in fence_in s.objects n ≡ Some x → x.signalled ≡ false → IsA ContextKind s x.context }
 {}
 
 /// A call of one thread leaves what is kept for another, and there are as many records as before.
@@ -177,9 +197,9 @@ pub fn replay_goes_on()
 /// A call that no wait holds up answers an error exactly where a rule refuses it (of OpenGL ES where a context is current), and else it is done.
 pub fn a_reply_tells_its_refusal()
     ensures egl { (s : State) (t : ℕ) (k : EglKind) (c : CallValue) (e : AnEglError) → IsEglCall s t k c → Answers s t c e ↔ (egl_refusal s t k c ≡ Some e) }
-    ensures gl { (s : State) (t n : ℕ) (k : GlKind) (c : CallValue) (e : AGlError) → IsGlCall s t k c → current_context s t ≡ Some n → AnswersGl s t c e ↔ (gl_refusal c ≡ Some e) }
+    ensures gl { (s : State) (t n : ℕ) (k : GlKind) (c : CallValue) (e : AGlError) → IsGlCall s t k c → current_context s t ≡ Some n → AnswersGl s t c e ↔ (gl_refusal s t n k c ≡ Some e) }
     ensures egl_done { (s : State) (t : ℕ) (k : EglKind) (c : CallValue) → IsEglCall s t k c → egl_refusal s t k c ≡ None → (step s t c).reply.outcome ≡ Done }
-    ensures gl_done { (s : State) (t : ℕ) (k : GlKind) (c : CallValue) → IsGlCall s t k c → gl_refusal c ≡ None → (step s t c).reply.outcome ≡ Done }
+    ensures gl_done { (s : State) (t n : ℕ) (k : GlKind) (c : CallValue) → IsGlCall s t k c → current_context s t ≡ Some n → gl_refusal s t n k c ≡ None → (step s t c).reply.outcome ≡ Done }
 {}
 
 /// eglCreatePbufferSurface answers EGL_BAD_ALLOC exactly where nothing else is wrong, and a side is too large, or the pixels that live before the call and the new ones are too many, or no number is left for its handle (EGL 1.5, section 3.5.2).
@@ -212,4 +232,9 @@ pub fn the_state_is_sound()
     ensures opening { (video : ℕ) → IsSound (opening video) }
     ensures step { (s : State) (t : ℕ) (c : CallValue) → IsSound s → IsSound (step s t c).state }
     ensures history { (video : ℕ) (entries : List Entry) → IsSound (replay_from (opening video) entries) }
+{}
+
+/// What goes by any change of a state whose handles have numbers of their own bounds by how much the state shrinks.
+pub fn what_goes_bounds_the_size()
+    ensures { (s new : State) → AllPairs (λ g h. g.number ≢ h.number) s.handles → size s ≤ size new + objects_gone s new + refs_gone s new }
 {}

@@ -26,7 +26,7 @@ fn play(alloc: Global, driver: &mut Driver, kind: EglKind, number: i64) -> Resul
         list: Numbers::new(alloc),
         bytes: None,
     };
-    driver.step(alloc, 0, &call)
+    driver.play(alloc, 0, &call)
 }
 
 #[test]

@@ -1,5 +1,9 @@
-mod Places
-pub mod CountLaws
-pub mod LevelLaws
-pub mod LiveLaws
-pub mod SweepLaws
+pub mod StoreLaws
+pub mod ReleaseLaws
+pub mod MakeLaws
+pub mod ChangeLaws
+pub mod WidenLaws
+pub mod SumLaws
+pub mod LetsLaws
+pub mod FenceLaws
+pub mod HeldLaws

@@ -1,3 +1,8 @@
+pub mod Fences
+pub mod Nodes
+pub mod Slots
 pub mod Tables
-pub mod Levels
-pub mod Live
+pub mod Changes
+pub mod Lets
+pub mod Amounts
+pub mod Places

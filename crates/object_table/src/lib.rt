@@ -3,14 +3,15 @@
 
 mod contexts;
 mod counts;
+mod parts;
+mod reads;
 mod storages;
+mod stored;
 mod surfaces;
-mod sweeping;
 mod table;
 
+pub use stored::Stored;
 pub use table::ObjectTable;
 
-#[cfg(test)]
-mod sweeping_tests;
 #[cfg(test)]
 mod tests;

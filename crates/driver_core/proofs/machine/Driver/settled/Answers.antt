@@ -1,0 +1,9 @@
+use Rattle.std.proofs.Common.{sym, ap}
+use Rattle.driver_objects.specs.declared.objects.Object.{Object}
+use Rattle.std.proofs.Common.{List, Option}
+use Rattle.driver_core.specs.Machine.{state_of}
+use Rattle.driver_core.proofs.StepLaws.{tidied_none}
+use Rattle.driver_core.proofs.machine.Driver.settled.Goals as goal
+
+pub returns : goal.returns
+returns c = rw (← c.self.view_is) (tidied_none _ (ap (λ (os : List (Option Object)). state_of c.self.inside.displays os c.self.inside.threads.records c.self.inside.video) (sym (c.settled.ensures _ c.self.invariant))) c.has_no_fences.ensures)

@@ -1,0 +1,65 @@
+-- No move of a call takes a part out.
+use Rattle.std.proofs.Common.{ℕ, zero, suc, Bool, true, false, cond, List, [], ◌∷◌, ◌++◌, sym, subst, get_or, map, Option, None, Some}
+use Rattle.egl_model.specs.Full.{Full, IsFull}
+use Rattle.driver_objects.specs.declared.objects.Object.{Object}
+use Rattle.driver_objects.specs.declared.objects.Object.TheVariants.{Sync}
+use Rattle.egl_model.specs.State.{State, object_at}
+use Rattle.egl_model.specs.Sweep.{is_reached, settle, settled, sweep}
+use Rattle.egl_model.proofs.Moves.{Add, AllFull, AllHold, AllSet, Await, Bind, Change, Each, Flags, Keep, Move, Name, Note, Resize, Sets, apply, play}
+use Rattle.egl_model.proofs.Places.{each_at_set}
+use Rattle.egl_model.proofs.SweepLaws.{object_at-sweep}
+
+pub holds_of : (ms : List Move) → AllSet ms → AllHold ms
+holds_of [] h = tt
+holds_of (Flags a b ∷ ms) h = (tt, holds_of ms h.1)
+holds_of (Note e ∷ ms) h = (tt, holds_of ms h.1)
+holds_of (Await x ∷ ms) h = (tt, holds_of ms h.1)
+holds_of (Each f ∷ ms) h = (h.0.body, holds_of ms h.1)
+holds_of (Bind c d r ∷ ms) h = (tt, holds_of ms h.1)
+holds_of (Change n f ∷ ms) h = (h.0.body, holds_of ms h.1)
+holds_of (Resize n f b ∷ ms) h = (h.0.0, holds_of ms h.1)
+holds_of (Add os ∷ ms) h = (tt, holds_of ms h.1)
+holds_of (Name d k n ∷ ms) h = (tt, holds_of ms h.1)
+holds_of (Keep p ∷ ms) h = (tt, holds_of ms h.1)
+
+full_new : (os : List (Option Object)) → AllFull os → (n : ℕ) → Full (get_or os n None)
+full_new [] a n = tt
+full_new (o ∷ os) a zero = a.0
+full_new (o ∷ os) a (suc n) = full_new os a.1 n
+
+full_append : (xs ys : List (Option Object)) → ((n : ℕ) → Full (get_or xs n None)) → AllFull ys → (n : ℕ) → Full (get_or (xs ++ ys) n None)
+full_append [] ys h a n = full_new ys a n
+full_append (x ∷ xs) ys h a zero = h zero
+full_append (x ∷ xs) ys h a (suc n) = full_append xs ys (λ k. h (suc k)) a n
+
+full_map : (f : Option Object → Option Object) → ((o : Option Object) → Full o → Full (f o)) → (xs : List (Option Object)) → ((n : ℕ) → Full (get_or xs n None)) → (n : ℕ) → Full (get_or (map f xs) n None)
+full_map f e [] h n = tt
+full_map f e (x ∷ xs) h zero = e x (h zero)
+full_map f e (x ∷ xs) h (suc n) = full_map f e xs (λ k. h (suc k)) n
+
+full-apply : (t : ℕ) (m : Move) (s : State) → Sets m → IsFull s → IsFull (apply t m s)
+full-apply t (Flags a b) s h f = record { each = f.each }
+full-apply t (Note e) s h f = record { each = f.each }
+full-apply t (Await x) s h f = record { each = f.each }
+full-apply t (Bind c d r) s h f = record { each = f.each }
+full-apply t (Name d k n) s h f = record { each = f.each }
+full-apply t (Keep p) s h f = record { each = f.each }
+full-apply t (Each g) s h f = record { each = full_map g h.full s.objects f.each }
+full-apply t (Change n g) s h f = record { each = each_at_set Full s.objects n (g (get_or s.objects n None)) None (h.full (get_or s.objects n None) (f.each n)) f.each }
+full-apply t (Resize n g b) s h f = record { each = each_at_set Full s.objects n (g (get_or s.objects n None)) None (h.1 (get_or s.objects n None) (f.each n)) f.each }
+full-apply t (Add os) s h f = record { each = full_append s.objects os f.each h }
+
+pub full-play : (t : ℕ) (ms : List Move) (s : State) → AllSet ms → IsFull s → IsFull (play t ms s)
+full-play t [] s h f = f
+full-play t (m ∷ ms) s h f = full-play t ms (apply t m s) h.1 (full-apply t m s h.0 f)
+
+full-settle : (os : List (Option Object)) (o : Option Object) → Full o → Full (settle os o)
+full-settle os (Some (Sync x)) h = tt
+full-settle os o h = h
+
+full-kept : (b : Bool) (o : Option Object) → Full o → Full (cond b o None)
+full-kept true o h = h
+full-kept false o h = tt
+
+pub full_swept : (s : State) → IsFull s → IsFull (settled (sweep s))
+full_swept s f = record { each = full_map (settle (sweep s).objects) (full-settle (sweep s).objects) (sweep s).objects (λ n. subst Full (sym (object_at-sweep s n)) (full-kept (is_reached s n) (object_at s n) (f.each n))) }

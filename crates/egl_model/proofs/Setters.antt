@@ -1,0 +1,113 @@
+-- What the fields of objects may be set to.
+use Rattle.std.proofs.Common.{◌≡◌, length, ℕ, ℤ, Bool, true, is_some, inl, inr, List, refl, sym, ap, subst, ◌∙◌, Option, None, Some}
+use Rattle.driver_objects.specs.declared.kinds.ObjectKind.TheVariants.{Context as a_context}
+use Rattle.context_state.specs.Parts.{PartValue}
+use Rattle.pixel_rows.specs.Images.{ImageValue}
+use Rattle.egl_model.specs.Parts.{set_image, set_part}
+use Rattle.pixel_formats.specs.declared.formats.Format.{Format}
+use Rattle.pixel_formats.specs.declared.pixels.Pixel.{Pixel}
+use Rattle.pixel_rows.specs.Painting.{painted, painted_at, painted_pixels}
+use Rattle.std.specs.Option.{option_map}
+use Rattle.std.proofs.lemmas.List.FromFn.{length-map-range_with_len}
+use Rattle.driver_objects.specs.Storages.{AreImageOf, IsImageOf, cleared_image}
+use Rattle.driver_objects.specs.declared.objects.Object.{Object}
+use Rattle.driver_objects.specs.declared.objects.Object.TheVariants.{Context, Storage}
+use Rattle.egl_model.specs.Full.{Full}
+use Rattle.egl_model.specs.Graph.{is_in}
+use Rattle.egl_model.specs.Objects.{with_image, with_part}
+use Rattle.egl_model.specs.Shapes.{Goes, Leads, Shape, pixels_in, slots_in, watch_in}
+use Rattle.egl_model.specs.Currents.{has_context}
+use Rattle.egl_model.specs.State.{State}
+use Rattle.egl_model.proofs.Moves.{Looks, Setter, body_in, draws, NoneElse, Suits, looks_in}
+
+-- ---- A context's own part.
+pub holds-part : (f : PartValue → PartValue) (o : Option Object) → body_in (with_part f o) ≡ body_in o
+holds-part f (Some (Context c)) = refl
+holds-part f o = refl
+
+pub setter-part : (f : PartValue → PartValue) → Setter (with_part f)
+setter-part f = record { body = holds-part f; full = full }
+  where
+    still : (x : Option PartValue) → is_some x ≡ true → is_some (option_map f x) ≡ true
+    still None h = h
+    still (Some x) h = refl
+
+    full : (o : Option Object) → Full o → Full (with_part f o)
+    full (Some (Context c)) h = still c.part h
+    full o h = h
+
+pub suits-part : (t : ℕ) (sh : List (Option Shape)) (s : State) (n : ℕ) (f : PartValue → PartValue) → NoneElse (has_context n) s.threads t → Suits t sh s n (with_part f)
+suits-part t sh s n f mine = record { leads = leads; pixels = λ o k h. inl (ap (is_in k) (sym (pixels o)) ∙ h); part = inr mine; image = inl past; watch = watch }
+  where
+    past : (y : Option ImageValue) (o : Option Object) → set_image y (with_part f o) ≡ with_part f (set_image y o)
+    past y (Some (Context c)) = refl
+    past y (Some (Storage v)) = refl
+    past y o = refl
+
+    watch : (o : Option Object) → Goes sh a_context (watch_in o) → Goes sh a_context (watch_in (with_part f o))
+    watch (Some (Context c)) g = tt
+    watch o g = g
+
+    pixels : (o : Option Object) → pixels_in (with_part f o) ≡ pixels_in o
+    pixels (Some (Context c)) = refl
+    pixels o = refl
+
+    leads : (o : Option Object) → Leads sh (slots_in o) → Leads sh (slots_in (with_part f o))
+    leads (Some (Context c)) l = l
+    leads o l = l
+
+-- ---- The image of a storage.
+-- an image of a format and sides becomes one of the same
+pub record KeepsForm (h : ImageValue → ImageValue) : Type 0 where
+  pub each : (f : Format) (w k : ℕ) (i : ImageValue) → IsImageOf f w k i → IsImageOf f w k (h i)
+
+pub setter-image : (h : ImageValue → ImageValue) → KeepsForm h → Setter (with_image h)
+setter-image h e = record { body = body; full = full }
+  where
+    body : (o : Option Object) → body_in (with_image h o) ≡ body_in o
+    body (Some (Storage x)) = refl
+    body o = refl
+
+    fits : (f : Format) (w k : ℕ) (i : Option ImageValue) → AreImageOf f w k i → AreImageOf f w k (option_map h i)
+    fits f w k None a = tt
+    fits f w k (Some i) a = e.each f w k i a
+
+    still : (i : Option ImageValue) → is_some i ≡ true → is_some (option_map h i) ≡ true
+    still None h = h
+    still (Some i) h = refl
+
+    full : (o : Option Object) → Full o → Full (with_image h o)
+    full (Some (Storage v)) g = (record { wide = g.0.wide; high = g.0.high; image = fits v.format v.width v.height v.image g.0.image }, still v.image g.1)
+    full o g = g
+
+pub suits-image : (t : ℕ) (sh : List (Option Shape)) (s : State) (n : ℕ) (h : ImageValue → ImageValue) → NoneElse (draws s.objects n) s.threads t → Suits t sh s n (with_image h)
+suits-image t sh s n h mine = record { leads = leads; pixels = λ o k g. inl (ap (λ (x : Looks). is_in k x.pixels) (sym (looks o)) ∙ g); part = inl past; image = inr mine; watch = λ o g. subst (Goes sh a_context) (ap (λ (x : Looks). x.watch) (sym (looks o))) g }
+  where
+    past : (x : Option PartValue) (o : Option Object) → set_part x (with_image h o) ≡ with_image h (set_part x o)
+    past x (Some (Context c)) = refl
+    past x (Some (Storage v)) = refl
+    past x o = refl
+
+    looks : (o : Option Object) → looks_in (with_image h o) ≡ looks_in o
+    looks (Some (Storage x)) = refl
+    looks o = refl
+
+    leads : (o : Option Object) → Leads sh (slots_in o) → Leads sh (slots_in (with_image h o))
+    leads (Some (Storage x)) l = l
+    leads o l = l
+
+-- whatever is painted keeps its form
+length-painted : (w : ℕ) (covers : ℕ → ℕ → Bool) (becomes : ℕ → ℕ → Pixel → Pixel) (ps : List Pixel) → length (painted_pixels w covers becomes ps) ≡ length ps
+unfolding painted_pixels
+length-painted w covers becomes ps = length-map-range_with_len (painted_at w covers becomes ps) 0 (length ps)
+
+pub form-cleared : (colour : List ℤ) → KeepsForm (cleared_image colour)
+unfolding painted
+form-cleared colour = record {
+  each = λ f w k i a. record {
+    image = record { wide = a.image.wide; high = a.image.high; area = length-painted i.width _ _ i.pixels ∙ a.image.area };
+    format = a.format;
+    width = a.width;
+    height = a.height;
+  };
+}

@@ -1,0 +1,185 @@
+-- What each step keeps, and so each history.
+use Rattle.std.proofs.Common.{◌≡◌, ℕ, true, false, List, [], ◌∷◌, refl, sym, ap, subst, ◌∙◌, arith, get_or, None, Some, is_some}
+use Rattle.std.specs.Prelude.{replicate}
+use Rattle.std.proofs.lemmas.List.Elements.{All-nil}
+use Rattle.egl_calls.specs.Calls.{CallValue}
+use Rattle.egl_calls.specs.declared.entries.Entry.{Entry}
+use Rattle.egl_calls.specs.declared.kinds.Kind.TheVariants.{Egl}
+use Rattle.egl_calls.specs.declared.kinds.EglKind.{EglKind}
+use Rattle.egl_calls.specs.declared.kinds.EglKind.TheVariants.{Initialize, Terminate, CreatePbufferSurface, CreateContext, MakeCurrent}
+use Rattle.egl_calls.specs.declared.kinds.GlKind.{GlKind}
+use Rattle.egl_calls.specs.declared.kinds.GlKind.TheVariants.{GetError, ClearColorx, Clear}
+use Rattle.egl_calls.specs.declared.errors.EglError.TheVariants.{Success}
+use Rattle.context_state.specs.Parts.{noted}
+use Rattle.context_state.specs.Local.{apply}
+use Rattle.egl_model.specs.Extents.{SameFlags, egl_extent, extent_of_kind, quiet}
+use Rattle.egl_model.specs.declared.handles.Handle.{Handle}
+use Rattle.egl_model.specs.declared.records.ThreadRecord.{ThreadRecord}
+use Rattle.egl_model.specs.State.{State, capacity, initial, opening, record_of, set_error}
+use Rattle.egl_model.specs.Full.{IsFull}
+use Rattle.egl_model.specs.Kinds.{NamesItsKind}
+use Rattle.egl_model.specs.Laws.{HandlesAreNew, ObjectsAreNew, has_object}
+use Rattle.egl_model.specs.Links.{IsHeld}
+use Rattle.egl_model.specs.Shapes.{Leads, shapes}
+use Rattle.egl_model.specs.Sound.{IsBelowNext, IsBoundBelowNext, IsFirm, IsSound, IsWhole}
+use Rattle.egl_model.specs.Wants.{PixelsFit}
+use Rattle.egl_model.specs.Sweep.{live_bytes, tidied}
+use Rattle.egl_model.specs.Waits.{waiting}
+use Rattle.egl_model.specs.Slots.{held_slots}
+use Rattle.egl_model.specs.Arguments.{number}
+use Rattle.egl_model.specs.Currents.{current_context, has_context, has_surface}
+use Rattle.egl_model.specs.EglEffects.{egl_effect}
+use Rattle.egl_model.specs.EglFacts.{egl_refusal}
+use Rattle.egl_model.specs.GlEffects.{gl_effect}
+use Rattle.egl_model.specs.History.{replay_from}
+use Rattle.egl_model.specs.Step.{note_error, step}
+use Rattle.egl_model.proofs.EglCalls.{acts-context, acts-error, acts-initialize, acts-make_current, acts-pbuffer, acts-terminate, acts-wait_end}
+use Rattle.egl_model.proofs.GlCalls.{acts-clear, acts-own_part}
+use Rattle.egl_model.proofs.FrameMoves.{frame_self, handles_then, objects_then}
+use Rattle.egl_model.proofs.LinkLaws.{exists_marked}
+use Rattle.egl_model.proofs.LitterLaws.{no_litter-opening, no_litter-step}
+use Rattle.egl_model.proofs.Places.{initial_at}
+use Rattle.egl_model.proofs.Slots.{no_edge}
+use Rattle.egl_model.proofs.Ways.{each_way}
+use Rattle.egl_model.proofs.WholeSweep.{linked_from}
+use Rattle.egl_model.proofs.Keeps.{Acts, Keeps, acts_self, acts_swept, acts_then, acts_within}
+
+-- ---- One line for each call that changes the state.
+egl_acts : (s : State) (t : ℕ) (c : CallValue) (k : EglKind) → c.kind ≡ Egl k → egl_refusal s t k c ≡ None → Acts (egl_extent k) t s (λ a. (egl_effect a t k c).state)
+egl_acts s t c Initialize h r = acts-initialize s t (number c 0) true
+egl_acts s t c Terminate h r = acts-terminate s t (number c 0)
+egl_acts s t c CreatePbufferSurface h r = acts-pbuffer s t c h r
+egl_acts s t c CreateContext h r = acts-context s t c
+egl_acts s t c MakeCurrent h r = acts-make_current s t c h r
+egl_acts s t c k h r = acts_self t s
+
+gl_acts : (s : State) (t n : ℕ) (c : CallValue) (k : GlKind) → current_context s t ≡ Some n → Acts quiet t s (λ a. (gl_effect a t n k c).state)
+gl_acts s t n c GetError i = acts-own_part s t n (λ p. (apply c p).part) i
+gl_acts s t n c ClearColorx i = acts-own_part s t n (λ p. (apply c p).part) i
+gl_acts s t n c Clear i = acts-clear s t n c i
+gl_acts s t n c k i = acts_self t s
+
+-- ---- Steps.
+by_kind : (s : State) (t : ℕ) (c : CallValue) (k : EglKind) (a : State) → c.kind ≡ Egl k → Keeps (egl_extent k) t s a → Keeps (extent_of_kind c.kind) t s a
+by_kind s t c k a h = subst (λ x. Keeps x t s a) (ap extent_of_kind (sym h))
+
+-- an error, or the effect and what follows it
+pub acts-egl_done : (s : State) (t : ℕ) (c : CallValue) (k : EglKind) → c.kind ≡ Egl k → egl_refusal s t k c ≡ None → Acts (egl_extent k) t s (λ a. tidied (set_error (egl_effect a t k c).state t Success))
+acts-egl_done s t c k h r = acts_swept (egl_extent k) t s (λ a. set_error (egl_effect a t k c).state t Success)
+    (acts_then (egl_extent k) t s (λ a. (egl_effect a t k c).state) (λ a. set_error a t Success) (egl_acts s t c k h r) (acts-error (egl_effect s t k c).state t Success))
+
+pub acts-gl_done : (s : State) (t n : ℕ) (c : CallValue) (k : GlKind) → current_context s t ≡ Some n → Acts quiet t s (λ a. tidied (gl_effect a t n k c).state)
+acts-gl_done s t n c k i = acts_swept quiet t s (λ a. (gl_effect a t n k c).state) (gl_acts s t n c k i)
+
+-- readBuffer changes nothing, and the end of a wait is one move
+pub acts-tidied : (s : State) (t : ℕ) → Acts quiet t s tidied
+acts-tidied s t = acts_swept quiet t s (λ a. a) (acts_self t s)
+
+pub acts-wait_done : (s : State) (t : ℕ) → Acts quiet t s (λ a. tidied (waiting a t None))
+acts-wait_done s t = acts_swept quiet t s (λ a. waiting a t None) (acts-wait_end s t)
+
+pub keeps-step : (s : State) (t : ℕ) (c : CallValue) → Keeps (extent_of_kind c.kind) t s (step s t c).state
+keeps-step s t c = each_way (Keeps (extent_of_kind c.kind) t s) s t c (record {
+  stays = (acts_within (extent_of_kind c.kind) t s (λ a. a) (acts_self t s)).moved.keeps;
+  egl_error = λ e. (acts_within (extent_of_kind c.kind) t s (λ a. set_error a t e) (acts-error s t e)).moved.keeps;
+  gl_error = λ n e i. (acts_within (extent_of_kind c.kind) t s (λ a. note_error a n e) (acts-own_part s t n (noted e) i)).moved.keeps;
+  egl_done = λ k h r. by_kind s t c k _ h (acts-egl_done s t c k h r).moved.keeps;
+  gl_done = λ n k i. (acts_within (extent_of_kind c.kind) t s (λ a. tidied (gl_effect a t n k c).state) (acts-gl_done s t n c k i)).moved.keeps;
+  swept = (acts_within (extent_of_kind c.kind) t s tidied (acts-tidied s t)).moved.keeps;
+  wait_done = (acts_within (extent_of_kind c.kind) t s (λ a. tidied (waiting a t None)) (acts-wait_done s t)).moved.keeps;
+})
+
+pub full-step : (s : State) (t : ℕ) (c : CallValue) → IsFull s → IsFull (step s t c).state
+full-step s t c f = each_way IsFull s t c (record {
+  stays = f;
+  egl_error = λ e. (acts-error s t e).full f;
+  gl_error = λ n e i. (acts-own_part s t n (noted e) i).full f;
+  egl_done = λ k h r. (acts-egl_done s t c k h r).full f;
+  gl_done = λ n k i. (acts-gl_done s t n c k i).full f;
+  swept = (acts-tidied s t).full f;
+  wait_done = (acts-wait_done s t).full f;
+})
+
+-- only some calls turn flags, or make handles
+pub flags-step : (s : State) (t : ℕ) (c : CallValue) → (extent_of_kind c.kind).flags ≡ false → SameFlags s (step s t c).state
+flags-step s t c q = (keeps-step s t c).frame.flags q
+
+pub next-step : (s : State) (t : ℕ) (c : CallValue) → (extent_of_kind c.kind).names ≡ 0 → (step s t c).state.next_handle ≡ s.next_handle
+next-step s t c q = let k = keeps-step s t c in let a = k.frame.next in let b = k.frame.handles.rises in omega (arith, a, b, q)
+
+-- ---- So a sound state stays sound.
+pub sound-step : (s : State) (t : ℕ) (c : CallValue) → IsSound s → IsSound (step s t c).state
+sound-step s t c h = let k = keeps-step s t c in let w = k.whole h.whole in record {
+  litter = no_litter-step s t c h.litter;
+  linked = linked_from (step s t c).state w;
+  whole = w;
+  full = full-step s t c h.full;
+  pixels = k.pixels h.pixels;
+}
+
+pub sound-replay : (s : State) (es : List Entry) → IsSound s → IsSound (replay_from s es)
+sound-replay s [] h = h
+sound-replay s (e ∷ es) h = sound-replay (step s e.thread e.call).state es (sound-step s e.thread e.call h)
+
+-- before the first call
+at_first : {A : Type 0} (P : A → Type 0) (f : ThreadRecord → A) → P (f initial) → (t : ℕ) → P (f (get_or (replicate capacity initial) t initial))
+at_first P f p t = subst P (sym (initial_at f capacity t)) p
+
+unbound : (video t n : ℕ) {A : Type 0} → has_context n (record_of (opening video) t) ≡ true → A
+unbound video t n h = absurd (let e : false ≡ true = sym (initial_at (has_context n) capacity t) ∙ h in cc)
+
+undrawn : (video t n : ℕ) {A : Type 0} → has_surface n (record_of (opening video) t) ≡ true → A
+undrawn video t n h = absurd (let e : false ≡ true = sym (initial_at (has_surface n) capacity t) ∙ h in cc)
+
+firm-opening : (video : ℕ) → IsFirm (shapes []) (opening video)
+firm-opening video = record {
+  kinds = record {
+    handles = All-nil (NamesItsKind (shapes []));
+    threads = at_first (Leads (shapes [])) held_slots (tt, (tt, (tt, (tt, tt))));
+    objects = λ n. tt;
+  };
+  storages = record { each = λ m n k e h. no_edge k h };
+  alone = record { contexts = λ t u n h k. unbound video t n h; surfaces = λ t u n h k. undrawn video t n h };
+  both = record { draw = at_first (λ (r : ThreadRecord). is_some r.draw ≡ is_some r.context) (λ r. r) refl; read = at_first (λ (r : ThreadRecord). is_some r.read ≡ is_some r.context) (λ r. r) refl };
+  numbers = record {
+    handles = All-nil (λ (h : Handle). IsBelowNext (opening video) h.number);
+    apart = λ i j d lt within. absurd (omega arith);
+    context = at_first (λ (r : ThreadRecord). IsBoundBelowNext (opening video) r.context) (λ r. r) tt;
+    draw = at_first (λ (r : ThreadRecord). IsBoundBelowNext (opening video) r.draw) (λ r. r) tt;
+    read = at_first (λ (r : ThreadRecord). IsBoundBelowNext (opening video) r.read) (λ r. r) tt;
+  };
+}
+
+pub whole-opening : (video : ℕ) → IsWhole (shapes []) (opening video)
+whole-opening video = record { firm = firm-opening video; watches = record { each = λ n. tt } }
+
+pixels-opening : (video : ℕ) → PixelsFit (opening video)
+unfolding live_bytes
+pixels-opening video = omega arith
+
+pub sound-opening : (video : ℕ) → IsSound (opening video)
+sound-opening video = record {
+  litter = no_litter-opening video;
+  linked = linked_from (opening video) (whole-opening video);
+  whole = whole-opening video;
+  full = record { each = λ n. tt };
+  pixels = pixels-opening video;
+}
+
+-- ---- What each history leaves.
+pub sound-history : (video : ℕ) (es : List Entry) → IsSound (replay_from (opening video) es)
+sound-history video es = sound-replay (opening video) es (sound-opening video)
+
+pub held_if_exists : (video : ℕ) (es : List Entry) (n : ℕ) → has_object (replay_from (opening video) es) n ≡ true → IsHeld (replay_from (opening video) es) n
+held_if_exists video es n h = (4, (sound-history video es).litter.each n h)
+
+pub exists_if_held : (video : ℕ) (es : List Entry) (n : ℕ) → IsHeld (replay_from (opening video) es) n → has_object (replay_from (opening video) es) n ≡ true
+exists_if_held video es n h = exists_marked (replay_from (opening video) es) (sound-history video es).linked h.0 n h.1
+
+pub handles-replay : (s : State) (es : List Entry) → HandlesAreNew s (replay_from s es)
+handles-replay s [] = (frame_self 0 s).handles
+handles-replay s (e ∷ es) = let a = (step s e.thread e.call).state in handles_then s a (replay_from a es) (keeps-step s e.thread e.call).frame.handles (handles-replay a es)
+
+pub objects-replay : (s : State) (es : List Entry) → ObjectsAreNew s (replay_from s es)
+objects-replay s [] = (frame_self 0 s).objects
+objects-replay s (e ∷ es) = let a = (step s e.thread e.call).state in objects_then s a (replay_from a es) (keeps-step s e.thread e.call).frame.objects (objects-replay a es)

@@ -1,0 +1,35 @@
+-- How far a call goes: whether it may turn the displays' flags, and how many handles it may make.
+use Rattle.std.specs.Prelude.{◌≡◌, ℕ, Bool, true, false}
+use Rattle.egl_calls.specs.declared.kinds.Kind.{Kind}
+use Rattle.egl_calls.specs.declared.kinds.Kind.TheVariants.{Egl}
+use Rattle.egl_calls.specs.declared.kinds.EglKind.{EglKind}
+use Rattle.egl_calls.specs.declared.kinds.EglKind.TheVariants.{Initialize, Terminate, CreatePbufferSurface, CreateContext}
+use Rattle.egl_model.specs.State.{State}
+
+pub record Extent : Type 0 where
+  pub flags : Bool
+  pub names : ℕ
+
+abbrev pub quiet : Extent
+quiet = record { flags = false; names = 0 }
+
+abbrev pub naming : Extent
+naming = record { flags = false; names = 1 }
+
+abbrev pub flagging : Extent
+flagging = record { flags = true; names = 0 }
+
+abbrev pub SameFlags : State → State → Type 0
+SameFlags s a = (a.first ≡ s.first) × (a.second ≡ s.second)
+
+-- which calls turn displays' flags, and which make handles
+abbrev pub egl_extent : EglKind → Extent
+egl_extent Initialize = flagging
+egl_extent Terminate = flagging
+egl_extent CreatePbufferSurface = naming
+egl_extent CreateContext = naming
+egl_extent k = quiet
+
+abbrev pub extent_of_kind : Kind → Extent
+extent_of_kind (Egl k) = egl_extent k
+extent_of_kind k = quiet

@@ -1,6 +1,0 @@
-use Rattle.std.proofs.Common.{rules}
-use Rattle.std.proofs.lemmas.Fn.{filter_same}
-use Rattle.object_table.proofs.sweeping.keep_reached.Goals as goal
-
-pub returns-clause-numbers : goal.returns-clause-numbers
-returns-clause-numbers c = filter_same _ _ _ (λ x b f' k. search rules) _ _ c.retain.ensures.filtered

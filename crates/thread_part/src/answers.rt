@@ -1,0 +1,95 @@
+//! What a call's numbers say, and which calls are refused.
+ghost use Rattle.std.specs.Prelude.{◌≡◌, ◌<◌, true};
+ghost use Rattle.egl_calls.specs.Kinds.{is_built};
+ghost use Rattle.egl_calls.specs.Ranges.{IsNumber};
+ghost use Rattle.call_rules.specs.Arguments.{signed};
+ghost use Rattle.call_rules.specs.GlRules as gl_rules;
+ghost use Rattle.egl_model.specs.Arguments.{number};
+ghost use Rattle.egl_model.specs.Displays.{display_of};
+ghost use Rattle.egl_model.specs.Drawing.{clears_colour, read_form, read_rect};
+ghost use Rattle.egl_model.specs.GlFacts.{no_framebuffer};
+ghost use Rattle.egl_model.specs.Local.{local_refusal};
+
+use call_rules::{EglFacts, GlFacts};
+use egl_calls::{Call, EglError, GlError, unsigned};
+use egl_names::codes::{GL_COLOR_BUFFER_BIT, GL_UNSIGNED_SHORT_5_6_5};
+use pixel_formats::Format;
+use pixel_rows::Rect;
+
+fn signed(call: &Call, place: usize) -> i64
+    requires { place < 8 }
+    ensures { result ≡ signed call.now place }
+{
+    call.args[place]
+}
+
+fn number(call: &Call, place: usize) -> u64
+    requires { place < 8 }
+    ensures { result ≡ number call.now place }
+{
+    unsigned(call.args[place])
+}
+
+/// The display that eglGetDisplay answers, or 0 (EGL 1.5, section 3.2).
+pub fn display_of(call: &Call) -> i64
+    ensures value { result ≡ display_of (signed call.now 0) }
+    ensures number { IsNumber result }
+{
+    let id = signed(call, 0);
+    if id == 0 {
+        1
+    } else if id == 1 {
+        2
+    } else {
+        0
+    }
+}
+
+/// Whether the mask of glClear has the bit of the colour buffer.
+pub fn clears_colour(call: &Call) -> bool
+    ensures { result ≡ clears_colour call.now }
+{
+    number(call, 0) & GL_COLOR_BUFFER_BIT == GL_COLOR_BUFFER_BIT
+}
+
+/// The rectangle that glReadPixels reads.
+pub fn read_rect(call: &Call) -> Rect
+    ensures { result ≡ read_rect call.now }
+{
+    Rect {
+        x: signed(call, 0),
+        y: signed(call, 1),
+        w: signed(call, 2),
+        h: signed(call, 3),
+    }
+}
+
+/// The form of the bytes that glReadPixels reads.
+pub fn read_form(call: &Call) -> Format
+    ensures { result ≡ read_form call.now }
+{
+    if number(call, 5) == GL_UNSIGNED_SHORT_5_6_5 {
+        Format::Rgb565
+    } else {
+        Format::Rgba8888
+    }
+}
+
+/// The error of a local call of OpenGL ES, if it is refused: it is judged by its own numbers alone, since no framebuffer is bound.
+pub fn gl_refusal(call: &Call) -> Option<GlError>
+    requires { is_built call.now.kind ≡ true }
+    ensures { result ≡ gl_rules.gl_refusal call.now no_framebuffer }
+{
+    let facts = GlFacts {
+        is_framebuffer_complete: true,
+    };
+    call_rules::gl_refusal(call, &facts)
+}
+
+/// The error of a local call of EGL, if it is refused.
+pub fn local_refusal(call: &Call) -> Option<EglError>
+    requires { is_built call.now.kind ≡ true }
+    ensures { result ≡ local_refusal call.now }
+{
+    call_rules::egl_refusal(call, &EglFacts::none())
+}
