@@ -1,27 +1,40 @@
-//! Measures writes into an image of 2,048 by 2,048 pixels and its rows as bytes, beside a plain
-//! copy of as many bytes. With the word `measure` it prints millions of pixels a second, which
-//! differ from run to run; without it it prints nothing.
+//! Measures writes into images of 2,048 by 2,048 pixels and their rows as bytes, beside a plain copy
+//! of as many bytes, and the memory that 64 such images take. With the word `measure` it prints millions
+//! of pixels a second, which differ from run to run; without it it prints nothing.
 #![tactic(auto)]
 
+mod memory;
 mod work;
 
 use anyhow::Result;
-use pixel_formats::Format;
+use egl_calls::Bytes;
+use pixel_formats::{Format, bytes_of};
 use pixel_rows::Image;
 use std::env;
 use std::time::Instant;
-use work::{ALL, RED, copy, fill, filled, rows, speed};
+use work::{ALL, RED, SIDE, copy, fill, filled, load, rows, speed};
 
-fn measure(rt: &HostRuntime) -> Result<()> {
-    let start = Instant::now(rt)?;
-    let from = filled(rt.alloc(), 7)?;
-    let mut to = filled(rt.alloc(), 0)?;
-    let made = speed(start.elapsed(rt)?.as_nanos());
+const FORMATS: [Format; 8] = [
+    Format::Rgb565,
+    Format::Rgb888,
+    Format::Rgba8888,
+    Format::Rgba4444,
+    Format::Rgba5551,
+    Format::A8,
+    Format::L8,
+    Format::La88,
+];
+
+/// Measures one format beside a copy of as many bytes.
+fn measure(rt: &HostRuntime, f: Format) -> Result<()> {
+    let size = bytes_of(f) as usize;
+    let from = filled(rt.alloc(), size, 7)?;
+    let mut to = filled(rt.alloc(), size, 0)?;
     let start = Instant::now(rt)?;
     let sum = copy(to.as_mut_slice(), from.as_slice());
     let copied = speed(start.elapsed(rt)?.as_nanos());
-    println!(rt; "copy {copied} (made {made}, {sum})")?;
-    let Ok(mut image) = Image::new(rt.alloc(), Format::Rgba8888, 2048, 2048) else {
+    println!(rt; "{f:?}: copy {copied} ({sum})")?;
+    let Ok(mut image) = Image::new(rt.alloc(), f, SIDE, SIDE) else {
         return Ok(());
     };
     let start = Instant::now(rt)?;
@@ -30,17 +43,27 @@ fn measure(rt: &HostRuntime) -> Result<()> {
     let start = Instant::now(rt)?;
     fill(&mut image, RED);
     let red = speed(start.elapsed(rt)?.as_nanos());
-    println!(rt; "fill {all}, of red alone {red}")?;
-    for (to, align) in [
-        (Format::Rgba8888, true),
-        (Format::Rgb888, true),
-        (Format::Rgb565, false),
-        (Format::A8, false),
-    ] {
+    println!(rt; "{f:?}: fill {all}, of red alone {red}")?;
+    measure_rows(rt, &image, f)?;
+    measure_loads(rt, &mut image, Bytes::from_vec(from), f)
+}
+
+fn measure_rows(rt: &HostRuntime, image: &Image, f: Format) -> Result<()> {
+    for to in [f, Format::Rgba8888, Format::Rgb565] {
         let start = Instant::now(rt)?;
-        let long = rows(rt.alloc(), &image, to, align);
+        let long = rows(rt.alloc(), image, to);
         let took = speed(start.elapsed(rt)?.as_nanos());
-        println!(rt; "row_bytes {to:?} {took} ({long} bytes)")?;
+        println!(rt; "{f:?}: rows as {to:?} {took} ({long} bytes)")?;
+    }
+    Ok(())
+}
+
+fn measure_loads(rt: &HostRuntime, image: &mut Image, bytes: Bytes, f: Format) -> Result<()> {
+    for from in [f, Format::Rgba8888, Format::Rgb565] {
+        let start = Instant::now(rt)?;
+        load(image, &bytes, from);
+        let took = speed(start.elapsed(rt)?.as_nanos());
+        println!(rt; "{f:?}: load from {from:?} {took}")?;
     }
     Ok(())
 }
@@ -49,5 +72,9 @@ fn main(rt: HostRuntime) -> Result<()> {
     if env::args(&rt)?.count() < 2 {
         return Ok(());
     }
-    measure(&rt)
+    memory::measure_all(&rt)?;
+    for f in FORMATS {
+        measure(&rt, f)?;
+    }
+    Ok(())
 }

@@ -1,10 +1,14 @@
 //! The work that is measured, each piece eight times over.
 
+use egl_calls::Bytes;
 use pixel_formats::{Format, Pixel};
 use pixel_rows::{Image, Mask, Rect};
 use std::alloc::{AllocError, Global};
 
 const ROUNDS: u32 = 8;
+
+/// The sides of the image that is measured.
+pub const SIDE: u32 = 2_048;
 
 pub const ALL: Mask = Mask {
     r: true,
@@ -32,9 +36,10 @@ pub fn speed(nanoseconds: u128) -> u128 {
     33_554_432_000 / nanoseconds.max(1)
 }
 
-pub fn filled(alloc: Global, byte: u8) -> Result<Vec<u8>, AllocError> {
+/// As many bytes as 2,048 by 2,048 pixels of so many bytes take.
+pub fn filled(alloc: Global, size: usize, byte: u8) -> Result<Vec<u8>, AllocError> {
     let mut bytes = Vec::new(alloc);
-    let long: usize = 4 * 2048 * 2048;
+    let long = size.min(4) * (SIDE as usize * SIDE as usize);
     bytes.resize(long, byte)?;
     Ok(bytes)
 }
@@ -58,17 +63,20 @@ pub fn fill(image: &mut Image, mask: Mask) {
     }
 }
 
-pub fn rows(alloc: Global, image: &Image, to: Format, words: bool) -> u64 {
+pub fn load(image: &mut Image, bytes: &Bytes, from: Format) {
+    for _round in 0..ROUNDS {
+        let (w, h) = (image.width() as i64, image.height() as i64);
+        let rect = Rect { x: 0, y: 0, w, h };
+        let _ = image.load_rows(rect, bytes, from, 1);
+    }
+}
+
+pub fn rows(alloc: Global, image: &Image, to: Format) -> u64 {
     let mut long = 0;
     for _round in 0..ROUNDS {
         let (w, h) = (image.width() as i64, image.height() as i64);
         let rect = Rect { x: 0, y: 0, w, h };
-        let made = if words {
-            image.row_bytes(alloc, rect, to, 4)
-        } else {
-            image.row_bytes(alloc, rect, to, 1)
-        };
-        if let Ok(bytes) = made {
+        if let Ok(bytes) = image.row_bytes(alloc, rect, to, 1) {
             long = bytes.len();
         }
     }

@@ -26,6 +26,7 @@ pub(crate) fn top(bits: u32) -> u32
 }
 
 /// The component `c` of `from` bits as the nearest one of `to` bits.
+#[inline(always)]
 pub fn widen(c: u32, from: u32, to: u32) -> u32
     requires from_bits { (1 ≤ from) × (from ≤ 8) }
     requires to_bits { (1 ≤ to) × (to ≤ 8) }

@@ -50,12 +50,14 @@ pub struct Layout {
 
 const ABSENT: Place = Place { low: 0, bits: 0 };
 
+#[inline(always)]
 fn at(low: u32, bits: u32) -> Place
     ensures { result ≡ table.at low bits }
 {
     Place { low, bits }
 }
 
+#[inline(always)]
 fn row(base: Base, bytes: u32, r: Place, g: Place, b: Place, a: Place) -> Layout
     ensures { result ≡ table.row base bytes r g b a }
 {
@@ -71,6 +73,7 @@ fn row(base: Base, bytes: u32, r: Place, g: Place, b: Place, a: Place) -> Layout
 
 /// The table of formats. Packed shorts have red in their highest bits, and the other formats hold a
 /// byte for each component, in the order red or luminance, green, blue, alpha.
+#[inline(always)]
 pub fn layout_of(f: Format) -> Layout
     ensures value { result ≡ table.layout_of f }
     ensures within { IsWithinFour result }
@@ -104,6 +107,7 @@ pub fn base_of(f: Format) -> Base
 
 impl Base {
     /// Whether one luminance stands for red, green and blue.
+    #[inline(always)]
     pub fn is_luminance(self) -> bool
         ensures { result ≡ table.is_luminance self }
     {

@@ -83,6 +83,7 @@ fn number(t: Layout, c: Components) -> u64
     part(c.r, t.r) + part(c.g, t.g) + part(c.b, t.b) + part(c.a, t.a)
 }
 
+#[inline(always)]
 fn field(n: u32, at: Place) -> u32
     requires { IsBytePlace at }
     ensures value { result ≡ values.field n at }
@@ -91,6 +92,7 @@ fn field(n: u32, at: Place) -> u32
     (n >> at.low) % (1 << at.bits)
 }
 
+#[inline(always)]
 fn fields(t: Layout, n: u32) -> Components
     requires { IsWithinFour t }
     ensures value { result ≡ values.fields t n }
@@ -104,6 +106,7 @@ fn fields(t: Layout, n: u32) -> Components
     }
 }
 
+#[inline(always)]
 fn component(at: Place, missing: u8, c: u32) -> u8
     requires place { IsBytePlace at }
     requires within { c < 2 ^ at.bits }
@@ -116,6 +119,7 @@ fn component(at: Place, missing: u8, c: u32) -> u8
     }
 }
 
+#[inline(always)]
 fn reading(t: Layout, c: Components) -> Pixel
     requires table { IsWithinFour t }
     requires within { Fits t c }
@@ -131,14 +135,35 @@ fn reading(t: Layout, c: Components) -> Pixel
     }
 }
 
+/// Reads a packed pixel by a row of the table of formats.
+#[inline(always)]
+fn unpack_in(t: Layout, bytes: [u8; 4]) -> Pixel
+    requires { IsWithinFour t }
+    ensures { result ≡ values.reading t (values.fields t (ints.from_le_bytes ints.w32 bytes)) }
+{
+    reading(t, fields(t, u32::from_le_bytes(bytes)))
+}
+
 /// Reads a packed pixel. Bytes past the format's own are not looked at
 /// (OpenGL ES 1.1, "Unpacking").
+///
+/// An arm for each format makes its row of the table known there, so that what is divided by are
+/// constants.
+#[inline(always)]
 #[tactic(auto, unfolding(crate::specs::Pixels::unpack))]
 pub fn unpack(f: Format, bytes: [u8; 4]) -> Pixel
     ensures { result ≡ values.unpack f bytes }
 {
-    let t = layout_of(f);
-    reading(t, fields(t, u32::from_le_bytes(bytes)))
+    match f {
+        Format::Rgb565 => unpack_in(layout_of(Format::Rgb565), bytes),
+        Format::Rgb888 => unpack_in(layout_of(Format::Rgb888), bytes),
+        Format::Rgba8888 => unpack_in(layout_of(Format::Rgba8888), bytes),
+        Format::Rgba4444 => unpack_in(layout_of(Format::Rgba4444), bytes),
+        Format::Rgba5551 => unpack_in(layout_of(Format::Rgba5551), bytes),
+        Format::A8 => unpack_in(layout_of(Format::A8), bytes),
+        Format::L8 => unpack_in(layout_of(Format::L8), bytes),
+        Format::La88 => unpack_in(layout_of(Format::La88), bytes),
+    }
 }
 
 /// Packs a pixel by a row of the table of formats, so that a caller with many pixels looks it up once.
@@ -153,12 +178,22 @@ pub fn pack_in(t: Layout, p: Pixel) -> [u8; 4]
 }
 
 /// Packs a pixel, the low byte first. Bytes that the format does not use are 0
-/// (OpenGL ES 1.1, "Reading Pixels").
+/// (OpenGL ES 1.1, "Reading Pixels"). It has an arm for each format, as `unpack` has.
+#[inline(always)]
 #[tactic(auto, unfolding(crate::specs::Pixels::pack))]
 pub fn pack(f: Format, p: Pixel) -> [u8; 4]
     ensures { result ≡ values.pack f p }
 {
-    pack_in(layout_of(f), p)
+    match f {
+        Format::Rgb565 => pack_in(layout_of(Format::Rgb565), p),
+        Format::Rgb888 => pack_in(layout_of(Format::Rgb888), p),
+        Format::Rgba8888 => pack_in(layout_of(Format::Rgba8888), p),
+        Format::Rgba4444 => pack_in(layout_of(Format::Rgba4444), p),
+        Format::Rgba5551 => pack_in(layout_of(Format::Rgba5551), p),
+        Format::A8 => pack_in(layout_of(Format::A8), p),
+        Format::L8 => pack_in(layout_of(Format::L8), p),
+        Format::La88 => pack_in(layout_of(Format::La88), p),
+    }
 }
 
 /// What `p` reads as once it was stored in the format: each kept component rounded to its bits.

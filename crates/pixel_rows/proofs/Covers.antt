@@ -1,5 +1,5 @@
 -- Which places rows, blocks and rectangles cover.
-use Rattle.std.proofs.Common.{◌≡◌, ℕ, ℤ, pos, negsuc, ◌+◌, ◌*◌, ◌/◌, ◌%◌, ◌<◌, ◌≤◌, Bool, true, false, ◌&&◌, ◌||◌, List, length, take, drop, ◌++◌, refl, sym, ap, ◌∙◌, arith, inl, inr}
+use Rattle.std.proofs.Common.{◌≡◌, ℕ, ℤ, pos, negsuc, ◌+◌, ◌*◌, ◌/◌, ◌%◌, ◌<◌, ◌≤◌, Bool, true, false, ◌&&◌, ◌||◌, List, cond, get_or, map, length, take, drop, ◌++◌, refl, sym, ap, ◌∙◌, arith, inl, inr}
 use Rattle.std.proofs.Math.Path.{fun_ext}
 use Rattle.std.proofs.lemmas.Bool.{cases_order}
 use Rattle.std.proofs.lemmas.Bool.Decides.{nat_tests}
@@ -12,12 +12,13 @@ use Rattle.pixel_formats.specs.Pixels.{quantize}
 use Rattle.pixel_formats.specs.declared.pixels.Pixel.{Pixel}
 use Rattle.pixel_rows.proofs.Rewriting.{rewritten_all}
 use Rattle.pixel_rows.specs.Blocks.{in_range, in_block, in_block_at, block_of, Rewritten}
-use Rattle.pixel_rows.specs.Images.{ImageValue, IsWhole}
+use Rattle.std.specs.List.{range_with_len}
+use Rattle.pixel_rows.specs.Images.{ImageValue, IsWhole, no_pixel}
 use Rattle.pixel_rows.specs.Masks.{masked, mask_in}
 use Rattle.pixel_rows.specs.Painting.{painted_at, painted_pixels, painted}
 use Rattle.egl_calls.specs.Ranges.{unsigned}
 use Rattle.pixel_rows.specs.Rects.{is_in_span, is_in, is_at, IsInSide, IsInside}
-use Rattle.pixel_rows.specs.declared.fills.Block.{Block}
+use Rattle.pixel_rows.specs.declared.blocks.Block.{Block}
 use Rattle.pixel_rows.specs.declared.masks.Mask.{Mask}
 use Rattle.pixel_rows.specs.declared.rects.Rect.{Rect}
 
@@ -100,24 +101,14 @@ pub rect_is : (r : Rect) (w h u v : ℕ) → IsInside r w h →
     in_block_at (block_of r) u v ≡ is_in r u v
 rect_is r w h u v i = ap (λ b. b && in_range (unsigned r.y) (unsigned r.y + unsigned r.h) v) (span_is r.x r.w w u i.columns) ∙ ap (λ b. is_in_span r.x r.w u && b) (span_is r.y r.h h v i.rows)
 
--- what two nested loops over a block leave in a vector
-pub block_filled : (n w : ℕ) (b : Block) (f : Pixel → Pixel) (items cells new : List Pixel) → n ≡ length items → cells ≡ items → Rewritten (in_block w b) f cells new →
-    take n (new ++ drop (length new) items) ≡ painted_pixels w (in_block_at b) (λ _ _ old. f old) items
+-- what two nested loops over a block leave
+pub block_filled : (w : ℕ) (b : Block) (f : ℕ → Pixel → Pixel) (g : ℕ → ℕ → Pixel → Pixel) (old new : List Pixel) → Rewritten no_pixel (in_block w b) f old new →
+    ((k : ℕ) (p : Pixel) → f k p ≡ g (k % w) (k / w) p) → new ≡ painted_pixels w (in_block_at b) g old
 unfolding painted_pixels
-block_filled n w b f items cells new e s t =
-    let long : length new ≡ n = t.long ∙ ap length s ∙ sym e in
-    take_at new _ n long ∙ rewritten_all _ f cells new t ∙ ap (painted_pixels w (in_block_at b) (λ _ _ old. f old)) s
+block_filled w b f g old new s e =
+    rewritten_all no_pixel (in_block w b) f old new s
+    ∙ ap (λ h. map h (range_with_len 0 (length old))) (fun_ext (λ k. ap (λ x. cond (in_block w b k) x (get_or old k no_pixel)) (e k (get_or old k no_pixel))))
 
 -- a write keeps the sides
 pub whole_after : (w h u : ℕ) (covers : ℕ → ℕ → Bool) (becomes : ℕ → ℕ → Pixel → Pixel) (old new : List Pixel) → IsWhole w h old → new ≡ painted_pixels u covers becomes old → IsWhole w h new
 whole_after w h u covers becomes old new s e = record { wide = s.wide; high = s.high; area = ap length e ∙ length-painted_pixels u covers becomes old ∙ s.area }
-
--- a block that was written is a write of an image
-pub block_painted : (v : ImageValue) (covers again : ℕ → ℕ → Bool) (mask m : Mask) (p q : Pixel) (new : List Pixel) →
-    new ≡ painted_pixels v.width covers (λ _ _ old. masked m old q) v.pixels → m ≡ mask_in v.format mask → q ≡ quantize v.format p → ((x y : ℕ) → covers x y ≡ again x y) →
-    record v { pixels = new } ≡ painted v again (λ _ _. p) mask
-unfolding painted
-block_painted v covers again mask m p q new e f g same =
-    ap (λ ps. record v { pixels = ps }) (e ∙ painted_as v.width covers again _ v.pixels same
-    ∙ ap (λ n. painted_pixels v.width again (λ _ _ old. masked n old q) v.pixels) f
-    ∙ ap (λ n. painted_pixels v.width again (λ _ _ old. masked (mask_in v.format mask) old n) v.pixels) g)

@@ -1,18 +1,22 @@
 -- The laws of specs/Laws.antt.
-use Rattle.std.proofs.Common.{◌≡◌, ℕ, ◌+◌, ◌-◌, ◌*◌, ◌/◌, ◌%◌, ◌<◌, ◌≤◌, Bool, cond, List, [], length, get_or, take, drop, zero, suc, Option, Some, None, refl, ap, ◌∙◌, arith, length-append}
+use Rattle.std.proofs.Common.{◌≡◌, ℕ, ℤ, pos, true, ◌&&◌, ◌∷◌, replicate, map, ◌+◌, ◌-◌, ◌*◌, ◌/◌, ◌%◌, ◌<◌, ◌≤◌, Bool, cond, List, [], length, get_or, take, drop, zero, suc, Option, Some, None, refl, ap, ◌∙◌, arith, length-append}
 use Rattle.std.specs.List.{range_with_len, flat_map}
 use Rattle.std.proofs.lemmas.List.{get_or-take, get_or-drop, length-replicate}
 use Rattle.std.proofs.lemmas.List.FromFn.{get_or-map-range_with_len, length-map-range_with_len}
 use Rattle.std.proofs.lemmas.Nat.{row_fits, div-mul-add, mod-mul-add}
 use Rattle.pixel_formats.specs.Formats.{bytes_of}
-use Rattle.pixel_formats.specs.Pixels.{pack, pack_in}
+use Rattle.pixel_formats.specs.Pixels.{pack, pack_in, quantize}
 use Rattle.pixel_formats.specs.declared.formats.Format.{Format}
 use Rattle.pixel_formats.specs.declared.formats.Format.TheVariants.{Rgb565, Rgb888, Rgba8888, Rgba4444, Rgba5551, A8, L8, La88}
 use Rattle.pixel_formats.specs.declared.pixels.Pixel.{Pixel}
 use Rattle.pixel_rows.proofs.Covers.{length-painted_pixels}
-use Rattle.pixel_rows.specs.Images.{ImageValue, IsImage, IsSameShape, no_pixel, pixel_at, rows_of}
-use Rattle.pixel_rows.specs.Masks.{written}
+use Rattle.pixel_rows.specs.Images.{ImageValue, IsImage, IsSameShape, blank, no_pixel, pixel_at, rows_of}
+use Rattle.pixel_rows.specs.Masks.{every, written}
 use Rattle.pixel_rows.specs.Painting.{painted, painted_at, painted_pixels}
+use Rattle.std.proofs.lemmas.Bool.Decides.{nat_tests}
+use Rattle.std.proofs.lemmas.Grind.{rows}
+use Rattle.std.proofs.lemmas.Int.{ints}
+use Rattle.pixel_rows.specs.Rects.{is_in, is_in_span}
 use Rattle.egl_calls.specs.Ranges.{unsigned}
 use Rattle.pixel_rows.specs.Transfers.{row_bytes, line, stride, padding, zeros, bytes_at, pixel_bytes}
 use Rattle.pixel_rows.specs.declared.masks.Mask.{Mask}
@@ -98,3 +102,39 @@ length-row_bytes v rect to align h =
     let a : length (line v rect to j) ≡ unsigned rect.w * bytes_of to = length-line v rect to j in
     let b : length (zeros (padding rect to align)) ≡ padding rect to align = length-replicate (padding rect to align) 0 in
     length-append (line v rect to j) (zeros (padding rect to align)) ∙ omega arith)
+
+inside : (n k : ℕ) → k < n → is_in_span (pos 0) (pos n) k ≡ true
+inside n k h = grind (arith, nat_tests, ints)
+
+zero-written : (f : Format) (p : Pixel) → written f every p no_pixel ≡ quantize f no_pixel
+zero-written Rgb565 p = refl
+zero-written Rgb888 p = refl
+zero-written Rgba8888 p = refl
+zero-written Rgba4444 p = refl
+zero-written Rgba5551 p = refl
+zero-written A8 p = refl
+zero-written L8 p = refl
+zero-written La88 p = refl
+
+map-same : {A : Type 0} (g : ℕ → A) (x : A) (s n : ℕ) → ((k : ℕ) → s ≤ k → k < s + n → g k ≡ x) → map g (range_with_len s n) ≡ replicate n x
+map-same g x s zero e = refl
+map-same g x s (suc n) e = ap (λ y. y ∷ map g (range_with_len (s + 1) n)) (e s (omega arith) (omega arith)) ∙ ap (λ ys. x ∷ ys) (map-same g x (s + 1) n (λ k h l. e k (omega arith) (omega arith)))
+
+-- a place has a column and a row
+column_row : (k w h : ℕ) → k < h * w → (k % w < w) × (k / w < h)
+column_row k w h l = grind (arith, rows)
+
+pub painted-zeros : (v : ImageValue) → IsImage v →
+    painted v (is_in (record { x = pos 0; y = pos 0; w = pos v.width; h = pos v.height })) (λ _ _. no_pixel) every ≡ blank v.format v.width v.height
+unfolding painted painted_pixels
+painted-zeros v whole =
+    let whole_rect : Rect = record { x = pos 0; y = pos 0; w = pos v.width; h = pos v.height } in
+    ap (λ ps. record v { pixels = ps; owned = true })
+    (map-same (painted_at v.width (is_in (record { x = pos 0; y = pos 0; w = pos v.width; h = pos v.height })) (λ x y old. written v.format every old no_pixel) v.pixels) (quantize v.format no_pixel) 0 (length v.pixels)
+    (λ k h l.
+    let within : k < v.height * v.width = omega (arith, whole.area) in
+    let place = column_row k v.width v.height within in
+    ap (λ b. cond b (written v.format every (get_or v.pixels k no_pixel) no_pixel) (get_or v.pixels k no_pixel))
+    (ap (λ b. b && is_in_span (pos 0) (pos v.height) (k / v.width)) (inside v.width (k % v.width) place.0) ∙ inside v.height (k / v.width) place.1)
+    ∙ zero-written v.format (get_or v.pixels k no_pixel))
+    ∙ ap (λ n. replicate n (quantize v.format no_pixel)) whole.area)

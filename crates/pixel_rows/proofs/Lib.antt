@@ -1,4 +1,8 @@
 pub mod Covers
-pub mod LawsHold
-pub mod Lines
 pub mod Rewriting
+pub mod Stored
+pub mod Seen
+pub mod Loading
+pub mod Lines
+pub mod Holding
+pub mod LawsHold

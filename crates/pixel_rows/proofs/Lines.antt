@@ -1,6 +1,6 @@
 -- A row of a transfer in its three parts: zeros, pixels of the image, zeros.
 use Rattle.std.proofs.Common.{◌≡◌, ℕ, ℤ, pos, negsuc, ◌+◌, ◌-◌, ◌*◌, ◌<◌, ◌≤◌, ◌+ℤ◌, Bool, true, false, cond, List, [], ◌∷◌, ◌++◌, length, get_or, take, drop, min, zero, suc, Option, Some, None, refl, sym, ap, ◌∙◌, arith, inl, inr, ◌⊎◌, append_assoc, append-nil, Result, Ok, Err, OnOk}
-use Rattle.std.specs.Prelude.{nat_lt}
+use Rattle.std.specs.Prelude.{nat_lt, slice_range}
 use Rattle.std.specs.List.{range_with_len, flat_map}
 use Rattle.std.proofs.lemmas.Bool.{cases_lt}
 use Rattle.std.proofs.lemmas.Nat.{row_fits}
@@ -8,10 +8,13 @@ use Rattle.std.proofs.lemmas.Bool.Decides.{nat_tests}
 use Rattle.std.proofs.lemmas.List.{drop_more, replicate-append-replicate}
 use Rattle.std.proofs.lemmas.Grind.{flat_map-append}
 use Rattle.pixel_formats.specs.Formats.{bytes_of, layout_of}
-use Rattle.pixel_formats.specs.Pixels.{pack}
+use Rattle.pixel_formats.specs.Pixels.{pack, unpack}
 use Rattle.pixel_formats.specs.declared.formats.Format.{Format}
 use Rattle.pixel_formats.specs.declared.formats.Layout.{Layout}
 use Rattle.pixel_formats.specs.declared.pixels.Pixel.{Pixel}
+use Rattle.std.proofs.lemmas.List.Folds.{flat_map-map}
+use Rattle.pixel_rows.proofs.Seen.{slice-seen}
+use Rattle.pixel_rows.specs.Cells.{seen}
 use Rattle.pixel_rows.specs.Blocks.{in_range}
 use Rattle.pixel_rows.specs.Images.{no_pixel, ImageValue, IsImage}
 use Rattle.egl_calls.specs.Ranges.{unsigned}
@@ -235,13 +238,18 @@ rows_gathered v rect to w h align count whole window start new all image wide hi
     same ∙ out ∙ ap (λ xs. xs ++ seen_rows v window to (whole - window.width * count) window.height) none
     ∙ rows-window v rect to w h align (whole - window.width * count) window image wide high e (padding-counted rect to w h align count whole window e f g)
 
--- packed by the layout of a format, so many bytes as it has
-pub packed_as : (to : Format) (t : Layout) (n : ℕ) (row : List Pixel) → t ≡ layout_of to → n ≡ t.bytes → flat_map (packed_bytes n t) row ≡ flat_map (pixel_bytes to) row
-unfolding pack
-packed_as to t n row e f =
-    ap (λ k. flat_map (packed_bytes k t) row) f ∙ ap (λ (u : Layout). flat_map (packed_bytes u.bytes u) row) e
+-- cells packed in a format are the bytes of their pixels
+pub packed_as : (f to : Format) (n : ℕ) (row : List (List ℕ)) → bytes_of to ≡ n → flat_map (packed_bytes n to f) row ≡ flat_map (pixel_bytes to) (seen f row)
+unfolding seen
+packed_as f to n row e = ap (λ m. flat_map (packed_bytes m to f) row) (sym e) ∙ sym (flat_map-map (pixel_bytes to) (unpack f) row)
 
-pub pushed_as : {T E : Type 0} (r : Result T E) (new old : List ℕ) (to : Format) (t : Layout) (n : ℕ) (row : List Pixel) → t ≡ layout_of to → t.bytes ≡ n →
-    OnOk r (new ≡ old ++ flat_map (packed_bytes n t) row) → OnOk r (new ≡ old ++ flat_map (pixel_bytes to) row)
-pushed_as (Ok x) new old to t n row e f h = h ∙ ap (λ xs. old ++ xs) (packed_as to t n row e (sym f))
-pushed_as (Err x) new old to t n row e f h = h
+pub pushed_as : {T E : Type 0} (r : Result T E) (new old : List ℕ) (f to : Format) (n : ℕ) (row : List (List ℕ)) → bytes_of to ≡ n →
+    OnOk r (new ≡ old ++ flat_map (packed_bytes n to f) row) → OnOk r (new ≡ old ++ flat_map (pixel_bytes to) (seen f row))
+pushed_as (Ok x) new old f to n row e h = h ∙ ap (λ xs. old ++ xs) (packed_as f to n row e)
+pushed_as (Err x) new old f to n row e h = h
+
+-- a part of an image's cells
+pub part_pushed : {T E : Type 0} (r : Result T E) (new old : List ℕ) (f to : Format) (cells part : List (List ℕ)) (i j : ℕ) → part ≡ slice_range cells i j →
+    OnOk r (new ≡ old ++ flat_map (pixel_bytes to) (seen f part)) → OnOk r (new ≡ old ++ flat_map (pixel_bytes to) (slice_range (seen f cells) i j))
+part_pushed (Ok x) new old f to cells part i j e h = h ∙ ap (λ xs. old ++ flat_map (pixel_bytes to) xs) (ap (seen f) e ∙ slice-seen f cells i j)
+part_pushed (Err x) new old f to cells part i j e h = h

@@ -4,5 +4,8 @@ pub mod Masks
 pub mod Painting
 pub mod Rects
 pub mod Transfers
-pub mod Laws
+pub mod Cells
+pub mod Payloads
 pub mod Windows
+pub mod Rows
+pub mod Laws

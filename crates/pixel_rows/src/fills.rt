@@ -1,73 +1,95 @@
 //! Pixels written in place.
 
-ghost use Rattle.std.specs.Prelude.{◌≡◌, ◌+◌, ◌*◌, ◌≤◌, length};
-ghost use Rattle.pixel_rows.specs.Blocks.{in_block, in_block_at, in_range, Rewritten};
-ghost use Rattle.pixel_rows.specs.Blocks as blocks;
+ghost use Rattle.std.specs.Prelude.{◌≡◌, ◌+◌, ◌*◌, ◌≤◌, ℕ, length};
+ghost use Rattle.pixel_formats.specs.Formats as formats;
+ghost use Rattle.pixel_formats.specs.Pixels as pixels;
+ghost use Rattle.pixel_rows.specs.Blocks.{in_block, in_range, Rewritten};
+ghost use Rattle.pixel_rows.specs.Cells.{HasForm, cells_in, seen};
+ghost use Rattle.pixel_rows.specs.Images.{no_pixel};
 ghost use Rattle.pixel_rows.specs.Masks as masks;
 ghost use Rattle.pixel_rows.specs.Painting.{painted_pixels};
-ghost use Rattle.pixel_rows.specs.Rects.{IsInside};
 
-use crate::masks::{Mask, masked};
-use crate::rects::Rect;
-use egl_calls::unsigned;
-use pixel_formats::Pixel;
+use crate::blocks::Block;
+use crate::cells::{Cells, cell_in};
+use crate::kernels::{blend_range, fill_range};
+use crate::masks::{Mask, is_whole, mask_in};
+use pixel_formats::{Format, Pixel, quantize};
 
-/// The columns from `left` and the rows from `bottom`, up to before `right` and `top`.
-#[derive(Clone, Copy, Drop)]
-pub(crate) struct Block {
-    pub(crate) left: usize,
-    pub(crate) right: usize,
-    pub(crate) bottom: usize,
-    pub(crate) top: usize,
-}
-
-/// The block of a rectangle inside an image.
-pub(crate) fn block_of(rect: Rect, width: u32, height: u32) -> Block
-    requires { IsInside rect width height }
-    ensures block { result ≡ blocks.block_of rect }
-    ensures columns { (result.left ≤ result.right) × (result.right ≤ width) }
-    ensures rows { (result.bottom ≤ result.top) × (result.top ≤ height) }
+/// Writes a pixel under a mask at the places from `start` up to before `end`.
+fn write_range<const N: usize>(
+    cells: &mut [[u8; N]],
+    start: usize,
+    end: usize,
+    f: Format,
+    p: Pixel,
+    mask: Mask,
+)
+    requires range { (start ≤ end) × (end ≤ length cells.old) }
+    requires form { N ≡ formats.bytes_of f }
+    ensures { Rewritten no_pixel (in_range start end) (λ _ old. masks.written f mask old p) (seen f cells.old) (seen f cells.new) }
 {
-    let (left, bottom) = (unsigned(rect.x) as usize, unsigned(rect.y) as usize);
-    Block {
-        left,
-        right: left + unsigned(rect.w) as usize,
-        bottom,
-        top: bottom + unsigned(rect.h) as usize,
+    if is_whole(f, mask) {
+        fill_range(cells, start, end, cell_in(f, p));
+    } else {
+        blend_range(cells, start, end, f, quantize(f, p), mask_in(f, mask));
     }
 }
 
-/// Writes `p` at the places from `start` up to before `end`.
-fn fill_range(cells: &mut [Pixel], start: usize, end: usize, p: Pixel, mask: Mask)
-    requires { (start ≤ end) × (end ≤ length cells.old) }
-    ensures { Rewritten (in_range start end) (λ old. masks.masked mask old p) cells.old cells.new }
-{
-    'cells: for at in start..end {
-        cells[at] = masked(mask, cells[at], p);
-    }
-}
-
-fn fill_rows(cells: &mut [Pixel], width: usize, block: Block, p: Pixel, mask: Mask)
+fn fill_rows<const N: usize>(
+    cells: &mut [[u8; N]],
+    width: usize,
+    block: Block,
+    f: Format,
+    p: Pixel,
+    mask: Mask,
+)
     requires columns { (block.left ≤ block.right) × (block.right ≤ width) }
     requires rows { (block.bottom ≤ block.top) × (block.top * width ≤ length cells.old) }
-    ensures { Rewritten (in_block width block) (λ old. masks.masked mask old p) cells.old cells.new }
+    requires form { N ≡ formats.bytes_of f }
+    ensures { Rewritten no_pixel (in_block width block) (λ _ old. masks.written f mask old p) (seen f cells.old) (seen f cells.new) }
 {
     'rows: for y in block.bottom..block.top {
-        fill_range(
-            cells,
-            y * width + block.left,
-            y * width + block.right,
-            p,
-            mask,
-        );
+        let start = y * width;
+        write_range(cells, start + block.left, start + block.right, f, p, mask);
     }
 }
 
-/// Writes `p` into each pixel of a block of rows of `width` pixels.
-pub(crate) fn fill_block(pixels: &mut Vec<Pixel>, width: usize, block: Block, p: Pixel, mask: Mask)
+/// The same of a vector.
+fn fill_vec<const N: usize>(
+    cells: &mut Vec<[u8; N]>,
+    width: usize,
+    block: Block,
+    f: Format,
+    p: Pixel,
+    mask: Mask,
+)
     requires columns { (block.left ≤ block.right) × (block.right ≤ width) }
-    requires rows { (block.bottom ≤ block.top) × (block.top * width ≤ length pixels.old.items) }
-    ensures { pixels.new.items ≡ painted_pixels width (in_block_at block) (λ _ _ old. masks.masked mask old p) pixels.old.items }
+    requires rows { (block.bottom ≤ block.top) × (block.top * width ≤ length cells.old.items) }
+    requires form { N ≡ formats.bytes_of f }
+    ensures { Rewritten no_pixel (in_block width block) (λ _ old. masks.written f mask old p) (seen f cells.old.items) (seen f cells.new.items) }
 {
-    fill_rows(pixels.as_mut_slice(), width, block, p, mask);
+    fill_rows(cells.as_mut_slice(), width, block, f, p, mask);
+}
+
+/// Writes a pixel under a mask into each place of a block of rows of `width` pixels.
+pub(crate) fn fill_block(
+    cells: &mut Cells,
+    width: usize,
+    block: Block,
+    f: Format,
+    p: Pixel,
+    mask: Mask,
+)
+    requires columns { (block.left ≤ block.right) × (block.right ≤ width) }
+    requires rows { (block.bottom ≤ block.top) × (block.top * width ≤ length (cells_in cells.old)) }
+    requires form { HasForm f cells.old }
+    ensures pixels { Rewritten no_pixel (in_block width block) (λ _ old. masks.written f mask old p) (seen f (cells_in cells.old)) (seen f (cells_in cells.new)) }
+    ensures form { HasForm f cells.new }
+{
+    match cells {
+        Cells::One(cells) => fill_vec(cells, width, block, f, p, mask),
+        Cells::Two(cells) => fill_vec(cells, width, block, f, p, mask),
+        Cells::Three(cells) => fill_vec(cells, width, block, f, p, mask),
+        Cells::Four(cells) => fill_vec(cells, width, block, f, p, mask),
+    }
 }

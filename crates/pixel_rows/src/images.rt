@@ -1,61 +1,67 @@
 //! Images.
 
-ghost use Rattle.std.specs.Prelude.{◌≡◌, ◌+◌, ◌*◌, ◌<◌, ◌≤◌, length, replicate, OnOk, OnErr, IfOk};
+ghost use Rattle.std.specs.Prelude.{◌≡◌, ◌+◌, ◌*◌, ◌<◌, ◌≤◌, length, replicate, true, IsOk, OnOk, OnErr, IfOk, IfErr};
+ghost use Rattle.pixel_formats.specs.declared.formats.Format.TheVariants.{Rgba8888};
+ghost use Rattle.pixel_rows.specs.Images as values;
 ghost use Rattle.pixel_rows.specs.Images.{IsImage, IsSameShape, blank, pixel_at};
 ghost use Rattle.pixel_rows.specs.Painting.{painted};
+ghost use Rattle.pixel_rows.specs.Payloads.{loaded};
 ghost use Rattle.pixel_rows.specs.Rects.{IsInside, is_at, is_in};
 ghost use Rattle.pixel_rows.specs.Transfers as transfers;
 ghost use Rattle.pixel_rows.specs.Transfers.{HasReadSides, IsAlignment};
 
-use crate::fills::{Block, block_of, fill_block};
-use crate::masks::{Mask, mask_in};
+use crate::blocks::{Block, block_of};
+use crate::cells::Cells;
+use crate::masks::Mask;
 use crate::rects::Rect;
-use crate::transfers;
+use crate::rows::{Rows, copy_rows, fill_rows, load_rows, own, owns, pixel_in_rows};
+use crate::{rows, transfers};
 use egl_calls::{Bytes, NoMemory};
-use pixel_formats::{Format, Pixel, quantize};
+use pixel_formats::{Format, Pixel};
 use std::alloc::Global;
+use std::fmt::{self, Debug, Formatter, Write};
 use std::marker::Model;
+use thiserror::Error;
 
 /// A format and rows of pixels, row 0 the lowest. Sides are at most 2,048 pixels.
 ///
-/// A pixel is kept as what its stored components read as at 8 bits. From that each of them is found
-/// again, so nothing is lost or added.
+/// A pixel is kept in the bytes of the format, one to four of them. The bytes are the image's own, or
+/// they are frozen: then other images may share them, and the first write gives the image its own.
 #[derive(Drop)]
 pub struct Image {
     pub(crate) format: Format,
     pub(crate) width: u32,
     pub(crate) height: u32,
-    pub(crate) pixels: Vec<Pixel>,
+    pub(crate) rows: Rows,
 }
 
 impl Model for Image {
-    ghost use Rattle.pixel_rows.specs.Images.{ImageValue, IsWhole};
+    ghost use Rattle.pixel_rows.specs.Cells.{seen};
+    ghost use Rattle.pixel_rows.specs.Images.{ImageValue};
+    ghost use Rattle.pixel_rows.specs.Rows.{IsStored, cells_in_rows, is_owned};
 
     ghost Value = { ImageValue };
 
-    ghost view = { λ i. record { format = i.format; width = i.width; height = i.height; pixels = i.pixels.items } };
+    ghost view = { λ i. record { format = i.format; width = i.width; height = i.height; pixels = seen i.format (cells_in_rows i.rows); owned = is_owned i.rows } };
 
-    ghost invariant = { λ i. IsWhole i.width i.height i.pixels.items };
+    ghost invariant = { λ i. IsStored i.format i.width i.height i.rows };
 }
 
-const NO_PIXEL: Pixel = Pixel {
-    r: 0,
-    g: 0,
-    b: 0,
-    a: 0,
-};
-
-/// So many copies of a pixel.
-fn copies(alloc: Global, count: usize, p: Pixel) -> Result<Vec<Pixel>, NoMemory>
-    ensures { IfOk result (λ v. v.items ≡ replicate count p) }
-{
-    let Ok(mut pixels) = Vec::with_capacity(alloc, count) else {
-        return Err(NoMemory);
-    };
-    'each: for _k in 0..count {
-        pixels.push_reserved(p);
+impl Debug for Image {
+    fn fmt<W: Write>(&self, f: &mut Formatter<W>) -> fmt::Result {
+        write!(
+            f,
+            "Image({:?}, {}, {})",
+            self.format, self.width, self.height
+        )
     }
-    Ok(pixels)
+}
+
+/// Memory ran out before an image was frozen. It is handed back as it was.
+#[derive(Debug, Drop, Error)]
+#[error("memory ran out before an image was frozen")]
+pub struct FreezeError {
+    pub image: Image,
 }
 
 impl Image {
@@ -65,12 +71,11 @@ impl Image {
         ensures { IfOk result (λ i. i ≡ blank format w h) }
     {
         let count = h as usize * w as usize;
-        let pixels = copies(alloc, count, quantize(format, NO_PIXEL))?;
         Ok(Image {
             format,
             width: w,
             height: h,
-            pixels,
+            rows: Rows::Owned(Cells::zeros(alloc, format, count)?),
         })
     }
 
@@ -98,21 +103,72 @@ impl Image {
         self.height
     }
 
+    /// Whether the bytes are the image's own, so that a write takes no memory.
+    pub fn is_owned(&self) -> bool
+        ensures { result ≡ self.now.owned }
+    {
+        owns(&self.rows)
+    }
+
+    /// The same pixels, frozen, so that `share` copies none of them.
+    pub fn freeze(self) -> Result<Image, FreezeError>
+        ensures frozen { IfOk result (λ i. i ≡ values.frozen self) }
+        ensures err { IfErr result (λ e. e.image ≡ self) }
+    {
+        let Image {
+            format,
+            width,
+            height,
+            rows,
+        } = self;
+        match rows::frozen(rows) {
+            Ok(rows) => Ok(Image {
+                format,
+                width,
+                height,
+                rows,
+            }),
+            Err(rows) => Err(FreezeError {
+                image: Image {
+                    format,
+                    width,
+                    height,
+                    rows,
+                },
+            }),
+        }
+    }
+
+    /// An equal image. A later write to either leaves the other. Of a frozen image no pixel is copied.
+    pub fn share(&self) -> Result<Image, NoMemory>
+        ensures { IfOk result (λ i. i ≡ self.now) }
+    {
+        Ok(Image {
+            format: self.format,
+            width: self.width,
+            height: self.height,
+            rows: rows::share(&self.rows)?,
+        })
+    }
+
     /// The pixel in column `x` and row `y`, at 8 bits a component.
     pub fn at(&self, x: u32, y: u32) -> Pixel
         requires { (x < self.now.width) × (y < self.now.height) }
         ensures { result ≡ pixel_at self.now x y }
     {
-        self.pixels[y as usize * self.width as usize + x as usize]
+        let place = y as usize * self.width as usize + x as usize;
+        pixel_in_rows(&self.rows, place, self.format)
     }
 
-    /// Writes one pixel. Want of memory leaves the image as it was.
+    /// Writes one pixel. Want of memory leaves the image as it was, and it comes only where the bytes
+    /// aren't the image's own.
     pub fn put(&mut self, x: u32, y: u32, p: Pixel, mask: Mask) -> Result<(), NoMemory>
         requires { (x < self.old.width) × (y < self.old.height) }
         ensures ok { OnOk result (self.new ≡ painted self.old (is_at x y) (λ _ _. p) mask) }
         ensures shape { IsSameShape self.old self.new }
         ensures whole { IsImage self.new }
         ensures err { OnErr result (self.new ≡ self.old) }
+        ensures room { self.old.owned ≡ true → IsOk result }
     {
         let (x, y) = (x as usize, y as usize);
         let block = Block {
@@ -121,24 +177,87 @@ impl Image {
             bottom: y,
             top: y + 1,
         };
-        let mask = mask_in(self.format, mask);
-        let kept = quantize(self.format, p);
-        fill_block(&mut self.pixels, self.width as usize, block, kept, mask);
+        own(&mut self.rows)?;
+        fill_rows(
+            &mut self.rows,
+            self.width as usize,
+            block,
+            self.format,
+            p,
+            mask,
+        );
         Ok(())
     }
 
-    /// Writes a rectangle of pixels. Want of memory leaves the image as it was.
+    /// Writes a rectangle of pixels. Want of memory leaves the image as it was, and it comes only where
+    /// the bytes aren't the image's own.
     pub fn fill_rect(&mut self, rect: Rect, p: Pixel, mask: Mask) -> Result<(), NoMemory>
         requires { IsInside rect self.old.width self.old.height }
         ensures ok { OnOk result (self.new ≡ painted self.old (is_in rect) (λ _ _. p) mask) }
         ensures shape { IsSameShape self.old self.new }
         ensures whole { IsImage self.new }
         ensures err { OnErr result (self.new ≡ self.old) }
+        ensures room { self.old.owned ≡ true → IsOk result }
     {
         let block = block_of(rect, self.width, self.height);
-        let mask = mask_in(self.format, mask);
-        let p = quantize(self.format, p);
-        fill_block(&mut self.pixels, self.width as usize, block, p, mask);
+        own(&mut self.rows)?;
+        fill_rows(
+            &mut self.rows,
+            self.width as usize,
+            block,
+            self.format,
+            p,
+            mask,
+        );
+        Ok(())
+    }
+
+    /// Writes a rectangle of pixels from bytes of the format `from`. The first row is the lowest. Each
+    /// row takes the smallest multiple of `align` bytes that holds its pixels, the bytes past the end
+    /// are 0, and of a two-byte pixel the low byte comes first (OpenGL ES 1.1, "Unpacking"). Want of
+    /// memory leaves the image as it was, and it comes only where the bytes aren't the image's own.
+    pub fn load_rows(
+        &mut self,
+        rect: Rect,
+        bytes: &Bytes,
+        from: Format,
+        align: u32,
+    ) -> Result<(), NoMemory>
+        requires rect { IsInside rect self.old.width self.old.height }
+        requires alignment { IsAlignment align }
+        ensures ok { OnOk result (self.new ≡ loaded self.old rect bytes.now from align) }
+        ensures shape { IsSameShape self.old self.new }
+        ensures whole { IsImage self.new }
+        ensures err { OnErr result (self.new ≡ self.old) }
+        ensures room { self.old.owned ≡ true → IsOk result }
+    {
+        let target = block_of(rect, self.width, self.height);
+        own(&mut self.rows)?;
+        load_rows(
+            &mut self.rows,
+            self.width as usize,
+            target,
+            bytes.as_slice(),
+            align,
+            self.format,
+            from,
+        );
+        Ok(())
+    }
+
+    /// Writes each pixel of an image of the same sides, at 8 bits a component in `Rgba8888`. Want of memory leaves the image as it was, and it
+    /// comes only where the bytes aren't the image's own.
+    pub fn copy_pixels(&mut self, from: &Image) -> Result<(), NoMemory>
+        requires { (from.now.width ≡ self.old.width) × (from.now.height ≡ self.old.height) }
+        ensures ok { OnOk result (self.new ≡ values.copied self.old from.now) }
+        ensures eight_bits { OnOk result (self.old.format ≡ Rgba8888 → self.new.pixels ≡ from.now.pixels) }
+        ensures shape { IsSameShape self.old self.new }
+        ensures whole { IsImage self.new }
+        ensures err { OnErr result (self.new ≡ self.old) }
+        ensures room { self.old.owned ≡ true → IsOk result }
+    {
+        own(&mut self.rows)?;
+        copy_rows(&mut self.rows, &from.rows, self.format, from.format);
         Ok(())
     }
 

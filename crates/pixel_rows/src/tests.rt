@@ -1,10 +1,12 @@
 //! Vectors from outside: the expected values were computed over rows of component numbers in each
 //! format's own bits, converted directly between bit sizes over exact fractions.
 
-ghost use Rattle.std.specs.Prelude.{◌≡◌};
+ghost use Rattle.std.specs.Prelude.{◌≡◌, ◌<◌};
 
 use super::*;
+use egl_calls::Bytes;
 use pixel_formats::{Format, Pixel, quantize};
+use std::alloc::{AllocError, Global};
 use std::test::Fail;
 
 const ALL: Mask = Mask {
@@ -204,5 +206,92 @@ fn rows_have_their_padding_and_zeros_outside(rt: HostRuntime) -> Result<(), Fail
         (image.format(), image.width(), image.height()),
         (Format::Rgba8888, 3, 2)
     );
+    Ok(())
+}
+
+/// A row of 70 pixels of three bytes, of which `count` from the second on are 200, 100, 50.
+fn plain(alloc: Global, count: u32) -> Result<Vec<u8>, AllocError>
+    requires { count < 68 }
+{
+    let mut row = Vec::new(alloc);
+    for x in 0..70u32 {
+        let filled = 1 <= x && x < count + 1;
+        for byte in [200u8, 100, 50] {
+            row.push(if filled { byte } else { 0 })?;
+        }
+    }
+    Ok(row)
+}
+
+#[test]
+fn fills_of_each_length_equal_the_plain_fill(rt: HostRuntime) -> Result<(), Fail> {
+    for count in 0..68u32 {
+        let mut image = Image::new(rt.alloc(), Format::Rgb888, 70, 1)?;
+        let run = rect(1, 0, i64::from(count), 1);
+        image.fill_rect(run, pixel([200, 100, 50, 9]), ALL)?;
+        let row = image.row_bytes(rt.alloc(), rect(0, 0, 70, 1), Format::Rgb888, 1)?;
+        let expected = plain(rt.alloc(), count)?;
+        assert_eq!(rt; row.as_slice(), expected.as_slice(), "{count}");
+    }
+    Ok(())
+}
+
+#[test]
+fn a_write_to_one_of_two_shared_images_leaves_the_other(rt: HostRuntime) -> Result<(), Fail> {
+    let red = pixel([255, 0, 0, 255]);
+    let blue = pixel([0, 0, 255, 255]);
+    let mut owned = Image::new(rt.alloc(), Format::Rgba8888, 2, 1)?;
+    owned.fill_rect(rect(0, 0, 2, 1), red, ALL)?;
+    assert!(rt; owned.is_owned());
+    let copy = owned.share()?;
+    assert!(rt; copy.is_owned());
+    let Ok(mut first) = owned.freeze() else {
+        return Err(Fail::from("memory ran out"));
+    };
+    assert!(rt; !first.is_owned());
+    let mut second = first.share()?;
+    let third = second.share()?;
+    assert!(rt; !second.is_owned());
+    first.put(1, 0, blue, ALL)?;
+    assert!(rt; first.is_owned());
+    assert_eq!(rt; [first.at(0, 0), first.at(1, 0)], [red, blue]);
+    assert_eq!(rt; [second.at(0, 0), second.at(1, 0)], [red, red]);
+    second.put(0, 0, blue, ALL)?;
+    assert_eq!(rt; [second.at(0, 0), second.at(1, 0)], [blue, red]);
+    assert_eq!(rt; [third.at(0, 0), third.at(1, 0)], [red, red]);
+    assert_eq!(rt; [copy.at(0, 0), copy.at(1, 0)], [red, red]);
+    Ok(())
+}
+
+#[test]
+fn payloads_have_their_padding_and_zeros_past_their_end(rt: HostRuntime) -> Result<(), Fail> {
+    // rows of two pixels of three bytes, padded to eight, of which the second row ends in its first pixel
+    let short = Bytes::from_vec([1, 2, 3, 4, 5, 6, 77, 88, 9, 8].to_vec(rt.alloc())?);
+    let mut image = Image::new(rt.alloc(), Format::Rgb888, 3, 3)?;
+    image.fill_rect(rect(0, 0, 3, 3), pixel([50, 60, 70, 80]), ALL)?;
+    image.load_rows(rect(1, 1, 2, 2), &short, Format::Rgb888, 8)?;
+    let bytes = image.row_bytes(rt.alloc(), rect(0, 0, 3, 3), Format::Rgb888, 1)?;
+    assert_eq!(rt;
+        bytes.as_slice(),
+        [
+            50, 60, 70, 50, 60, 70, 50, 60, 70, 50, 60, 70, 1, 2, 3, 4, 5, 6, 50, 60, 70, 9, 8, 0,
+            0, 0, 0
+        ]
+        .as_slice()
+    );
+    // two-byte pixels, the low byte first: full red, and what a colour of one half becomes in five and six bits
+    let packed = Bytes::from_vec([0x00, 0xf8, 0x10, 0x84].to_vec(rt.alloc())?);
+    image.load_rows(rect(0, 0, 2, 1), &packed, Format::Rgb565, 4)?;
+    let row = image.row_bytes(rt.alloc(), rect(0, 0, 2, 1), Format::Rgba8888, 4)?;
+    assert_eq!(rt;
+        row.as_slice(),
+        [255, 0, 0, 255, 132, 130, 132, 255].as_slice()
+    );
+    let nothing = Bytes::new(rt.alloc());
+    let mut faded = Image::new(rt.alloc(), Format::La88, 2, 1)?;
+    faded.fill_rect(rect(0, 0, 2, 1), pixel([9, 9, 9, 9]), ALL)?;
+    faded.load_rows(rect(1, 0, 1, 1), &nothing, Format::La88, 1)?;
+    let kept = faded.row_bytes(rt.alloc(), rect(0, 0, 2, 1), Format::La88, 1)?;
+    assert_eq!(rt; kept.as_slice(), [9, 9, 0, 0].as_slice());
     Ok(())
 }

@@ -1,3 +1,4 @@
 pub mod Formats
 pub mod Surfaces
 pub mod Laws
+pub mod Windows

@@ -1,13 +1,16 @@
-//! Surfaces: for now pbuffers, with the config, the sides and the pixels that they are made with.
+//! Surfaces of windows and pbuffers, with the config, the sides and the pixels that they are made with,
+//! and windows with the pixels that they show.
 #![tactic(auto)]
 
 mod formats;
 mod laws;
 mod surfaces;
+mod windows;
 
 pub use formats::format_of;
 pub use laws::{compatible_store_alike, formats_have_sizes, pbuffers_fit, taken_fits};
 pub use surfaces::Surface;
+pub use windows::{MOST_WINDOWS, Window, WindowSpec, swap, windows_ok};
 
 #[cfg(test)]
 mod tests;

@@ -1,7 +1,12 @@
-//! Pbuffers of each config, which hand out their pixels once.
+//! Pbuffers of each config, which hand out their pixels once; windows, swaps and queries.
 
 use super::*;
+use egl_names::codes::{
+    EGL_BACK_BUFFER, EGL_BUFFER_DESTROYED, EGL_BUFFER_PRESERVED, EGL_CONFIG_ID, EGL_HEIGHT,
+    EGL_LARGEST_PBUFFER, EGL_RENDER_BUFFER, EGL_SINGLE_BUFFER, EGL_SWAP_BEHAVIOR, EGL_WIDTH,
+};
 use pixel_formats::{Format, Pixel};
+use pixel_rows::{Image, Mask};
 use std::test::Fail;
 
 // by the ids 1 to 8: the format of the config's surfaces, and the alpha that a stored 0 reads as there
@@ -68,4 +73,114 @@ fn a_number_that_is_no_config_has_a_format(rt: HostRuntime) {
     for id in [0, 9, -1, -4_294_967_295, 4_294_967_297] {
         assert_eq!(rt; format_of(id), Format::Rgba8888);
     }
+}
+
+const ALL: Mask = Mask {
+    r: true,
+    g: true,
+    b: true,
+    a: true,
+};
+
+fn spec(id: i64, w: u32, h: u32) -> WindowSpec {
+    WindowSpec { id, w, h }
+}
+
+// a surface of config 1 keeps 5, 6 and 5 bits: a colour of one half is 132, 130, 132 at 8 bits
+#[test]
+fn a_swap_shows_the_pixels_at_eight_bits_and_then_zeroes(rt: HostRuntime) -> Result<(), Fail> {
+    let half = Pixel {
+        r: 128,
+        g: 128,
+        b: 128,
+        a: 128,
+    };
+    let shown = Pixel {
+        r: 132,
+        g: 130,
+        b: 132,
+        a: 255,
+    };
+    for preserve in [true, false] {
+        let mut window = Window::new(rt.alloc(), WindowSpec { id: 1, w: 1, h: 1 })?;
+        let mut back = Image::new(rt.alloc(), Format::Rgb565, 1, 1)?;
+        assert_eq!(rt; window.front().at(0, 0), clear(0));
+        back.put(0, 0, half, ALL)?;
+        swap(&mut window, &mut back, preserve)?;
+        assert_eq!(rt; window.front().at(0, 0), shown);
+        let left = if preserve { shown } else { clear(255) };
+        assert_eq!(rt; back.at(0, 0), left);
+        assert_eq!(rt; window.id(), 1);
+    }
+    Ok(())
+}
+
+#[test]
+fn a_surface_tells_its_six_attributes(rt: HostRuntime) -> Result<(), Fail> {
+    let mut shown = Surface::for_window(rt.alloc(), 7, WindowSpec { id: 9, w: 4, h: 3 }, true)?;
+    assert_eq!(rt; shown.window(), Some(9));
+    assert_eq!(rt; shown.query(0x3000), None);
+    assert_eq!(rt; shown.query(-1), None);
+    let codes = [
+        EGL_CONFIG_ID,
+        EGL_WIDTH,
+        EGL_HEIGHT,
+        EGL_SWAP_BEHAVIOR,
+        EGL_RENDER_BUFFER,
+        EGL_LARGEST_PBUFFER,
+    ];
+    let values = [
+        7,
+        4,
+        3,
+        EGL_BUFFER_PRESERVED as i64,
+        EGL_SINGLE_BUFFER as i64,
+        0,
+    ];
+    for k in 0..6usize {
+        assert_eq!(rt; shown.query(codes[k] as i64), Some(values[k]), "{k}");
+    }
+    shown.set_swap_behavior(false);
+    assert_eq!(rt;
+        shown.query(EGL_SWAP_BEHAVIOR as i64),
+        Some(EGL_BUFFER_DESTROYED as i64)
+    );
+    let plain = Surface::pbuffer(rt.alloc(), 3, 2, 0, true)?;
+    assert_eq!(rt; plain.window(), None);
+    assert_eq!(rt; plain.query(EGL_LARGEST_PBUFFER as i64), Some(1));
+    assert_eq!(rt;
+        plain.query(EGL_RENDER_BUFFER as i64),
+        Some(EGL_BACK_BUFFER as i64)
+    );
+    Ok(())
+}
+
+#[test]
+fn windows_have_distinct_ids_and_sides_within_bounds(rt: HostRuntime) {
+    let last = 2_147_483_647;
+    assert!(rt; windows_ok(&[]));
+    assert!(rt; windows_ok(&[spec(1, 1, 1), spec(last, 2_048, 2_048)]));
+    assert!(rt; windows_ok(&[spec(1, 1, 1); 1]));
+    assert!(rt; !windows_ok(&[spec(1, 1, 1), spec(2, 1, 1), spec(1, 5, 5)]));
+    for bad in [
+        spec(0, 1, 1),
+        spec(last + 1, 1, 1),
+        spec(-1, 1, 1),
+        spec(1, 0, 1),
+        spec(1, 1, 0),
+        spec(1, 2_049, 1),
+        spec(1, 1, 2_049),
+    ] {
+        assert!(rt; !windows_ok(&[bad]), "{bad:?}");
+    }
+    let mut most = [spec(1, 1, 1); 64];
+    for k in 0..64usize {
+        most[k] = spec(k as i64 + 1, 1, 1);
+    }
+    assert!(rt; windows_ok(&most));
+    let mut many = [spec(1, 1, 1); 65];
+    for k in 0..65usize {
+        many[k] = spec(k as i64 + 1, 1, 1);
+    }
+    assert!(rt; !windows_ok(&many));
 }

@@ -1,0 +1,80 @@
+//! The loops over packed pixels, one for each number of bytes that a pixel has. Each says what a plain
+//! pass over the places would leave.
+
+ghost use Rattle.std.specs.Prelude.{◌≡◌, ◌+◌, ◌-◌, ◌≤◌, [], length, slice_index_or};
+ghost use Rattle.pixel_rows.specs.Blocks.{in_range, Rewritten};
+ghost use Rattle.pixel_rows.specs.Cells.{blended, converted};
+
+use crate::cells::{cell_in, pixel_in};
+use crate::masks::{Mask, masked};
+use pixel_formats::{Format, Pixel};
+
+/// Writes a row of cells from the place `at` on.
+#[inline(always)]
+pub(crate) fn copy_range<const N: usize>(cells: &mut [[u8; N]], at: usize, row: &[[u8; N]])
+    requires { at + length row.now ≤ length cells.old }
+    ensures { Rewritten [] (in_range at (at + length row.now)) (λ k _. slice_index_or row.now (k - at) []) cells.old cells.new }
+{
+    cells[at..at + row.len()].copy_from_slice(row);
+}
+
+/// How many cells a fill copies at a time.
+const RUN: usize = 16;
+
+/// Writes a cell at the places from `start` up to before `end`: as many as go by runs, and then the
+/// rest, each by itself.
+pub(crate) fn fill_range<const N: usize>(
+    cells: &mut [[u8; N]],
+    start: usize,
+    end: usize,
+    cell: [u8; N],
+)
+    requires { (start ≤ end) × (end ≤ length cells.old) }
+    ensures { Rewritten [] (in_range start end) (λ _ _. cell.entry) cells.old cells.new }
+{
+    let run = [cell; RUN];
+    let mut at = start;
+    'runs: while end - at >= RUN {
+        copy_range(cells, at, &run);
+        at += RUN;
+    }
+    'cells: for k in at..end {
+        cells[k] = cell;
+    }
+}
+
+/// Writes the components of a pixel that a mask names, at the places from `start` up to before `end`.
+pub(crate) fn blend_range<const N: usize>(
+    cells: &mut [[u8; N]],
+    start: usize,
+    end: usize,
+    f: Format,
+    p: Pixel,
+    mask: Mask,
+)
+    requires range { (start ≤ end) × (end ≤ length cells.old) }
+    requires four { N ≤ 4 }
+    ensures { Rewritten [] (in_range start end) (λ _ old. blended N f mask p old) cells.old cells.new }
+{
+    'cells: for at in start..end {
+        let old = pixel_in(f, cells[at]);
+        cells[at] = cell_in(f, masked(mask, old, p));
+    }
+}
+
+/// Writes a row of cells of the format `from` from the place `at` on, in the format `f`.
+pub(crate) fn convert_range<const N: usize, const M: usize>(
+    cells: &mut [[u8; N]],
+    at: usize,
+    row: &[[u8; M]],
+    f: Format,
+    from: Format,
+)
+    requires range { at + length row.now ≤ length cells.old }
+    requires four { (N ≤ 4) × (M ≤ 4) }
+    ensures { Rewritten [] (in_range at (at + length row.now)) (λ k _. converted N f from (slice_index_or row.now (k - at) [])) cells.old cells.new }
+{
+    'cells: for k in 0..row.len() {
+        cells[at + k] = cell_in(f, pixel_in(from, row[k]));
+    }
+}
