@@ -1,0 +1,4 @@
+pub mod GreatestLaws
+pub mod LevelLaws
+pub mod TextureLaws
+pub mod UploadLaws

@@ -1,0 +1,9 @@
+pub mod MinFilters
+pub mod MagFilters
+pub mod WrapModes
+pub mod Textures
+pub mod Greatest
+pub mod Levels
+pub mod Forms
+pub mod Uploads
+pub mod Laws
