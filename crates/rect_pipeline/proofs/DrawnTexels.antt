@@ -1,0 +1,42 @@
+-- What a draw of texels leaves.
+use Rattle.std.proofs.Common.{◌≡◌, ℕ, ◌+◌, ◌-◌, ◌<◌, ◌≤◌, Bool, true, false, ◌&&◌, cond, List, length, get_or, take, refl, sym, ap, ◌∙◌, arith, length-take}
+use Rattle.std.proofs.lemmas.List.{get_or-take}
+use Rattle.pixel_formats.specs.declared.pixels.Pixel.{Pixel}
+use Rattle.pixel_rows.specs.Images.{ImageValue, IsImage, pixel_at}
+use Rattle.pixel_rows.specs.Painting.{painted}
+use Rattle.pixel_rows.specs.declared.masks.Mask.{Mask}
+use Rattle.rect_pipeline.proofs.Covers.{region_is, span_is}
+use Rattle.rect_pipeline.proofs.Painted.{painted_same}
+use Rattle.rect_pipeline.specs.Drawing.{fragment_of}
+use Rattle.rect_pipeline.specs.Targets.{in_region, in_span}
+use Rattle.rect_pipeline.specs.Texels.{texel_at}
+use Rattle.rect_pipeline.specs.declared.axes.Axis.{Axis}
+use Rattle.rect_pipeline.specs.declared.fragments.Environment.{Environment}
+use Rattle.rect_pipeline.specs.declared.spans.Span.{Span}
+use Rattle.rect_pipeline.specs.declared.targets.Region.{Region}
+
+-- a list has the texels of a span
+abbrev pub Shows : Axis → Span → List ℕ → Type 0
+Shows a s list = (u : ℕ) → in_span s u ≡ true → get_or list (u - s.start) 0 ≡ texel_at a u
+
+pub shows : (a : Axis) (s : Span) (list shown : List ℕ) → shown ≡ take (s.end - s.start) list →
+    ((k : ℕ) → k < s.end - s.start → get_or list k 0 ≡ texel_at a (s.start + k)) → Shows a s shown
+shows a s list shown cut each u t =
+    let at = span_is s u t in
+    let within : u - s.start < s.end - s.start = omega (arith, at.0, at.1) in
+    let same : s.start + (u - s.start) ≡ u = omega (arith, at.0) in
+    ap (λ l. get_or l (u - s.start) 0) cut ∙ get_or-take (s.end - s.start) list (u - s.start) 0 within ∙ each (u - s.start) within ∙ ap (texel_at a) same
+
+pub shown-below : (list shown : List ℕ) (n m : ℕ) → shown ≡ take n list → n ≤ length list → ((k : ℕ) → k < n → get_or list k 0 < m) → (k : ℕ) → k < length shown → get_or shown k 0 < m
+shown-below list shown n m cut room each k h =
+    let long : length shown ≤ n = omega (arith, ap length cut, length-take n list) in
+    let within : k < n = omega arith in
+    let at : get_or shown k 0 ≡ get_or list k 0 = ap (λ l. get_or l k 0) cut ∙ get_or-take n list k 0 within in
+    omega (arith, each k within, at)
+
+pub region_combined : (v new image : ImageValue) (r : Region) (e : Environment) (mask : Mask) (list : List ℕ) (columns rows : Axis) → IsImage v → Shows columns r.columns list →
+    new ≡ painted v (in_region r) (λ x y. fragment_of e (pixel_at image (get_or list (x - r.columns.start) 0) (texel_at rows y))) mask →
+    new ≡ painted v (in_region r) (λ x y. fragment_of e (pixel_at image (texel_at columns x) (texel_at rows y))) mask
+region_combined v new image r e mask list columns rows whole each is =
+    is ∙ painted_same v (in_region r) (in_region r) _ _ mask whole (λ x y h l. refl)
+    (λ x y h l t. ap (λ i. fragment_of e (pixel_at image i (texel_at rows y))) (each x (region_is r x y t).0))

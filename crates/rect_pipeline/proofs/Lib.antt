@@ -1,0 +1,9 @@
+pub mod Painted
+pub mod Covers
+pub mod Steps
+pub mod LawsHold
+pub mod CopyRows
+pub mod DrawnTexels
+pub mod Outcomes
+pub mod TexelSums
+pub mod DrawnWith

@@ -1,0 +1,160 @@
+//! Draws of a texture's pixels (OES_draw_texture).
+
+ghost use Rattle.std.specs.Prelude.{◌≡◌, ℕ, ◌-◌, ◌<◌, ◌≤◌, true, length, slice_index_or, IsOk, OnOk, OnErr};
+ghost use Rattle.pixel_rows.specs.Images.{IsImage, IsSameShape, pixel_at};
+ghost use Rattle.pixel_rows.specs.Painting.{painted};
+ghost use Rattle.rect_pipeline.specs.Drawing.{environment_of, fragment_of};
+ghost use Rattle.rect_pipeline.specs.Fragments.{colour_at_8};
+ghost use Rattle.rect_pipeline.specs.Signed.{IsAxis};
+ghost use Rattle.rect_pipeline.specs.Targets as targets;
+ghost use Rattle.rect_pipeline.specs.Targets.{IsRegionIn, IsSpanIn, IsWritable, in_region, in_row};
+ghost use Rattle.rect_pipeline.specs.Texels as texels;
+
+use crate::axes::{Axis, texel_at, texels};
+use crate::fragments::{Environment, colour_in};
+use crate::images::{own, put};
+use crate::spans::Span;
+use crate::targets::{Region, fill, mask_of};
+use context_state::ContextPart;
+use egl_calls::NoMemory;
+use pixel_formats::{Format, base_of};
+use pixel_rows::{Image, Mask};
+
+/// The most columns that an image has.
+const MOST_COLUMNS: usize = 2_048;
+
+/// Draws a part of a row: for each pixel the fragment of a texel of one row of a texture.
+fn draw_fragments(
+    target: &mut Image,
+    y: usize,
+    span: Span,
+    image: &Image,
+    columns: &[u32],
+    row: u32,
+    environment: Environment,
+    mask: Mask,
+)
+    requires owned { target.old.owned ≡ true }
+    requires row { (y < target.old.height) × (row < image.now.height) }
+    requires span { IsSpanIn span target.old.width }
+    requires long { length columns.now ≡ span.end - span.start }
+    requires texels { (k : ℕ) → k < length columns.now → slice_index_or columns.now k 0 < image.now.width }
+    ensures row { target.new ≡ painted target.old (in_row span y) (λ x _. fragment_of environment (pixel_at image.now (slice_index_or columns.now (x - span.start) 0) row)) mask }
+    ensures still { IsWritable target.old target.new }
+{
+    let _width = target.width();
+    'pixels: for x in span.start..span.end {
+        let texel = image.at(columns[x - span.start], row);
+        put(target, x, y, environment.fragment(texel), mask);
+    }
+}
+
+/// Draws a region from the texels of some columns of a texture: for each pixel the fragment of its texel.
+fn draw_combined(
+    target: &mut Image,
+    region: Region,
+    image: &Image,
+    columns: &[u32],
+    rows: Axis,
+    environment: Environment,
+    mask: Mask,
+)
+    requires owned { target.old.owned ≡ true }
+    requires region { IsRegionIn region target.old.width target.old.height }
+    requires long { length columns.now ≡ region.columns.end - region.columns.start }
+    requires columns { (k : ℕ) → k < length columns.now → slice_index_or columns.now k 0 < image.now.width }
+    requires rows { (IsAxis rows) × (rows.side ≡ image.now.height) }
+    ensures region { target.new ≡ painted target.old (in_region region) (λ x y. fragment_of environment (pixel_at image.now (slice_index_or columns.now (x - region.columns.start) 0) (texels.texel_at rows y))) mask }
+    ensures still { IsWritable target.old target.new }
+{
+    let (_width, _height) = (target.width(), target.height());
+    'rows: for y in region.rows.start..region.rows.end {
+        let row = texel_at(rows, y);
+        draw_fragments(
+            target,
+            y,
+            region.columns,
+            image,
+            columns,
+            row,
+            environment,
+            mask,
+        );
+    }
+}
+
+/// Draws a region from the texels of a texture that its columns and rows show.
+fn draw_region(
+    target: &mut Image,
+    region: Region,
+    image: &Image,
+    columns: Axis,
+    rows: Axis,
+    environment: Environment,
+    mask: Mask,
+)
+    requires owned { target.old.owned ≡ true }
+    requires region { IsRegionIn region target.old.width target.old.height }
+    requires columns { (IsAxis columns) × (columns.side ≡ image.now.width) }
+    requires rows { (IsAxis rows) × (rows.side ≡ image.now.height) }
+    ensures region { target.new ≡ painted target.old (in_region region) (λ x y. fragment_of environment (pixel_at image.now (texels.texel_at columns x) (texels.texel_at rows y))) mask }
+    ensures still { IsWritable target.old target.new }
+{
+    let (_width, _height) = (target.width(), target.height());
+    let list = texels::<MOST_COLUMNS>(columns, region.columns);
+    let shown = &list[..region.columns.end - region.columns.start];
+    draw_combined(target, region, image, shown, rows, environment, mask);
+}
+
+/// Draws a region in the colour of a context.
+pub(crate) fn draw_plain(
+    target: &mut Image,
+    part: &ContextPart,
+    region: Region,
+) -> Result<(), NoMemory>
+    requires { IsRegionIn region target.old.width target.old.height }
+    ensures ok { OnOk result (target.new ≡ painted target.old (in_region region) (λ _ _. colour_at_8 part.now.color) (targets.mask_of part.now.mask)) }
+    ensures shape { IsSameShape target.old target.new }
+    ensures whole { IsImage target.new }
+    ensures err { OnErr result (target.new ≡ target.old) }
+    ensures room { target.old.owned ≡ true → IsOk result }
+{
+    let colour = colour_in(Format::Rgba8888, part.color());
+    fill(target, region, colour, mask_of(part))
+}
+
+/// Draws a region from a texture, by the texture environment of a context.
+pub(crate) fn draw_textured(
+    target: &mut Image,
+    part: &ContextPart,
+    region: Region,
+    image: &Image,
+    columns: Axis,
+    rows: Axis,
+) -> Result<(), NoMemory>
+    requires region { IsRegionIn region target.old.width target.old.height }
+    requires columns { (IsAxis columns) × (columns.side ≡ image.now.width) }
+    requires rows { (IsAxis rows) × (rows.side ≡ image.now.height) }
+    ensures ok { OnOk result (target.new ≡ painted target.old (in_region region) (λ x y. fragment_of (environment_of part.now image.now) (pixel_at image.now (texels.texel_at columns x) (texels.texel_at rows y))) (targets.mask_of part.now.mask)) }
+    ensures shape { IsSameShape target.old target.new }
+    ensures whole { IsImage target.new }
+    ensures err { OnErr result (target.new ≡ target.old) }
+    ensures room { target.old.owned ≡ true → IsOk result }
+{
+    let environment = Environment {
+        replaces: part.replaces(),
+        base: base_of(image.format()),
+        colour: colour_in(Format::Rgba8888, part.color()),
+    };
+    own(target)?;
+    draw_region(
+        target,
+        region,
+        image,
+        columns,
+        rows,
+        environment,
+        mask_of(part),
+    );
+    Ok(())
+}
