@@ -1,5 +1,5 @@
 -- When each EGL call is refused, and with which error: the first row that holds.
-use Rattle.std.specs.Prelude.{ℕ, ◌+◌, ℤ, pos, Bool, false, not, ◌&&◌, ◌||◌, List, [], ◌∷◌, ◌++◌, if◌then◌else◌, nat_lt, int_lt}
+use Rattle.std.specs.Prelude.{ℕ, ◌+◌, ℤ, pos, Bool, false, not, ◌&&◌, ◌||◌, ◌==◌, List, [], ◌∷◌, ◌++◌, if◌then◌else◌, nat_lt, int_lt}
 use Rattle.std.specs.Ordering.{int_eq}
 use Rattle.std.specs.declared.option.Option.{Option}
 use Rattle.std.specs.declared.option.Option.TheVariants.{None}
@@ -7,12 +7,14 @@ use Rattle.egl_calls.specs.Calls.{CallValue}
 use Rattle.egl_calls.specs.declared.kinds.Kind.{Kind}
 use Rattle.egl_calls.specs.declared.kinds.Kind.TheVariants.{Egl}
 use Rattle.egl_calls.specs.declared.kinds.EglKind.{EglKind}
-use Rattle.egl_calls.specs.declared.kinds.EglKind.TheVariants.{GetError, GetDisplay, Initialize, Terminate, GetConfigs, ChooseConfig, GetConfigAttrib, CreatePbufferSurface, CreateContext, MakeCurrent, GetCurrentContext}
+use Rattle.egl_calls.specs.declared.kinds.EglKind.TheVariants.{GetError, GetDisplay, Initialize, Terminate, GetConfigs, ChooseConfig, GetConfigAttrib, CreatePbufferSurface, DestroySurface, QuerySurface, SurfaceAttrib, BindApi, QueryApi, CreateContext, DestroyContext, MakeCurrent, GetCurrentContext, GetCurrentSurface, GetCurrentDisplay, QueryContext, WaitClient, ReleaseThread}
 use Rattle.egl_calls.specs.declared.errors.EglError.{EglError}
+use Rattle.egl_calls.specs.Ranges.{unsigned}
+use Rattle.egl_names.specs.declared.codes.TheConstants.{EGL_SWAP_BEHAVIOR, EGL_BUFFER_PRESERVED, EGL_BUFFER_DESTROYED, EGL_OPENGL_ES_API, EGL_DRAW, EGL_READ}
 use Rattle.egl_calls.specs.declared.errors.EglError.TheVariants.{NotInitialized, BadAccess, BadAlloc, BadAttribute, BadConfig, BadContext, BadDisplay, BadMatch, BadParameter, BadSurface}
 use Rattle.call_rules.specs.declared.egl_facts.EglFacts.{EglFacts}
 use Rattle.call_rules.specs.Rows.{Row, ◌⇒◌, first_error, unbuilt}
-use Rattle.call_rules.specs.Arguments.{is_zero}
+use Rattle.call_rules.specs.Arguments.{is_zero, signed}
 
 -- the facts of a call that asks for none
 abbrev pub no_facts : EglFacts
@@ -39,6 +41,7 @@ no_facts = record {
   is_compatible = false;
   is_context_elsewhere = false;
   is_surface_elsewhere = false;
+  is_surface = false;
 }
 
 -- the row of a call that works on any display (section 3.2)
@@ -50,6 +53,18 @@ abbrev pub display_rows : EglFacts → List (Row EglError)
 display_rows f =
     display_row f ∷
     (not f.is_initialized ⇒ NotInitialized) ∷
+    []
+
+-- the rows of a call on a valid surface of an initialised display
+abbrev pub surface_rows : EglFacts → List (Row EglError)
+surface_rows f = display_rows f ++
+    (not f.is_surface ⇒ BadSurface) ∷
+    []
+
+-- the same of a context
+abbrev pub context_rows : EglFacts → List (Row EglError)
+context_rows f = display_rows f ++
+    (not f.is_context ⇒ BadContext) ∷
     []
 
 -- a side of a pbuffer above 2,048, the configs' EGL_MAX_PBUFFER_WIDTH and EGL_MAX_PBUFFER_HEIGHT (section 3.4)
@@ -96,6 +111,14 @@ fact_rows CreatePbufferSurface f = display_rows f ++
     (nat_lt f.video_limit (f.live_bytes + f.new_bytes) ⇒ BadAlloc) ∷
     (f.are_handles_used_up ⇒ BadAlloc) ∷
     []
+-- section 3.5.5
+fact_rows DestroySurface f = surface_rows f
+-- section 3.5.6
+fact_rows QuerySurface f = surface_rows f ++
+    (not f.is_attribute ⇒ BadAttribute) ∷
+    []
+-- section 3.7: never refused
+fact_rows QueryApi f = []
 -- section 3.7.1
 fact_rows CreateContext f = display_rows f ++
     (not f.is_config ⇒ BadConfig) ∷
@@ -106,8 +129,18 @@ fact_rows CreateContext f = display_rows f ++
     (not (is_supported_version f.version f.minor_version) ⇒ BadMatch) ∷
     (f.are_handles_used_up ⇒ BadAlloc) ∷
     []
--- section 3.7.4: never refused
+-- section 3.7.2
+fact_rows DestroyContext f = context_rows f
+-- section 3.7.4; the first two are never refused
 fact_rows GetCurrentContext f = []
+fact_rows GetCurrentDisplay f = []
+fact_rows QueryContext f = context_rows f ++
+    (not f.is_attribute ⇒ BadAttribute) ∷
+    []
+-- section 3.8: never refused
+fact_rows WaitClient f = []
+-- section 3.12: never refused
+fact_rows ReleaseThread f = []
 -- a call that isn't built
 fact_rows k f = unbuilt NotInitialized
 
@@ -130,9 +163,26 @@ current_rows c f = display_rows f ++
     (f.is_surface_elsewhere ⇒ BadAccess) ∷
     []
 
+-- whether the number at a place is the code of a name
+abbrev pub has_code : CallValue → ℕ → ℕ → Bool
+has_code c k code = unsigned (signed c k) == code
+
 -- the rows of each call
 abbrev pub egl_rows : EglKind → CallValue → EglFacts → List (Row EglError)
 egl_rows MakeCurrent c f = if is_release c then display_row f ∷ [] else current_rows c f
+-- section 3.5.6
+egl_rows SurfaceAttrib c f = surface_rows f ++
+    (not (has_code c 2 EGL_SWAP_BEHAVIOR) ⇒ BadAttribute) ∷
+    (not (has_code c 3 EGL_BUFFER_PRESERVED || has_code c 3 EGL_BUFFER_DESTROYED) ⇒ BadParameter) ∷
+    []
+-- section 3.7
+egl_rows BindApi c f =
+    (not (has_code c 0 EGL_OPENGL_ES_API) ⇒ BadParameter) ∷
+    []
+-- section 3.7.4
+egl_rows GetCurrentSurface c f =
+    (not (has_code c 0 EGL_DRAW || has_code c 0 EGL_READ) ⇒ BadParameter) ∷
+    []
 egl_rows k c f = fact_rows k f
 
 -- a call that isn't EGL's has no row

@@ -11,7 +11,7 @@ pub struct EglFacts {
     pub is_initialized: bool,
     /// The call's config argument is one of the configs.
     pub is_config: bool,
-    /// eglGetConfigAttrib: the attribute is one of a config's.
+    /// The attribute that is asked for is one of a config's, of a surface's or of a context's.
     pub is_attribute: bool,
     /// The attribute list has only attributes and values that the call allows.
     pub is_list_allowed: bool,
@@ -41,7 +41,7 @@ pub struct EglFacts {
     pub is_draw: bool,
     /// eglMakeCurrent: read is a valid surface of the display.
     pub is_read: bool,
-    /// eglMakeCurrent: the context is a valid one of the display.
+    /// The call's context argument is a valid context of the display.
     pub is_context: bool,
     /// eglMakeCurrent: the context's config is compatible with those of draw and read.
     pub is_compatible: bool,
@@ -49,6 +49,8 @@ pub struct EglFacts {
     pub is_context_elsewhere: bool,
     /// eglMakeCurrent: draw or read is current to another thread.
     pub is_surface_elsewhere: bool,
+    /// The call's surface argument is a valid surface of the display.
+    pub is_surface: bool,
 }
 
 impl EglFacts {
@@ -79,6 +81,7 @@ impl EglFacts {
             is_compatible: false,
             is_context_elsewhere: false,
             is_surface_elsewhere: false,
+            is_surface: false,
         }
     }
 }

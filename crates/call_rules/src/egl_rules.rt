@@ -1,12 +1,19 @@
 //! When each call of EGL is refused.
-ghost use Rattle.std.specs.Prelude.{◌≡◌, ◌+◌, nat_lt, true, [], ◌∷◌};
+ghost use Rattle.std.specs.Prelude.{◌≡◌, ◌+◌, nat_lt, true, not, ◌<◌};
+ghost use Rattle.call_rules.specs.Arguments.{is_zero};
 ghost use Rattle.egl_calls.specs.Kinds.{is_built};
-ghost use Rattle.egl_calls.specs.declared.kinds.EglKind.TheVariants.{ChooseConfig, GetConfigAttrib, CreatePbufferSurface, CreateContext, MakeCurrent};
-ghost use Rattle.call_rules.specs.Rows.{first_error};
-ghost use Rattle.call_rules.specs.EglRules.{egl_refusal, egl_rows, fact_rows, display_row, display_rows, current_rows, is_long, is_later_version, is_supported_version};
+ghost use Rattle.egl_calls.specs.declared.kinds.EglKind.TheVariants.{CreatePbufferSurface, SurfaceAttrib, CreateContext, MakeCurrent};
+ghost use Rattle.egl_calls.specs.declared.errors.EglError.TheVariants.{NotInitialized, BadSurface, BadContext};
+ghost use Rattle.call_rules.specs.Rows.{first_error, ◌⇒◌};
+ghost use Rattle.call_rules.specs.EglRules.{egl_refusal, egl_rows, fact_rows, display_row, current_rows, has_code, is_wrong, is_long, is_later_version, is_supported_version};
 
 use crate::egl_facts::EglFacts;
-use egl_calls::{Call, EglError, EglKind, Kind};
+use crate::rows::first_error;
+use egl_calls::{Call, EglError, EglKind, Kind, unsigned};
+use egl_names::codes::{
+    EGL_BUFFER_DESTROYED, EGL_BUFFER_PRESERVED, EGL_DRAW, EGL_OPENGL_ES_API, EGL_READ,
+    EGL_SWAP_BEHAVIOR,
+};
 
 fn is_long(side: i64) -> bool
     ensures { result ≡ is_long side }
@@ -33,158 +40,142 @@ fn is_supported_version(version: i64, minor: i64) -> bool
     version == 1 && (minor == 0 || minor == 1)
 }
 
-/// EGL 1.5, section 3.2: a call that works on any display.
-fn any_display(facts: &EglFacts) -> Option<EglError>
-    ensures { result ≡ first_error (display_row facts.now ∷ []) }
+/// Whether the number at a place is the code of a name.
+fn has_code(call: &Call, place: usize, code: u64) -> bool
+    requires { place < 8 }
+    ensures { result ≡ has_code call.now place code }
 {
-    if !facts.is_display {
-        return Some(EglError::BadDisplay);
-    }
-    None
+    unsigned(call.args[place]) == code
 }
 
-/// Section 3.1: a call that works on an initialised display.
-fn initialized_display(facts: &EglFacts) -> Option<EglError>
-    ensures { result ≡ first_error (display_rows facts.now) }
+/// Whether the number at a place is 0.
+fn is_zero(call: &Call, place: usize) -> bool
+    requires { place < 8 }
+    ensures { result ≡ is_zero call.now place }
 {
-    if !facts.is_display {
-        return Some(EglError::BadDisplay);
-    }
-    if !facts.is_initialized {
-        return Some(EglError::NotInitialized);
-    }
-    None
+    call.args[place] == 0
 }
 
-/// Section 3.4.1.
-fn choose_config(facts: &EglFacts) -> Option<EglError>
-    ensures { result ≡ first_error (fact_rows ChooseConfig facts.now) }
+/// Whether a number is given at a place that isn't what it has to be.
+fn is_wrong(call: &Call, place: usize, is_valid: bool) -> bool
+    requires { place < 8 }
+    ensures { result ≡ is_wrong call.now place is_valid }
 {
-    if let Some(error) = initialized_display(facts) {
-        return Some(error);
-    }
-    if !facts.is_list_allowed {
-        return Some(EglError::BadAttribute);
-    }
-    None
+    !is_zero(call, place) && !is_valid
 }
 
-/// Section 3.4.3.
-fn get_config_attrib(facts: &EglFacts) -> Option<EglError>
-    ensures { result ≡ first_error (fact_rows GetConfigAttrib facts.now) }
+// The rows that calls share (EGL 1.5, sections 3.1 and 3.2).
+
+fn no_display(facts: &EglFacts) -> (bool, EglError)
+    ensures { result ≡ display_row facts.now }
 {
-    if let Some(error) = initialized_display(facts) {
-        return Some(error);
-    }
-    if !facts.is_config {
-        return Some(EglError::BadConfig);
-    }
-    if !facts.is_attribute {
-        return Some(EglError::BadAttribute);
-    }
-    None
+    (!facts.is_display, EglError::BadDisplay)
+}
+
+fn uninitialized(facts: &EglFacts) -> (bool, EglError)
+    ensures { result ≡ (not facts.now.is_initialized ⇒ NotInitialized) }
+{
+    (!facts.is_initialized, EglError::NotInitialized)
+}
+
+fn no_surface(facts: &EglFacts) -> (bool, EglError)
+    ensures { result ≡ (not facts.now.is_surface ⇒ BadSurface) }
+{
+    (!facts.is_surface, EglError::BadSurface)
+}
+
+fn no_context(facts: &EglFacts) -> (bool, EglError)
+    ensures { result ≡ (not facts.now.is_context ⇒ BadContext) }
+{
+    (!facts.is_context, EglError::BadContext)
 }
 
 /// Section 3.5.2.
 fn create_pbuffer_surface(facts: &EglFacts) -> Option<EglError>
     ensures { result ≡ first_error (fact_rows CreatePbufferSurface facts.now) }
 {
-    if let Some(error) = initialized_display(facts) {
-        return Some(error);
-    }
-    if !facts.is_config {
-        return Some(EglError::BadConfig);
-    }
-    if !facts.is_list_allowed {
-        return Some(EglError::BadAttribute);
-    }
-    if facts.width < 0 || facts.height < 0 {
-        return Some(EglError::BadParameter);
-    }
-    if (is_long(facts.width) || is_long(facts.height)) && !facts.is_largest {
-        return Some(EglError::BadAlloc);
-    }
-    if exceeds(facts.video_limit, facts.live_bytes, facts.new_bytes) {
-        return Some(EglError::BadAlloc);
-    }
-    if facts.are_handles_used_up {
-        return Some(EglError::BadAlloc);
-    }
-    None
+    let is_long = is_long(facts.width) || is_long(facts.height);
+    first_error(&[
+        no_display(facts),
+        uninitialized(facts),
+        (!facts.is_config, EglError::BadConfig),
+        (!facts.is_list_allowed, EglError::BadAttribute),
+        (facts.width < 0 || facts.height < 0, EglError::BadParameter),
+        (is_long && !facts.is_largest, EglError::BadAlloc),
+        (
+            exceeds(facts.video_limit, facts.live_bytes, facts.new_bytes),
+            EglError::BadAlloc,
+        ),
+        (facts.are_handles_used_up, EglError::BadAlloc),
+    ])
+}
+
+/// Section 3.5.6.
+fn surface_attrib(call: &Call, facts: &EglFacts) -> Option<EglError>
+    ensures { result ≡ first_error (egl_rows SurfaceAttrib call.now facts.now) }
+{
+    let is_behavior = has_code(call, 3, EGL_BUFFER_PRESERVED)
+        || has_code(call, 3, EGL_BUFFER_DESTROYED);
+    first_error(&[
+        no_display(facts),
+        uninitialized(facts),
+        no_surface(facts),
+        (
+            !has_code(call, 2, EGL_SWAP_BEHAVIOR),
+            EglError::BadAttribute,
+        ),
+        (!is_behavior, EglError::BadParameter),
+    ])
 }
 
 /// Section 3.7.1.
 fn create_context(facts: &EglFacts) -> Option<EglError>
     ensures { result ≡ first_error (fact_rows CreateContext facts.now) }
 {
-    if let Some(error) = initialized_display(facts) {
-        return Some(error);
-    }
-    if !facts.is_config {
-        return Some(EglError::BadConfig);
-    }
-    if !facts.is_list_allowed {
-        return Some(EglError::BadAttribute);
-    }
-    if !facts.is_share {
-        return Some(EglError::BadContext);
-    }
-    if !facts.is_share_here {
-        return Some(EglError::BadMatch);
-    }
-    if is_later_version(facts.version, facts.minor_version) {
-        return Some(EglError::BadConfig);
-    }
-    if !is_supported_version(facts.version, facts.minor_version) {
-        return Some(EglError::BadMatch);
-    }
-    if facts.are_handles_used_up {
-        return Some(EglError::BadAlloc);
-    }
-    None
+    let is_later = is_later_version(facts.version, facts.minor_version);
+    let is_supported = is_supported_version(facts.version, facts.minor_version);
+    first_error(&[
+        no_display(facts),
+        uninitialized(facts),
+        (!facts.is_config, EglError::BadConfig),
+        (!facts.is_list_allowed, EglError::BadAttribute),
+        (!facts.is_share, EglError::BadContext),
+        (!facts.is_share_here, EglError::BadMatch),
+        (is_later, EglError::BadConfig),
+        (!is_supported, EglError::BadMatch),
+        (facts.are_handles_used_up, EglError::BadAlloc),
+    ])
 }
 
 /// Section 3.7.3, where a draw surface, a read surface or a context is given.
 fn make_some_current(call: &Call, facts: &EglFacts) -> Option<EglError>
     ensures { result ≡ first_error (current_rows call.now facts.now) }
 {
-    let [_, draw, read, context, ..] = call.args;
-    if let Some(error) = initialized_display(facts) {
-        return Some(error);
-    }
-    if draw != 0 && !facts.is_draw || read != 0 && !facts.is_read {
-        return Some(EglError::BadSurface);
-    }
-    if context != 0 && !facts.is_context {
-        return Some(EglError::BadContext);
-    }
-    if draw == 0 || read == 0 || context == 0 {
-        return Some(EglError::BadMatch);
-    }
-    if !facts.is_compatible {
-        return Some(EglError::BadMatch);
-    }
-    if facts.is_context_elsewhere {
-        return Some(EglError::BadAccess);
-    }
-    if facts.is_surface_elsewhere {
-        return Some(EglError::BadAccess);
-    }
-    None
+    let is_no_surface = is_wrong(call, 1, facts.is_draw) || is_wrong(call, 2, facts.is_read);
+    let is_one_missing = is_zero(call, 1) || is_zero(call, 2) || is_zero(call, 3);
+    first_error(&[
+        no_display(facts),
+        uninitialized(facts),
+        (is_no_surface, EglError::BadSurface),
+        (is_wrong(call, 3, facts.is_context), EglError::BadContext),
+        (is_one_missing, EglError::BadMatch),
+        (!facts.is_compatible, EglError::BadMatch),
+        (facts.is_context_elsewhere, EglError::BadAccess),
+        (facts.is_surface_elsewhere, EglError::BadAccess),
+    ])
 }
 
 /// Section 3.7.3.
 fn make_current(call: &Call, facts: &EglFacts) -> Option<EglError>
     ensures { result ≡ first_error (egl_rows MakeCurrent call.now facts.now) }
 {
-    let [_, draw, read, context, ..] = call.args;
-    if draw == 0 && read == 0 && context == 0 {
-        return any_display(facts);
+    if is_zero(call, 1) && is_zero(call, 2) && is_zero(call, 3) {
+        return first_error(&[no_display(facts)]);
     }
     make_some_current(call, facts)
 }
 
-/// The error that a call of EGL answers, and None where it isn't refused. A call of another interface has no row.
+/// The error that a call of EGL answers, and None where it isn't refused: a table of the rows of each call, in the order of the tests. A call of another interface has no row.
 #[tactic(auto, unfolding(crate::specs::EglRules::egl_refusal))]
 pub fn egl_refusal(call: &Call, facts: &EglFacts) -> Option<EglError>
     requires { is_built call.now.kind ≡ true }
@@ -193,15 +184,57 @@ pub fn egl_refusal(call: &Call, facts: &EglFacts) -> Option<EglError>
     match call.kind {
         Kind::Egl(EglKind::GetError) => None,
         Kind::Egl(EglKind::GetDisplay) => None,
-        Kind::Egl(EglKind::Initialize) => any_display(facts),
-        Kind::Egl(EglKind::Terminate) => any_display(facts),
-        Kind::Egl(EglKind::GetConfigs) => initialized_display(facts),
-        Kind::Egl(EglKind::ChooseConfig) => choose_config(facts),
-        Kind::Egl(EglKind::GetConfigAttrib) => get_config_attrib(facts),
+        Kind::Egl(EglKind::Initialize) => first_error(&[no_display(facts)]),
+        Kind::Egl(EglKind::Terminate) => first_error(&[no_display(facts)]),
+        Kind::Egl(EglKind::GetConfigs) => {
+            first_error(&[no_display(facts), uninitialized(facts)])
+        }
+        Kind::Egl(EglKind::ChooseConfig) => first_error(&[
+            no_display(facts),
+            uninitialized(facts),
+            (!facts.is_list_allowed, EglError::BadAttribute),
+        ]),
+        Kind::Egl(EglKind::GetConfigAttrib) => first_error(&[
+            no_display(facts),
+            uninitialized(facts),
+            (!facts.is_config, EglError::BadConfig),
+            (!facts.is_attribute, EglError::BadAttribute),
+        ]),
         Kind::Egl(EglKind::CreatePbufferSurface) => create_pbuffer_surface(facts),
+        Kind::Egl(EglKind::DestroySurface) => {
+            first_error(&[no_display(facts), uninitialized(facts), no_surface(facts)])
+        }
+        Kind::Egl(EglKind::QuerySurface) => first_error(&[
+            no_display(facts),
+            uninitialized(facts),
+            no_surface(facts),
+            (!facts.is_attribute, EglError::BadAttribute),
+        ]),
+        Kind::Egl(EglKind::SurfaceAttrib) => surface_attrib(call, facts),
+        Kind::Egl(EglKind::BindApi) => first_error(&[(
+            !has_code(call, 0, EGL_OPENGL_ES_API),
+            EglError::BadParameter,
+        )]),
+        Kind::Egl(EglKind::QueryApi) => None,
         Kind::Egl(EglKind::CreateContext) => create_context(facts),
+        Kind::Egl(EglKind::DestroyContext) => {
+            first_error(&[no_display(facts), uninitialized(facts), no_context(facts)])
+        }
         Kind::Egl(EglKind::MakeCurrent) => make_current(call, facts),
         Kind::Egl(EglKind::GetCurrentContext) => None,
+        Kind::Egl(EglKind::GetCurrentSurface) => first_error(&[(
+            !(has_code(call, 0, EGL_DRAW) || has_code(call, 0, EGL_READ)),
+            EglError::BadParameter,
+        )]),
+        Kind::Egl(EglKind::GetCurrentDisplay) => None,
+        Kind::Egl(EglKind::QueryContext) => first_error(&[
+            no_display(facts),
+            uninitialized(facts),
+            no_context(facts),
+            (!facts.is_attribute, EglError::BadAttribute),
+        ]),
+        Kind::Egl(EglKind::WaitClient) => None,
+        Kind::Egl(EglKind::ReleaseThread) => None,
         Kind::Egl(_) => unreachable!(),
         Kind::Gl(_) | Kind::Own(_) => None,
     }

@@ -1,11 +1,12 @@
 //! When each call of OpenGL ES is refused.
 ghost use Rattle.egl_calls.specs.Kinds.{is_built};
 ghost use Rattle.std.specs.Prelude.{◌≡◌, true};
-ghost use Rattle.egl_calls.specs.declared.kinds.GlKind.TheVariants.{Clear, ReadPixels};
+ghost use Rattle.egl_calls.specs.declared.kinds.GlKind.TheVariants.{ReadPixels};
 ghost use Rattle.call_rules.specs.Rows.{first_error};
-ghost use Rattle.call_rules.specs.GlRules.{gl_refusal, gl_rows, is_clear_mask, is_no_side, is_read_format, is_read_type, is_read_pair};
+ghost use Rattle.call_rules.specs.GlRules.{gl_refusal, gl_rows, framebuffer_row, is_clear_mask, is_no_side, is_read_format, is_read_type, is_read_pair};
 
 use crate::gl_facts::GlFacts;
+use crate::rows::first_error;
 use egl_calls::{Call, GlError, GlKind, Kind, unsigned};
 use egl_names::codes::{
     GL_COLOR_BUFFER_BIT, GL_DEPTH_BUFFER_BIT, GL_RGB, GL_RGBA, GL_STENCIL_BUFFER_BIT,
@@ -45,17 +46,13 @@ fn is_read_pair(format: u64, kind: u64) -> bool
         || format == GL_RGB && kind == GL_UNSIGNED_SHORT_5_6_5
 }
 
-/// OpenGL ES 1.1, section 4.2.3.
-fn clear(call: &Call, facts: &GlFacts) -> Option<GlError>
-    ensures { result ≡ first_error (gl_rows Clear call.now facts.now) }
+fn incomplete(facts: &GlFacts) -> (bool, GlError)
+    ensures { result ≡ framebuffer_row facts.now }
 {
-    if !is_clear_mask(call.args[0]) {
-        return Some(GlError::InvalidValue);
-    }
-    if !facts.is_framebuffer_complete {
-        return Some(GlError::InvalidFramebufferOperation);
-    }
-    None
+    (
+        !facts.is_framebuffer_complete,
+        GlError::InvalidFramebufferOperation,
+    )
 }
 
 /// OpenGL ES 1.1, section 4.3.1.
@@ -65,22 +62,19 @@ fn read_pixels(call: &Call, facts: &GlFacts) -> Option<GlError>
     let [_, _, width, height, format, kind, ..] = call.args;
     let format = unsigned(format);
     let kind = unsigned(kind);
-    if is_no_side(width) || is_no_side(height) {
-        return Some(GlError::InvalidValue);
-    }
-    if !(is_read_format(format) && is_read_type(kind)) {
-        return Some(GlError::InvalidEnum);
-    }
-    if !is_read_pair(format, kind) {
-        return Some(GlError::InvalidOperation);
-    }
-    if !facts.is_framebuffer_complete {
-        return Some(GlError::InvalidFramebufferOperation);
-    }
-    None
+    let is_known = is_read_format(format) && is_read_type(kind);
+    first_error(&[
+        (
+            is_no_side(width) || is_no_side(height),
+            GlError::InvalidValue,
+        ),
+        (!is_known, GlError::InvalidEnum),
+        (!is_read_pair(format, kind), GlError::InvalidOperation),
+        incomplete(facts),
+    ])
 }
 
-/// The error that a call of OpenGL ES keeps in its context and comes out with, and None where it isn't refused. A call of another interface has no row.
+/// The error that a call of OpenGL ES keeps in its context and comes out with, and None where it isn't refused: a table of the rows of each call, in the order of the tests. A call of another interface has no row.
 #[tactic(auto, unfolding(crate::specs::GlRules::gl_refusal))]
 pub fn gl_refusal(call: &Call, facts: &GlFacts) -> Option<GlError>
     requires { is_built call.now.kind ≡ true }
@@ -89,7 +83,10 @@ pub fn gl_refusal(call: &Call, facts: &GlFacts) -> Option<GlError>
     match call.kind {
         Kind::Gl(GlKind::GetError) => None,
         Kind::Gl(GlKind::ClearColorx) => None,
-        Kind::Gl(GlKind::Clear) => clear(call, facts),
+        Kind::Gl(GlKind::Clear) => first_error(&[
+            (!is_clear_mask(call.args[0]), GlError::InvalidValue),
+            incomplete(facts),
+        ]),
         Kind::Gl(GlKind::ReadPixels) => read_pixels(call, facts),
         Kind::Gl(_) => unreachable!(),
         Kind::Egl(_) | Kind::Own(_) => None,

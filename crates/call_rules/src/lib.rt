@@ -8,6 +8,7 @@ mod egl_rules;
 mod gl_facts;
 mod gl_rules;
 pub mod laws;
+mod rows;
 
 pub use egl_facts::EglFacts;
 pub use egl_rules::egl_refusal;

@@ -31,6 +31,7 @@ const VALID: EglFacts = EglFacts {
     is_compatible: true,
     is_context_elsewhere: false,
     is_surface_elsewhere: false,
+    is_surface: true,
 };
 
 /// What differs from those facts.
@@ -52,6 +53,7 @@ enum But {
     NoDraw,
     NoRead,
     NoContext,
+    NoSurface,
     Incompatible,
     ContextElsewhere,
     SurfaceElsewhere,
@@ -59,8 +61,8 @@ enum But {
 
 use But::{
     BadList, ContextElsewhere, Height, Incompatible, Largest, LastHandle, NewBytes, NoAttribute,
-    NoConfig, NoContext, NoDisplay, NoDraw, NoRead, NoShare, NotInitialized, ShareElsewhere,
-    SurfaceElsewhere, Version, Width,
+    NoConfig, NoContext, NoDisplay, NoDraw, NoRead, NoShare, NoSurface, NotInitialized,
+    ShareElsewhere, SurfaceElsewhere, Version, Width,
 };
 
 fn change(facts: &mut EglFacts, but: But) {
@@ -84,6 +86,7 @@ fn change(facts: &mut EglFacts, but: But) {
         NoDraw => facts.is_draw = false,
         NoRead => facts.is_read = false,
         NoContext => facts.is_context = false,
+        NoSurface => facts.is_surface = false,
         Incompatible => facts.is_compatible = false,
         ContextElsewhere => facts.is_context_elsewhere = true,
         SurfaceElsewhere => facts.is_surface_elsewhere = true,
@@ -238,6 +241,43 @@ static WITHOUT_CONTEXT: [EglRow; 3] = [
     (&[NoContext, SurfaceElsewhere], Some(EglError::BadMatch)),
 ];
 
+static DESTROY_SURFACE: [EglRow; 5] = [
+    (&[NoContext, NoAttribute], None),
+    (&[NoDisplay, NotInitialized], Some(EglError::BadDisplay)),
+    (&[NotInitialized, NoSurface], Some(EglError::NotInitialized)),
+    (&[NoSurface], Some(EglError::BadSurface)),
+    (&[NoDisplay, NoSurface], Some(EglError::BadDisplay)),
+];
+
+static QUERY_SURFACE: [EglRow; 5] = [
+    (&[NoContext], None),
+    (&[NoDisplay, NoSurface], Some(EglError::BadDisplay)),
+    (
+        &[NotInitialized, NoAttribute],
+        Some(EglError::NotInitialized),
+    ),
+    (&[NoSurface, NoAttribute], Some(EglError::BadSurface)),
+    (&[NoAttribute], Some(EglError::BadAttribute)),
+];
+
+static DESTROY_CONTEXT: [EglRow; 4] = [
+    (&[NoSurface, NoAttribute], None),
+    (&[NoDisplay, NotInitialized], Some(EglError::BadDisplay)),
+    (&[NotInitialized, NoContext], Some(EglError::NotInitialized)),
+    (&[NoContext], Some(EglError::BadContext)),
+];
+
+static QUERY_CONTEXT: [EglRow; 5] = [
+    (&[NoSurface], None),
+    (&[NoDisplay, NoContext], Some(EglError::BadDisplay)),
+    (
+        &[NotInitialized, NoAttribute],
+        Some(EglError::NotInitialized),
+    ),
+    (&[NoContext, NoAttribute], Some(EglError::BadContext)),
+    (&[NoAttribute], Some(EglError::BadAttribute)),
+];
+
 /// Calls that are never refused.
 static NO_ROW: [EglRow; 2] = [
     (&[], None),
@@ -274,7 +314,7 @@ fn expect_egl(rt: &impl Abort, call: &Call, rows: &[EglRow]) {
 #[test]
 fn first_egl_error_is_answered(rt: HostRuntime) {
     let alloc = rt.alloc();
-    let table: [(EglKind, [i32; 4], &[EglRow]); 15] = [
+    let table: [(EglKind, [i32; 4], &[EglRow]); 23] = [
         (EglKind::GetError, [0; 4], &NO_ROW),
         (EglKind::Initialize, [1, 0, 0, 0], &ANY_DISPLAY),
         (EglKind::Terminate, [1, 0, 0, 0], &ANY_DISPLAY),
@@ -290,6 +330,14 @@ fn first_egl_error_is_answered(rt: HostRuntime) {
         (EglKind::MakeCurrent, [1, 3, 3, 0], &WITHOUT_CONTEXT),
         (EglKind::GetDisplay, [0; 4], &NO_ROW),
         (EglKind::GetCurrentContext, [0; 4], &NO_ROW),
+        (EglKind::DestroySurface, [1, 3, 0, 0], &DESTROY_SURFACE),
+        (EglKind::QuerySurface, [1, 3, 0, 0], &QUERY_SURFACE),
+        (EglKind::DestroyContext, [1, 4, 0, 0], &DESTROY_CONTEXT),
+        (EglKind::QueryContext, [1, 4, 0, 0], &QUERY_CONTEXT),
+        (EglKind::QueryApi, [0; 4], &NO_ROW),
+        (EglKind::GetCurrentDisplay, [0; 4], &NO_ROW),
+        (EglKind::WaitClient, [0; 4], &NO_ROW),
+        (EglKind::ReleaseThread, [0; 4], &NO_ROW),
     ];
     for (kind, args, rows) in table {
         expect_egl(&rt, &egl_call(alloc, kind, args), rows);

@@ -1,2 +1,3 @@
 pub mod ListedLaws
 pub mod TableLaws
+pub mod RiseLaws

@@ -6,7 +6,7 @@ use Rattle.std.proofs.lemmas.Bool.{cases_eq, ne_eqb, eq-eqb}
 use Rattle.display_table.specs.declared.handles.Handle.{Handle}
 use Rattle.display_table.specs.declared.handles.HandleKind.{HandleKind}
 use Rattle.display_table.specs.Handles.{is_named, is_named_on, is_on, is_same_kind, newest, off_display, on_display, valid, valid_anywhere, without, RiseFrom, Takes}
-use Rattle.display_table.specs.Tables.{either, handles_in, listed, object_named, AreApart, AreTables, IsHandle, IsLast}
+use Rattle.display_table.specs.Tables.{either, handles_in, listed, handle_named, AreApart, AreTables, IsHandle, IsLast}
 use Rattle.std.proofs.lemmas.List.{map-append}
 use Rattle.display_table.proofs.ListedLaws.{listed-same, listed-more, listed-none, filter-listed, listed-last, last_or-push, find-listed, rise-listed, IsNumbered}
 
@@ -38,10 +38,6 @@ unfolding handles_in
 same-tables f g f' g' next e d = listed-same _ _ next (λ k l. rw (e k, d k) refl)
 
 -- at one place
-
-cond_object : (s : Bool) (h : Handle) → option_map (λ (k : Handle). k.object) (if s then Some h else None) ≡ (if s then Some h.object else None)
-cond_object true h = refl
-cond_object false h = refl
 
 and-true : (s : Bool) → (s && true) ≡ s
 and-true true = refl
@@ -78,8 +74,8 @@ display_here d n kind h e q = rw (eq-eqb h.number n e, eq-eqb h.display d q, and
 display_there : (d n : ℕ) (kind : HandleKind) (h : Handle) → h.display ≢ d → is_named_on d n kind h ≡ false
 display_there d n kind h ne = rw (ne_eqb h.display d ne, and-false (is_named n kind h)) refl
 
-found_one : (p : Handle → Bool) (s : Bool) (h : Handle) → p h ≡ s → option_map (λ (k : Handle). k.object) (find p (h ∷ [])) ≡ (if s then Some h.object else None)
-found_one p s h e = rw e (cond_object s h)
+found_one : (p : Handle → Bool) (s : Bool) (h : Handle) → p h ≡ s → find p (h ∷ []) ≡ (if s then Some h else None)
+found_one p s h e = rw e refl
 
 one_of_two : (h : Handle) → h.display ≡ 2 → h.display ≢ 1
 one_of_two h e q = absurd (omega arith)
@@ -87,46 +83,46 @@ one_of_two h e q = absurd (omega arith)
 two_of_one : (h : Handle) → h.display ≡ 1 → h.display ≢ 2
 two_of_one h e q = absurd (omega arith)
 
-found_here : (kind : HandleKind) (next n : ℕ) (a b : Option Handle) → IfSome a (IsHandle 1 next n) → IfSome b (IsHandle 2 next n) → option_map (λ h. h.object) (find (is_named_on 1 n kind) (option_to_list (either a b))) ≡ object_named kind a
+found_here : (kind : HandleKind) (next n : ℕ) (a b : Option Handle) → IfSome a (IsHandle 1 next n) → IfSome b (IsHandle 2 next n) → find (is_named_on 1 n kind) (option_to_list (either a b)) ≡ handle_named kind a
 found_here kind next n None None i j = refl
 found_here kind next n None (Some h) i j = found_one (is_named_on 1 n kind) false h (display_there 1 n kind h (one_of_two h j.display))
 found_here kind next n (Some h) b i j = found_one (is_named_on 1 n kind) (is_same_kind h.kind kind) h (display_here 1 n kind h i.number i.display)
 
-found_there : (kind : HandleKind) (next n : ℕ) (a b : Option Handle) → AreApart a b → IfSome a (IsHandle 1 next n) → IfSome b (IsHandle 2 next n) → option_map (λ h. h.object) (find (is_named_on 2 n kind) (option_to_list (either a b))) ≡ object_named kind b
+found_there : (kind : HandleKind) (next n : ℕ) (a b : Option Handle) → AreApart a b → IfSome a (IsHandle 1 next n) → IfSome b (IsHandle 2 next n) → find (is_named_on 2 n kind) (option_to_list (either a b)) ≡ handle_named kind b
 found_there kind next n None None p i j = refl
 found_there kind next n None (Some h) p i j = found_one (is_named_on 2 n kind) (is_same_kind h.kind kind) h (display_here 2 n kind h j.number j.display)
 found_there kind next n (Some h) None p i j = found_one (is_named_on 2 n kind) false h (display_there 2 n kind h (two_of_one h i.display))
 found_there kind next n (Some h) (Some k) p i j = absurd p
 
-found_either : (kind : HandleKind) (next n : ℕ) (a b : Option Handle) → IfSome a (IsHandle 1 next n) → IfSome b (IsHandle 2 next n) → option_map (λ h. h.object) (find (is_named n kind) (option_to_list (either a b))) ≡ object_named kind (either a b)
+found_either : (kind : HandleKind) (next n : ℕ) (a b : Option Handle) → IfSome a (IsHandle 1 next n) → IfSome b (IsHandle 2 next n) → find (is_named n kind) (option_to_list (either a b)) ≡ handle_named kind (either a b)
 found_either kind next n None None i j = refl
 found_either kind next n None (Some h) i j = found_one (is_named n kind) (is_same_kind h.kind kind) h (number_here n kind h j.number)
 found_either kind next n (Some h) b i j = found_one (is_named n kind) (is_same_kind h.kind kind) h (number_here n kind h i.number)
 
 -- a handle of another display than both
-found_nowhere : (kind : HandleKind) (d next n : ℕ) (a b : Option Handle) → d ≢ 1 → d ≢ 2 → IfSome a (IsHandle 1 next n) → IfSome b (IsHandle 2 next n) → option_map (λ h. h.object) (find (is_named_on d n kind) (option_to_list (either a b))) ≡ None
+found_nowhere : (kind : HandleKind) (d next n : ℕ) (a b : Option Handle) → d ≢ 1 → d ≢ 2 → IfSome a (IsHandle 1 next n) → IfSome b (IsHandle 2 next n) → find (is_named_on d n kind) (option_to_list (either a b)) ≡ None
 found_nowhere kind d next n None None x y i j = refl
 found_nowhere kind d next n None (Some h) x y i j = found_one (is_named_on d n kind) false h (display_there d n kind h (λ q. y (sym q ∙ j.display)))
 found_nowhere kind d next n (Some h) b x y i j = found_one (is_named_on d n kind) false h (display_there d n kind h (λ q. x (sym q ∙ i.display)))
 
 module _ (kind : HandleKind) (next : ℕ) (f g : ℕ → Option Handle) (t : AreTables f g next) (d n : ℕ) where
-  pub valid-first : d ≡ 1 → valid d n kind (handles_in f g next) ≡ object_named kind (f n)
-  valid-first e = rw e (ap (option_map (λ (h : Handle). h.object)) (named_in (is_named_on 1 n kind) n next f g t (no_number_on 1 n kind)) ∙ found_here kind next n (f n) (g n) (t.first.each n) (t.second.each n))
+  pub valid-first : d ≡ 1 → find (is_named_on d n kind) (handles_in f g next) ≡ handle_named kind (f n)
+  valid-first e = rw e (named_in (is_named_on 1 n kind) n next f g t (no_number_on 1 n kind) ∙ found_here kind next n (f n) (g n) (t.first.each n) (t.second.each n))
 
-  pub valid-second : d ≡ 2 → valid d n kind (handles_in f g next) ≡ object_named kind (g n)
-  valid-second e = rw e (ap (option_map (λ (h : Handle). h.object)) (named_in (is_named_on 2 n kind) n next f g t (no_number_on 2 n kind)) ∙ found_there kind next n (f n) (g n) (t.apart n) (t.first.each n) (t.second.each n))
+  pub valid-second : d ≡ 2 → find (is_named_on d n kind) (handles_in f g next) ≡ handle_named kind (g n)
+  valid-second e = rw e (named_in (is_named_on 2 n kind) n next f g t (no_number_on 2 n kind) ∙ found_there kind next n (f n) (g n) (t.apart n) (t.first.each n) (t.second.each n))
 
-  pub valid-neither : d ≢ 1 → d ≢ 2 → valid d n kind (handles_in f g next) ≡ None
-  valid-neither x y = ap (option_map (λ (h : Handle). h.object)) (named_in (is_named_on d n kind) n next f g t (no_number_on d n kind)) ∙ found_nowhere kind d next n (f n) (g n) x y (t.first.each n) (t.second.each n)
+  pub valid-neither : d ≢ 1 → d ≢ 2 → find (is_named_on d n kind) (handles_in f g next) ≡ None
+  valid-neither x y = named_in (is_named_on d n kind) n next f g t (no_number_on d n kind) ∙ found_nowhere kind d next n (f n) (g n) x y (t.first.each n) (t.second.each n)
 
   -- none of the second display has the number of one of the first
-  second_none : (a b : Option Handle) → AreApart a b → object_named kind (either a b) ≡ option_or (object_named kind a) (object_named kind b)
+  second_none : (a b : Option Handle) → AreApart a b → handle_named kind (either a b) ≡ option_or (handle_named kind a) (handle_named kind b)
   second_none None b p = refl
-  second_none (Some h) None p = elim (is_same_kind h.kind kind) as (λ s. (if s then Some h.object else None) ≡ option_or (if s then Some h.object else None) None) [ true ↦ refl | false ↦ refl ]
+  second_none (Some h) None p = elim (is_same_kind h.kind kind) as (λ s. (if s then Some h else None) ≡ option_or (if s then Some h else None) None) [ true ↦ refl | false ↦ refl ]
   second_none (Some h) (Some k) p = absurd p
 
-  pub valid-either : valid_anywhere n kind (handles_in f g next) ≡ option_or (object_named kind (f n)) (object_named kind (g n))
-  valid-either = (ap (option_map (λ (h : Handle). h.object)) (named_in (is_named n kind) n next f g t (no_number n kind)) ∙ found_either kind next n (f n) (g n) (t.first.each n) (t.second.each n) ∙ second_none (f n) (g n) (t.apart n))
+  pub valid-either : find (is_named n kind) (handles_in f g next) ≡ option_or (handle_named kind (f n)) (handle_named kind (g n))
+  valid-either = (named_in (is_named n kind) n next f g t (no_number n kind) ∙ found_either kind next n (f n) (g n) (t.first.each n) (t.second.each n) ∙ second_none (f n) (g n) (t.apart n))
 
 -- filters of one place
 

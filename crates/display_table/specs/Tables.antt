@@ -66,10 +66,10 @@ pub record AreTables (firsts seconds : ℕ → Option Handle) (next : ℕ) : Typ
   pub low : 3 ≤ next
   pub high : next ≤ HANDLES_END
 
--- the object of a handle, where it has this kind
-abbrev pub object_named : HandleKind → Option Handle → Option ℕ
-object_named kind None = None
-object_named kind (Some h) = if is_same_kind h.kind kind then Some h.object else None
+-- a handle, where it has this kind
+abbrev pub handle_named : HandleKind → Option Handle → Option Handle
+handle_named kind None = None
+handle_named kind (Some h) = if is_same_kind h.kind kind then Some h else None
 
 -- a handle stood at the last number, and no longer does
 pub record IsLast (old new : ℕ → Option Handle) (h : Handle) : Type 0 where

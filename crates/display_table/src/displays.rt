@@ -1,15 +1,15 @@
 //! The displays.
-ghost use Rattle.std.specs.Prelude.{◌≡◌, ◌+◌, pos, [], ◌∷◌, ◌++◌, true, false, IfOk, IfErr, OnOk, OnErr};
+ghost use Rattle.std.specs.Prelude.{◌≡◌, ◌≢◌, ◌+◌, ◌≤◌, pos, [], ◌∷◌, ◌++◌, true, false, find, length, AllPairs, IfOk, IfErr, OnOk, OnErr};
 ghost use Rattle.egl_calls.specs.Ranges.{unsigned};
 ghost use Rattle.display_table.specs.Handles as handles;
-ghost use Rattle.display_table.specs.Handles.{is_display, on_display, without, RiseFrom, Takes};
+ghost use Rattle.display_table.specs.Handles.{is_display, is_named, is_named_on, on_display, without, RiseFrom, Takes};
 ghost use Rattle.display_table.specs.Tables.{are_used_up, flag_of, with_flag, HasCause};
 
 use crate::HANDLES_END;
 use crate::errors::HandleError;
-use crate::handles::HandleKind;
+use crate::handles::{Handle, HandleKind};
 use crate::making::{add_first, add_second};
-use crate::tables::{Table, object_in, rising_in, take};
+use crate::tables::{Table, handle_in, rising_in, take};
 use crate::taking::{take_first, take_second};
 use egl_calls::unsigned;
 use std::alloc::Global;
@@ -92,18 +92,38 @@ impl Displays {
         }
     }
 
+    /// The valid handle of the display with a number, where it is of this kind.
+    pub fn handle(&self, display: i64, handle: i64, kind: HandleKind) -> Option<Handle>
+        ensures { result ≡ find (is_named_on (unsigned display) (unsigned handle) kind) self.now.handles }
+    {
+        self.handle_on(unsigned(display), unsigned(handle), kind)
+    }
+
+    /// The valid handle of either display with a number, where it is of this kind.
+    pub fn handle_anywhere(&self, handle: i64, kind: HandleKind) -> Option<Handle>
+        ensures { result ≡ find (is_named (unsigned handle) kind) self.now.handles }
+    {
+        self.handle_of(unsigned(handle), kind)
+    }
+
     /// The object that a valid handle of the display names, where it is of this kind.
     pub fn valid(&self, display: i64, handle: i64, kind: HandleKind) -> Option<u64>
         ensures { result ≡ handles.valid (unsigned display) (unsigned handle) kind self.now.handles }
     {
-        self.object_on(unsigned(display), unsigned(handle), kind)
+        match self.handle(display, handle, kind) {
+            Some(handle) => Some(handle.object),
+            None => None,
+        }
     }
 
     /// The object that a valid handle of either display names, where it is of this kind.
     pub fn valid_anywhere(&self, handle: i64, kind: HandleKind) -> Option<u64>
         ensures { result ≡ handles.valid_anywhere (unsigned handle) kind self.now.handles }
     {
-        self.object_of(unsigned(handle), kind)
+        match self.handle_anywhere(handle, kind) {
+            Some(handle) => Some(handle.object),
+            None => None,
+        }
     }
 
     /// The number of the next handle.
@@ -111,6 +131,13 @@ impl Displays {
         ensures { result ≡ self.now.next_handle }
     {
         self.next_handle
+    }
+
+    /// Whether no number is left for another handle.
+    pub fn are_used_up(&self) -> bool
+        ensures { result ≡ are_used_up self.now.next_handle }
+    {
+        self.next_handle >= HANDLES_END
     }
 
     /// Makes a handle of display 1 or 2 for an object, and answers its number.
@@ -167,7 +194,16 @@ impl Displays {
         ensures taken { Takes (unsigned display) self.old.handles self.new.handles result }
         ensures same { self.new ≡ record self.old { handles = self.new.handles } }
     {
-        if unsigned(display) == 1 {
+        self.take_newest(unsigned(display))
+    }
+
+    /// The same by the display's unsigned number.
+    pub fn take_newest(&mut self, display: u64) -> Option<u64>
+        requires { is_display display ≡ true }
+        ensures taken { Takes display self.old.handles self.new.handles result }
+        ensures same { self.new ≡ record self.old { handles = self.new.handles } }
+    {
+        if display == 1 {
             take_first(
                 &mut self.first_handles,
                 &self.second_handles,
@@ -188,43 +224,56 @@ impl Displays {
         requires empty { on_display (unsigned display) self.old.handles ≡ [] }
         ensures { self.new ≡ with_flag (unsigned display) false self.old }
     {
-        if unsigned(display) == 1 {
+        self.end(unsigned(display));
+    }
+
+    /// The same by the display's unsigned number.
+    pub fn end(&mut self, display: u64)
+        requires display { is_display display ≡ true }
+        requires empty { on_display display self.old.handles ≡ [] }
+        ensures { self.new ≡ with_flag display false self.old }
+    {
+        if display == 1 {
             self.first = false;
         } else {
             self.second = false;
         }
     }
 
-    /// Handles rise in the order of their making, from 3 on, and are below the next one; so no two have one number.
-    /// This is a law: there is nothing to run.
+    /// Handles rise in the order of their making, from 3 on, and are below the next one; so no two have one number, and
+    /// there are at most 2,147,483,648. This is a law: there is nothing to run.
     pub fn handles_rise(&self)
-        ensures { RiseFrom 3 self.now.handles self.now.next_handle }
+        ensures rise { RiseFrom 3 self.now.handles self.now.next_handle }
+        ensures apart { AllPairs (λ g h. g.number ≢ h.number) self.now.handles }
+        ensures few { length self.now.handles ≤ HANDLES_END }
+        ensures end { self.now.next_handle ≤ HANDLES_END }
     {
         rising_in(&self.first_handles, &self.second_handles, self.next_handle);
     }
 
-    fn object_on(&self, display: u64, number: u64, kind: HandleKind) -> Option<u64>
-        ensures { result ≡ handles.valid display number kind self.now.handles }
+    fn handle_on(&self, display: u64, number: u64, kind: HandleKind) -> Option<Handle>
+        ensures { result ≡ find (is_named_on display number kind) self.now.handles }
     {
         if display == 1 {
-            object_in(&self.first_handles, number, kind)
+            handle_in(&self.first_handles, number, kind)
         } else if display == 2 {
-            object_in(&self.second_handles, number, kind)
+            handle_in(&self.second_handles, number, kind)
         } else {
             None
         }
     }
 
-    fn object_of(&self, number: u64, kind: HandleKind) -> Option<u64>
-        ensures { result ≡ handles.valid_anywhere number kind self.now.handles }
+    fn handle_of(&self, number: u64, kind: HandleKind) -> Option<Handle>
+        ensures { result ≡ find (is_named number kind) self.now.handles }
     {
-        match object_in(&self.first_handles, number, kind) {
-            Some(object) => Some(object),
-            None => object_in(&self.second_handles, number, kind),
+        match handle_in(&self.first_handles, number, kind) {
+            Some(handle) => Some(handle),
+            None => handle_in(&self.second_handles, number, kind),
         }
     }
 
-    fn remove_number(&mut self, number: u64)
+    /// The same by the handle's unsigned number.
+    pub fn remove_number(&mut self, number: u64)
         ensures { self.new ≡ record self.old { handles = without number self.old.handles } }
     {
         take(&mut self.first_handles, number);

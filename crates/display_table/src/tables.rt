@@ -1,23 +1,24 @@
 //! The handles of one display, by their numbers.
-ghost use Rattle.std.specs.Prelude.{◌≡◌, ℕ, ◌<◌, ◌==◌, ◌||◌, true, false, if◌then◌else◌, IfErr, IfSome, IfNone, OnOk, OnErr, None, Some};
+ghost use Rattle.std.specs.Prelude.{◌≡◌, ℕ, ◌<◌, ◌≤◌, ◌==◌, ◌||◌, true, false, if◌then◌else◌, IfErr, IfSome, IfNone, OnOk, OnErr, None, Some};
 ghost use Rattle.std.specs.Ordering.{nat_cmp};
 ghost use Rattle.std.specs.BTreeMap.{get};
 ghost use Rattle.display_table.specs.Handles.{RiseFrom};
-ghost use Rattle.display_table.specs.Tables.{handles_in, object_named, AreTables, IsLast};
+ghost use Rattle.display_table.specs.Tables.{handles_in, handle_named, AreTables, IsLast};
 
+use crate::HANDLES_END;
 use crate::errors::HandleError;
 use crate::handles::{Handle, HandleKind, place_of};
 use std::collections::BTreeMap;
 
 pub(crate) type Table = BTreeMap<u64, Handle>;
 
-pub(crate) fn object_in(table: &Table, number: u64, kind: HandleKind) -> Option<u64>
-    ensures { result ≡ object_named kind (get nat_cmp table.now number) }
+pub(crate) fn handle_in(table: &Table, number: u64, kind: HandleKind) -> Option<Handle>
+    ensures { result ≡ handle_named kind (get nat_cmp table.now number) }
 {
     match table.get(&number) {
         Some(handle) => {
             if place_of(handle.kind) == place_of(kind) {
-                Some(handle.object)
+                Some(*handle)
             } else {
                 None
             }
@@ -56,5 +57,6 @@ pub(crate) fn take_last(table: &mut Table) -> Option<Handle>
 // Handles rise in the order of their making. There is nothing to run.
 pub(crate) fn rising_in(_first: &Table, _second: &Table, _next: u32)
     requires { AreTables (get nat_cmp _first.now) (get nat_cmp _second.now) _next }
-    ensures { RiseFrom 3 (handles_in (get nat_cmp _first.now) (get nat_cmp _second.now) _next) _next }
+    ensures rise { RiseFrom 3 (handles_in (get nat_cmp _first.now) (get nat_cmp _second.now) _next) _next }
+    ensures end { _next ≤ HANDLES_END }
 {}

@@ -1,8 +1,8 @@
 -- What calls cost.
 use Rattle.std.specs.Prelude.{AllPairs}
-use Rattle.std.proofs.Common.{◌≡◌, ◌≢◌, ℕ, ◌+◌, Bool, true, false, cond, List, [], ◌∷◌, length, get_or, not, refl, ap, arith, inl, inr, Option, None, Some}
+use Rattle.std.proofs.Common.{◌≡◌, ◌≢◌, ◌==◌, ℕ, ◌+◌, ◌≤◌, Bool, true, false, cond, List, [], ◌∷◌, length, get_or, not, refl, ap, arith, inl, inr, Option, None, Some, map, ◌∙◌}
 use Rattle.std.proofs.lemmas.Bool.{cases_lt}
-use Rattle.std.proofs.lemmas.List.{set_past}
+use Rattle.std.proofs.lemmas.List.{set_past, length-map}
 use Rattle.std.proofs.lemmas.List.Sums.{sum_by-set, sum_by-cons, length-filter}
 use Rattle.std.specs.List.{sum_by, filter, count_by}
 use Rattle.std.specs.Option.{option_map_or}
@@ -13,7 +13,8 @@ use Rattle.driver_objects.specs.declared.objects.Object.TheVariants.{Context}
 use Rattle.egl_model.specs.Objects.{with_part, change_part}
 use Rattle.egl_model.specs.MakeCurrent.{first_use}
 use Rattle.egl_model.specs.State.{State}
-use Rattle.egl_model.specs.declared.handles.Handle.{Handle}
+use Rattle.display_table.specs.declared.handles.Handle.{Handle}
+use Rattle.display_table.specs.Handles as numbered
 use Rattle.object_table.specs.Tables.{weight_of}
 use Rattle.egl_model.specs.Refs.{size}
 use Rattle.egl_model.proofs.RefLaws.{size_gone}
@@ -42,8 +43,23 @@ counted : (p : Handle → Bool) (hs : List Handle) → count_by p hs + count_by 
 counted p [] = refl
 counted p (h ∷ hs) = omega (arith, counted p hs, sum_by-cons (λ x. cond (p x) 1 0) h hs, sum_by-cons (λ x. cond (not (p x)) 1 0) h hs, one_way (p h))
 
-pub cheap_terminate : (s new : State) (d a b : ℕ) (p : Handle → Bool) → new.handles ≡ filter (λ h. not (p h)) s.handles → b + weight_of new.objects ≡ a + count_by p s.handles + weight_of s.objects → IsCheap s new a b
-cheap_terminate s new d a b p hs e = inr (omega (arith, e, ap length hs, length-filter (λ h. not (p h)) s.handles, counted p s.handles))
+-- what is let go of costs a step each: the handles that are removed, or one and some handles, or three that a thread held
+pub cheap_without : (s new : State) (a b : ℕ) (p : Handle → Bool) → new.handles ≡ filter (λ h. not (p h)) s.handles → b + weight_of new.objects ≡ a + count_by p s.handles + weight_of s.objects → IsCheap s new a b
+cheap_without s new a b p hs e = inr (omega (arith, e, ap length hs, length-filter (λ h. not (p h)) s.handles, counted p s.handles))
+
+pub cheap_one : (s new : State) (a b n : ℕ) → new.handles ≡ numbered.without n s.handles → b + weight_of new.objects ≡ a + 1 + weight_of s.objects → IsCheap s new a b
+cheap_one s new a b n hs e = inr (omega (arith, e, ap length hs, length-filter (λ (h : Handle). not (h.number == n)) s.handles, counted (λ (h : Handle). h.number == n) s.handles))
+
+pub cheap_three : (s new : State) (a b n : ℕ) → n ≤ 3 → new.handles ≡ s.handles → b + weight_of new.objects ≡ a + n + weight_of s.objects → IsCheap s new a b
+cheap_three s new a b n l hs e = inr (omega (arith, l, e, ap length hs))
+
+-- from a state that weighs as much
+pub cheap_as : (s1 s new : State) (a b : ℕ) → s1.handles ≡ s.handles → weight_of s1.objects ≡ weight_of s.objects → IsCheap s1 new a b → IsCheap s new a b
+cheap_as s1 s new a b h w (inl e) = inl e
+cheap_as s1 s new a b h w (inr l) = inr (omega (arith, l, ap length h, w))
+
+pub gone_count : (p : Handle → Bool) (hs : List Handle) → length (map (λ (h : Handle). h.object) (filter p hs)) ≡ count_by p hs
+gone_count p hs = length-map (filter p hs) (λ (h : Handle). h.object) ∙ length-filter p hs
 
 size_is : (s : State) → size s ≡ weight s
 unfolding size weight_of

@@ -6,5 +6,4 @@ pub mod Allowed
 pub mod CostLaws
 pub mod OutsideLaws
 pub mod PartLaws
-pub mod HandleLaws
 pub mod AwayLaws

@@ -1,12 +1,15 @@
 -- Roots come and go.
 use Rattle.std.proofs.Common.{◌≡◌, ◌≢◌, ℕ, zero, suc, ◌+◌, ◌*◌, ◌<◌, ◌≤◌, Bool, true, false, not, cond, List, [], ◌∷◌, ◌++◌, length, length-append, get_or, set, take, drop, map, refl, sym, ap, ◌∙◌, arith, inl, inr, ◌⊎◌, replicate, Option, None, Some, append_assoc}
+use Rattle.display_table.proofs.RiseLaws.{only_one}
+use Rattle.display_table.specs.Handles.{RiseFrom}
+use Rattle.display_table.specs.Handles as numbered
 use Rattle.std.proofs.lemmas.Bool.{cases_eq, cases_lt, cond-true, eq-eqb}
 use Rattle.std.proofs.lemmas.List.{map-append, length-map, take_more, set_past}
 use Rattle.std.proofs.lemmas.List.Sums.{sum_by-set, sum_by-cons, length-filter}
 use Rattle.std.proofs.lemmas.List.Elements.{filter-append}
 use Rattle.std.specs.List.{flat_map, sum_by, filter, count_by}
 use Rattle.std.specs.Prelude.{find, IfSome, option_to_list, ◌==◌}
-use Rattle.egl_model.specs.declared.handles.Handle.{Handle}
+use Rattle.display_table.specs.declared.handles.Handle.{Handle}
 use Rattle.egl_model.specs.declared.records.Bound.{Bound}
 use Rattle.egl_model.specs.declared.records.ThreadRecord.{ThreadRecord}
 use Rattle.egl_model.specs.State.{initial}
@@ -105,6 +108,44 @@ roots_few hs ts = omega (arith, length-append (objects_of hs) (flat_map held_by 
 pub without : (p : Handle → Bool) (hs : List Handle) (ts : List ThreadRecord) (holds : List ℕ) → AreHolds (roots_of hs ts) holds → AreHolds (objects_of (filter p hs) ++ roots_of (filter (λ h. not (p h)) hs) ts) holds
 without p hs ts holds are n = omega (arith, are n, times_append n (objects_of (filter p hs)) (roots_of (filter (λ h. not (p h)) hs) ts), times_roots n hs ts, times_roots n (filter (λ h. not (p h)) hs) ts, split_by n p hs)
 
+-- what is let go in turn, the newest first
+pub regrouped : (now gone old roots holds : List ℕ) → old ≡ now ++ gone → AreHolds (old ++ roots) holds → AreHolds (gone ++ (now ++ roots)) holds
+regrouped now gone old roots holds e are n = omega (arith, are n, ap (times n) e, times_append n old roots, times_append n now gone, times_append n gone (now ++ roots), times_append n now roots)
+
+pub held_last : (new : List ℕ) (x : ℕ) (now roots holds : List ℕ) → now ≡ new ++ x ∷ [] → AreHolds (now ++ roots) holds → 0 < get_or holds x 0
+held_last new x now roots holds e are = omega (arith, are x, ap (times x) e, times_append x now roots, times_append x new (x ∷ []), times_one x [])
+
+pub times_turned : (gone : List ℕ) (x n : ℕ) → times n (x ∷ gone) ≡ times n (gone ++ x ∷ [])
+times_turned gone x n = omega (arith, times_append n (x ∷ []) gone, times_append n gone (x ∷ []))
+
+pub length_turned : (gone : List ℕ) (x : ℕ) → length (x ∷ gone) ≡ length (gone ++ x ∷ [])
+length_turned gone x = omega (arith, length-append gone (x ∷ []))
+
+pub lets_same : (a b : TableValue) (g h : List ℕ) (s t : ℕ) → ((n : ℕ) → times n h ≡ times n g) → length h ≡ length g → Lets a b g s t → Lets a b h s t
+lets_same a b g h s t e l lets =
+    let turned : (roots : List ℕ) → AreHolds (h ++ roots) a.holds → AreHolds (g ++ roots) a.holds = λ roots k n. omega (arith, k n, e n, times_append n h roots, times_append n g roots) in
+    record { holds = λ roots k. lets.holds roots (turned roots k); objects = λ roots k. lets.objects roots (turned roots k); spare = lets.spare; steps = omega (arith, lets.steps, l) }
+
+-- where no handle is of the display, all are of others
+none_on : (b : Bool) (x : Handle) (ys : List Handle) → objects_of (cond b (x ∷ ys) ys) ≡ [] → (b ≡ false) × (objects_of ys ≡ [])
+none_on true x ys e = absurd (let f : x.object ∷ objects_of ys ≡ [] = e in cc)
+none_on false x ys e = (refl, e)
+
+pub none_left : (now new more : List ℕ) → now ≡ new ++ more → now ≡ [] → new ≡ []
+none_left now [] more e f = refl
+none_left now (x ∷ new) more e f = absurd (let g : x ∷ (new ++ more) ≡ [] = sym e ∙ f in cc)
+
+pub off_all : (p : Handle → Bool) (hs : List Handle) → objects_of (filter p hs) ≡ [] → filter (λ h. not (p h)) hs ≡ hs
+off_all p [] e = refl
+off_all p (x ∷ hs) e = let n = none_on (p x) x (filter p hs) e in rw (n.0, off_all p hs n.1) refl
+
+-- once a handle that is found is removed, what it names may be let go
+pub without_one : (p : Handle → Bool) (h : Handle) (end : ℕ) (hs : List Handle) (ts : List ThreadRecord) (holds : List ℕ) → RiseFrom 3 hs end → find p hs ≡ Some h → AreHolds (roots_of hs ts) holds → AreHolds (h.object ∷ roots_of (numbered.without h.number hs) ts) holds
+without_one p h end hs ts holds r e are n =
+    let a = without (λ x. x.number == h.number) hs ts holds are n in
+    let b = ap (λ xs. times n (objects_of xs ++ roots_of (numbered.without h.number hs) ts)) (only_one 3 p h hs end r e) in
+    omega (arith, a, b)
+
 pub root_few : (n : ℕ) (roots holds : List ℕ) (b : ℕ) → AreHolds roots holds → length roots < b → get_or holds n 0 < b
 root_few n roots holds b are l = omega (arith, are n, times_le n roots)
 
@@ -164,10 +205,6 @@ context_is (Some (Sync y)) x h = cc
 pub group_is : (os : List (Option Object)) (m : ℕ) (x : ContextObject) → context_in os m ≡ Some x → ((k : ℕ) (y : Object) → get_or os k None ≡ Some y → LeadsDown os y) → IsGroup os x.group
 group_is os m x h down = down m (Context x) (context_is (get_or os m None) x h) x.group (times_one x.group (x.texture ∷ []))
 
--- ---- Handles one after another.
-pub gone_more : (p : Handle → Bool) (hs : List Handle) (k : ℕ) (d : Handle) → k < length hs → objects_of (filter p (take (k + 1) hs)) ≡ objects_of (filter p (take k hs)) ++ objects_of (filter p (get_or hs k d ∷ []))
-gone_more p hs k d l = ap (λ xs. objects_of (filter p xs)) (take_more hs k d l) ∙ ap objects_of (filter-append p (take k hs) (get_or hs k d ∷ [])) ∙ map-append (λ (h : Handle). h.object) (filter p (take k hs)) (filter p (get_or hs k d ∷ []))
-
 pub nothing_held : (n : ℕ) → flat_map held_by (replicate n initial) ≡ []
 nothing_held zero = refl
 nothing_held (suc n) = nothing_held n
@@ -180,42 +217,6 @@ error_same n hs ts t r e is = elim (cases_lt t (length ts)) [
   | inl l ↦ roots_same n hs ts t (record r { error = e }) l (ap held_by is)
   | inr l ↦ ap (λ xs. times n (roots_of hs xs)) (set_past ts t (record r { error = e }) l)
 ]
-
--- a handle of the display is held
-pub one_held : (d : ℕ) (h : Handle) (roots holds : List ℕ) → h.display ≡ d → AreHolds (objects_of (filter (λ x. x.display == d) (h ∷ [])) ++ roots) holds → 0 < get_or holds h.object 0
-one_held d h roots holds e are = first_held h.object roots holds (λ n. sym (ap (λ (xs : List Handle). times n (objects_of xs ++ roots)) (cond-true (h.display == d) (h ∷ []) [] (eq-eqb h.display d e))) ∙ are n)
-
-first_of : (p : Handle → Bool) (h : Handle) (hs : List Handle) → objects_of (filter p (h ∷ hs)) ≡ objects_of (filter p (h ∷ [])) ++ objects_of (filter p hs)
-first_of p h hs = ap objects_of (filter-append p (h ∷ []) hs) ∙ map-append (λ (x : Handle). x.object) (filter p (h ∷ [])) (filter p hs)
-
-gone_next : (p : Handle → Bool) (h : Handle) (hs : List Handle) (k : ℕ) (d : Handle) → objects_of (filter p hs) ≡ objects_of (filter p (take k hs)) ++ (objects_of (filter p (get_or hs k d ∷ [])) ++ objects_of (filter p (drop (k + 1) hs))) → objects_of (filter p (h ∷ hs)) ≡ objects_of (filter p (h ∷ take k hs)) ++ (objects_of (filter p (get_or hs k d ∷ [])) ++ objects_of (filter p (drop (k + 1) hs)))
-gone_next p h hs k d e =
-    let a : List ℕ = objects_of (filter p (take k hs)) in
-    let b : List ℕ = objects_of (filter p (get_or hs k d ∷ [])) ++ objects_of (filter p (drop (k + 1) hs)) in
-    first_of p h hs ∙ ap (λ xs. objects_of (filter p (h ∷ [])) ++ xs) e ∙ sym (append_assoc (objects_of (filter p (h ∷ []))) a b) ∙ ap (λ xs. xs ++ b) (sym (first_of p h (take k hs)))
-
-gone_split : (p : Handle → Bool) (hs : List Handle) (k : ℕ) (d : Handle) → k < length hs → objects_of (filter p hs) ≡ objects_of (filter p (take k hs)) ++ (objects_of (filter p (get_or hs k d ∷ [])) ++ objects_of (filter p (drop (k + 1) hs)))
-gone_split p [] k d l = absurd (omega arith)
-gone_split p (h ∷ hs) zero d l = ap objects_of (filter-append p (h ∷ []) hs) ∙ map-append (λ (x : Handle). x.object) (filter p (h ∷ [])) (filter p hs)
-gone_split p (h ∷ hs) (suc k) d l =
-    let q : suc k + 1 ≡ suc (k + 1) = omega arith in
-    rw q (gone_next p h hs k d (gone_split p hs k d (omega arith)))
-
-pub turn : (p : Handle → Bool) (hs : List Handle) (k : ℕ) (d : Handle) (roots holds : List ℕ) → k < length hs → AreHolds (objects_of (filter p hs) ++ roots) holds → AreHolds (objects_of (filter p (take k hs)) ++ (objects_of (filter p (get_or hs k d ∷ [])) ++ (objects_of (filter p (drop (k + 1) hs)) ++ roots))) holds
-turn p hs k d roots holds l are n =
-    let a : List ℕ = objects_of (filter p (take k hs)) in
-    let b : List ℕ = objects_of (filter p (get_or hs k d ∷ [])) in
-    let c : List ℕ = objects_of (filter p (drop (k + 1) hs)) in
-    omega (arith, are n, ap (times n) (gone_split p hs k d l), times_append n (objects_of (filter p hs)) roots, times_append n a (b ++ c), times_append n b c, times_append n a (b ++ (c ++ roots)), times_append n b (c ++ roots), times_append n c roots)
-
-pub lets_as : (a b : TableValue) (g h : List ℕ) (s t : ℕ) → h ≡ g → Lets a b g s t → Lets a b h s t
-lets_as a b g h s t e l = rw e l
-
-pub without_of : (p : Handle → Bool) (xs hs : List Handle) (ts : List ThreadRecord) (holds : List ℕ) → xs ≡ hs → AreHolds (roots_of hs ts) holds → AreHolds (objects_of (filter p xs) ++ roots_of (filter (λ h. not (p h)) hs) ts) holds
-without_of p xs hs ts holds e are = rw e (without p hs ts holds are)
-
-pub gone_count : (p : Handle → Bool) (xs hs : List Handle) → xs ≡ hs → length (objects_of (filter p xs)) ≡ count_by p hs
-gone_count p xs hs e = rw e (length-map (filter p hs) (λ (h : Handle). h.object) ∙ length-filter p hs)
 
 pub bind_holds : (hs : List Handle) (ts : List ThreadRecord) (t : ℕ) (was : ThreadRecord) (context draw read : Option Bound) (holds : List ℕ) → t < length ts → was ≡ get_or ts t initial → AreHolds ((bound_object read ++ (bound_object draw ++ bound_object context)) ++ roots_of hs ts) holds → AreHolds (((bound_object was.context ++ bound_object was.draw) ++ bound_object was.read) ++ roots_of hs (set ts t (record was { context = context; draw = draw; read = read }))) holds
 bind_holds hs ts t was context draw read holds l e are n = omega (arith, are n, roots_bind n hs ts t was context draw read l e, times_append n (bound_object read ++ (bound_object draw ++ bound_object context)) (roots_of hs ts), times_append n ((bound_object was.context ++ bound_object was.draw) ++ bound_object was.read) (roots_of hs (set ts t (record was { context = context; draw = draw; read = read }))))

@@ -3,7 +3,7 @@ use Rattle.std.specs.Prelude.{[], ℕ, Bool, false, List, length, filter, slice_
 use Rattle.std.specs.List.{range_with_len}
 use Rattle.driver_objects.specs.declared.objects.Object.{Object}
 use Rattle.egl_model.specs.declared.records.ThreadRecord.{ThreadRecord}
-use Rattle.driver_core.specs.DisplayTables.{DisplaysValue}
+use Rattle.display_table.specs.Tables.{DisplaysValue}
 use Rattle.egl_model.specs.Sweep.{roots_of}
 use Rattle.object_table.specs.Tables.{TableValue, AreHolds}
 use Rattle.egl_model.specs.State.{State}

@@ -1,14 +1,14 @@
 //! The driver and what it stands for.
 ghost use Rattle.std.specs.Prelude.{◌≡◌, ◌≢◌, AllPairs, ◌+◌, ◌<◌, ◌≤◌, ◌∷◌, ◌++◌, [], true, false, Bool, Some, IsSome, find, IfOk, OnErr, OnOk};
 ghost use Rattle.egl_model.specs.State.{opening, set_error, record_of, object_at};
-ghost use Rattle.egl_model.specs.declared.handles.Handle.{Handle};
-ghost use Rattle.egl_model.specs.Sweep.{census, roots, settled, tidied};
+ghost use Rattle.display_table.specs.declared.handles.Handle.{Handle};
+ghost use Rattle.egl_model.specs.Sweep.{census, roots, settled, sweep, tidied};
 ghost use Rattle.ref_store.specs.Counts.{times};
 ghost use Rattle.object_table.specs.Tables.{references_to};
 ghost use Rattle.driver_core.specs.Machine.{Machine};
 
-use crate::display_table::DisplayTable;
 use crate::threads::ThreadTable;
+use display_table::Displays;
 use egl_calls::{EglError, Journal, NoMemory};
 use egl_model::ThreadRecord;
 use object_table::ObjectTable;
@@ -18,7 +18,7 @@ use std::marker::Model;
 /// An EGL driver: two displays with their handles, the objects, and what is kept for each of its threads. It is made with thread 0.
 #[derive(Drop)]
 pub struct Driver {
-    pub(crate) displays: DisplayTable,
+    pub(crate) displays: Displays,
     pub(crate) objects: ObjectTable,
     pub(crate) threads: ThreadTable,
     pub(crate) video: u64,
@@ -50,7 +50,7 @@ impl Driver {
         ensures away { IfOk result (λ d. d.away ≡ false ∷ []) }
     {
         Ok(Driver {
-            displays: DisplayTable::new(alloc),
+            displays: Displays::new(alloc),
             objects: ObjectTable::new(alloc),
             threads: ThreadTable::new(alloc)?,
             video,
@@ -111,7 +111,8 @@ impl Driver {
 
     /// Nothing is left that no chain of references reaches, and there is no fence to signal. This is a law: there is nothing to run.
     pub(crate) fn settled(&self)
-        ensures { tidied self.now.state ≡ self.now.state }
+        ensures tidied { tidied self.now.state ≡ self.now.state }
+        ensures swept { sweep self.now.state ≡ self.now.state }
     {
         self.objects.settled();
         self.objects.has_no_fences();
@@ -128,7 +129,7 @@ impl Driver {
     pub(crate) fn apart(&self)
         ensures { AllPairs (λ g h. g.number ≢ h.number) self.now.state.handles }
     {
-        self.displays.few();
+        self.displays.handles_rise();
     }
 
     /// What a valid handle names is there. This is a law.

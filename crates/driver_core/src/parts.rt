@@ -6,17 +6,18 @@ ghost use Rattle.egl_model.specs.Frame.{AreLocalFrom, AreOf, IsReady};
 ghost use Rattle.egl_model.specs.Hidden.{hide, nothing};
 ghost use Rattle.egl_model.specs.History.{replay_from};
 ghost use Rattle.egl_model.specs.Local.{is_local};
-ghost use Rattle.egl_model.specs.Parts.{Kept, Own, Places, are_same, at_place, display_of, handle_of, image_in, kept_of, own_of, part_in, part_of, places, put_own, read_place, set_image, set_part, write, written};
+ghost use Rattle.egl_model.specs.Parts.{Kept, Own, Places, are_same, at_place, image_in, kept_of, own_of, part_in, part_of, places, put_own, read_place, set_image, set_part, write, written};
 ghost use Rattle.egl_model.specs.Sound.{IsSound};
 ghost use Rattle.egl_model.specs.State.{State};
 ghost use Rattle.thread_part.specs.Private.{AreOnce, IsAllOrNothing};
 ghost use Rattle.driver_core.specs.Machine.{outs};
 ghost use Rattle.driver_core.specs.Parts.{FitsThread};
 
+use crate::currents::handle_of;
 use crate::machine::Driver;
 use context_state::ContextPart;
 use egl_calls::EglError;
-use egl_model::{Bound, ClientApi};
+use egl_model::ClientApi;
 use pixel_rows::Image;
 use std::marker::Model;
 use thread_part::Parts;
@@ -42,7 +43,7 @@ impl Model for OwnParts {
 #[derive(Drop)]
 struct KeptParts {
     api: ClientApi,
-    display: u64,
+    display: u32,
     context: u32,
     draw: u32,
     read: u32,
@@ -107,16 +108,6 @@ fn own_from(parts: Parts) -> OwnParts
         context,
         draw,
         read,
-    }
-}
-
-/// The handle by which something was made current, and 0 where nothing is.
-fn handle_of(bound: Option<Bound>) -> u32
-    ensures { result ≡ handle_of bound }
-{
-    match bound {
-        Some(bound) => bound.handle,
-        None => 0,
     }
 }
 
@@ -205,19 +196,6 @@ impl Driver {
         self.threads.set_away(thread, out);
     }
 
-    /// The display of a context, and 0 where there is none.
-    fn display_of(&self, context: Option<u64>) -> u64
-        ensures { result ≡ display_of self.now.state context }
-    {
-        match context {
-            Some(n) => match self.objects.context(n) {
-                Some(context) => context.display,
-                None => 0,
-            },
-            None => 0,
-        }
-    }
-
     fn kept(&self, thread: u32) -> KeptParts
         requires { thread < self.now.made }
         ensures { result ≡ kept_of self.now.state thread }
@@ -225,7 +203,7 @@ impl Driver {
         let record = self.record(thread);
         KeptParts {
             api: record.api,
-            display: self.display_of(self.current_context(thread)),
+            display: self.display_at(self.current_context(thread)),
             context: handle_of(record.context),
             draw: handle_of(record.draw),
             read: handle_of(record.read),
@@ -245,7 +223,7 @@ impl Driver {
     fn numbers_end(&self)
         ensures { self.now.state.next_handle ≤ 2147483648 }
     {
-        self.displays.ends();
+        self.displays.handles_rise();
     }
 
     /// Hands out what is a thread's own.

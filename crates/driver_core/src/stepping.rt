@@ -21,13 +21,15 @@ ghost use Rattle.egl_model.specs.Sound.{IsSound};
 ghost use Rattle.egl_model.specs.Hidden.{hide};
 ghost use Rattle.driver_core.specs.Machine.{outs};
 
-use crate::arguments::{number, signed};
+use crate::arguments::signed;
 use crate::configs::attribute_value;
+use crate::currents::api_code;
 use crate::displays::display_of;
 use crate::machine::Driver;
 use crate::replies::{bare, listed, read, valued};
 use attrib_lists::AttribError;
 use config_match::Configs;
+use display_table::HandleKind;
 use egl_calls::{
     Call, EglError, EglKind, GlKind, Kind, NoMemory, Numbers, Outcome, Reply, ReplyPair,
 };
@@ -71,15 +73,26 @@ impl Driver {
             EglKind::GetError => Ok(valued(alloc, i64::from(self.record(thread).error.code()))),
             EglKind::GetDisplay => Ok(valued(alloc, display_of(signed(call, 0)))),
             EglKind::Initialize => {
-                self.initialize(number(call, 0));
+                self.initialize(call);
                 Ok(valued(alloc, 1))
             }
             EglKind::GetConfigs => listed(alloc, Configs::standard().all(alloc)?),
             EglKind::ChooseConfig => listed(alloc, chosen(alloc, call)?),
             EglKind::GetConfigAttrib => Ok(valued(alloc, attribute_value(call))),
             EglKind::CreatePbufferSurface => Ok(valued(alloc, self.create_pbuffer(alloc, call)?)),
+            EglKind::QuerySurface => Ok(valued(alloc, self.surface_value(call).unwrap_or(0))),
+            EglKind::SurfaceAttrib => {
+                self.set_attribute(call);
+                Ok(valued(alloc, 1))
+            }
+            EglKind::BindApi => Ok(valued(alloc, 1)),
+            EglKind::QueryApi => Ok(valued(alloc, api_code(self.record(thread).api))),
             EglKind::CreateContext => Ok(valued(alloc, self.create_context(call)?)),
             EglKind::GetCurrentContext => Ok(valued(alloc, self.current_number(thread))),
+            EglKind::GetCurrentSurface => Ok(valued(alloc, self.surface_number(thread, call))),
+            EglKind::GetCurrentDisplay => Ok(valued(alloc, self.current_display(thread))),
+            EglKind::QueryContext => Ok(valued(alloc, self.context_value(call).unwrap_or(0))),
+            EglKind::WaitClient => Ok(valued(alloc, 1)),
             _ => unreachable!(),
         }
     }
@@ -105,12 +118,27 @@ impl Driver {
     {
         match kind {
             EglKind::Terminate => {
-                self.terminate(number(call, 0), steps);
+                self.terminate(call, steps);
                 self.unfenced();
                 Ok(valued(alloc, 1))
             }
             EglKind::MakeCurrent => {
                 self.make_current(thread, call, steps);
+                self.unfenced();
+                Ok(valued(alloc, 1))
+            }
+            EglKind::DestroySurface => {
+                self.destroy(call, HandleKind::Surface, steps);
+                self.unfenced();
+                Ok(valued(alloc, 1))
+            }
+            EglKind::DestroyContext => {
+                self.destroy(call, HandleKind::Context, steps);
+                self.unfenced();
+                Ok(valued(alloc, 1))
+            }
+            EglKind::ReleaseThread => {
+                self.release(thread, steps);
                 self.unfenced();
                 Ok(valued(alloc, 1))
             }
@@ -219,7 +247,7 @@ impl Driver {
         }
     }
 
-    /// Does a call of a thread that doesn't wait. None of this project's own calls is built.
+    /// Does a call of a thread that doesn't wait.
     fn step_by<L: Ledger>(
         &mut self,
         alloc: Global,
@@ -239,7 +267,7 @@ impl Driver {
         match call.kind {
             Kind::Egl(kind) => self.egl_step(alloc, thread, kind, call, steps),
             Kind::Gl(kind) => self.gl_step(alloc, thread, kind, call),
-            Kind::Own(_) => unreachable!(),
+            Kind::Own(kind) => self.own_step(alloc, thread, kind, call),
         }
     }
 

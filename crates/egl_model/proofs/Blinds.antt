@@ -1,5 +1,6 @@
 -- What a thread looks at, and what is put for another thread doesn't change: one lemma for each way to look at a state.
 use Rattle.std.proofs.Common.{◌≡◌, ℕ, Bool, true, false, ◌||◌, List, [], ◌∷◌, zero, suc, refl, sym, ap, ◌∙◌, length, get_or, set, Option, None, Some}
+use Rattle.egl_calls.specs.declared.errors.EglError.{EglError}
 use Rattle.std.specs.List.{list_any}
 use Rattle.std.specs.Option.{option_and_then, option_map, option_map_or}
 use Rattle.std.proofs.lemmas.Bool.{cond-false, eq-eqb, eqb-true, false_from_ne_true, or_left, or_right}
@@ -9,12 +10,12 @@ use Rattle.driver_objects.specs.declared.surfaces.BackedSurface.{BackedSurface}
 use Rattle.driver_objects.specs.declared.contexts.Context.{Context as ContextObject}
 use Rattle.driver_objects.specs.declared.objects.Object.{Object}
 use Rattle.driver_objects.specs.declared.objects.Object.TheVariants.{Context, Storage, Surface}
-use Rattle.egl_model.specs.declared.handles.Handle.{Handle}
+use Rattle.display_table.specs.declared.handles.Handle.{Handle}
 use Rattle.egl_model.specs.declared.records.Bound.{Bound}
 use Rattle.egl_model.specs.declared.records.ThreadRecord.{ThreadRecord}
 use Rattle.egl_model.specs.State.{State, initial, object_at, record_of}
 use Rattle.egl_model.specs.Objects.{as_context, as_fence, as_storage, as_surface, context_in, storage_in, surface_in}
-use Rattle.egl_model.specs.Currents.{current_context, draw_storage, has_context, has_surface, is_bound, is_context_elsewhere, is_surface_elsewhere, part_of_context, read_storage}
+use Rattle.egl_model.specs.Currents.{current_context, draw_storage, has_context, has_surface, is_bound, is_context_elsewhere, is_surface_elsewhere, part_of_context, read_storage, display_at}
 use Rattle.egl_model.specs.Graph.{is_in}
 use Rattle.egl_model.specs.Waits.{is_signalled}
 use Rattle.egl_model.specs.Parts.{Own, Places, is_place, places, set_image, set_part, write, written}
@@ -59,6 +60,11 @@ blind-context_of g e t (Some h) s w v x ne = blind-context g e t h.object s w v 
 pub blind-surface_of : (t : ℕ) (h : Option Handle) (s : State) → Blind t s (λ a. option_and_then (λ h. surface_in a.objects h.object) h)
 blind-surface_of t h s = blind-of as_surface blind-surface t h s
 
+-- the display of a context
+pub blind-display : (t : ℕ) (o : Option ℕ) (s : State) → Blind t s (λ a. display_at a o)
+blind-display t None s w v x ne = refl
+blind-display t (Some n) s w v x ne = blind-context (λ o. option_map_or (λ x. x.display) o 0) (λ c x. refl) t n s w v x ne
+
 -- whether a fence is signalled
 signalled-blind : IsBlind (λ o. option_map_or (λ x. x.signalled) (as_fence o) false)
 signalled-blind (Some (Context c)) = refl
@@ -92,6 +98,10 @@ any-others q (r ∷ rs) zero zero y d z e = refl
 any-others q (r ∷ rs) zero (suc u) y d z e = ap (λ b. b || list_any q (set rs u z)) e
 any-others q (r ∷ rs) (suc i) zero y d z e = ap (λ b. q z || b) (any-set q rs i y d e)
 any-others q (r ∷ rs) (suc i) (suc u) y d z e = ap (λ b. q r || b) (any-others q rs i u y d z e)
+
+-- whether a test of what is bound passes for any thread
+pub blind-any : (q : ThreadRecord → Bool) → ((r : ThreadRecord) (e : EglError) → q (record r { error = e }) ≡ q r) → (t : ℕ) (s : State) → Blind t s (λ a. list_any q a.threads)
+blind-any q same t s w v x ne = any-set q s.threads v (record (record_of s v) { error = x.error }) initial (same (record_of s v) x.error)
 
 pub blind-context_elsewhere : (t n : ℕ) (s : State) → Blind t s (λ a. is_context_elsewhere a.threads t n)
 unfolding is_context_elsewhere

@@ -10,14 +10,14 @@ use Rattle.egl_calls.specs.declared.kinds.EglKind.TheVariants.{MakeCurrent}
 use Rattle.call_rules.specs.EglAllowed.{CurrentAllowed}
 use Rattle.call_rules.specs.EglRules.{is_release}
 use Rattle.call_rules.proofs.EglLaws.{current_allowed}
-use Rattle.egl_model.specs.declared.handles.Handle.{Handle}
-use Rattle.egl_model.specs.declared.handles.HandleKind.{HandleKind}
-use Rattle.egl_model.specs.declared.handles.HandleKind.TheVariants.{Context as a_context, Surface as a_surface}
+use Rattle.display_table.specs.declared.handles.Handle.{Handle}
+use Rattle.display_table.specs.declared.handles.HandleKind.{HandleKind}
+use Rattle.display_table.specs.declared.handles.HandleKind.TheVariants.{Context as a_context, Surface as a_surface}
 use Rattle.egl_model.specs.declared.records.Bound.{Bound}
 use Rattle.egl_model.specs.declared.records.ThreadRecord.{ThreadRecord}
 use Rattle.egl_model.specs.State.{State, initial, record_of}
 use Rattle.egl_model.specs.Arguments.{number}
-use Rattle.egl_model.specs.Handles.{is_named_on, is_same_kind}
+use Rattle.display_table.specs.Handles.{is_named_on, is_same_kind}
 use Rattle.egl_model.specs.MakeCurrent.{bound_by, context_handle, current_facts, draw_handle, made_current, read_handle}
 use Rattle.egl_model.specs.EglFacts.{egl_refusal}
 use Rattle.egl_model.specs.Step.{step}
@@ -58,7 +58,7 @@ if_given P true x y e p = absurd (let f : true ≡ false = e in cc)
 if_given P false x y e p = p
 
 -- what a look-up finds is the valid handle that is asked for
-found_valid : (s : State) (display n : ℕ) (k : HandleKind) (h : Handle) → find (is_named_on display n k) s.handles ≡ Some h → IsValid s display n k h
+pub found_valid : (s : State) (display n : ℕ) (k : HandleKind) (h : Handle) → find (is_named_on display n k) s.handles ≡ Some h → IsValid s display n k h
 found_valid s display n k h e =
     let f = found (Contains s.handles) (is_named_on display n k) s.handles h (All-contains_itself s.handles) e in
     let all = and_parts ((h.number == n) && is_same_kind h.kind k) (h.display == display) f.1 in

@@ -1,5 +1,8 @@
 -- What each call of EGL keeps.
 use Rattle.std.proofs.Common.{◌≡◌, ℕ, ◌+◌, ◌≤◌, ℤ, Bool, true, false, cond, not, ap, ◌==◌, List, [], ◌∷◌, refl, sym, ◌∙◌, arith, length, get_or, Option, None, Some}
+use Rattle.egl_model.proofs.Setters.{setter-surface, suits-surface}
+use Rattle.egl_names.specs.declared.codes.TheConstants.{EGL_BUFFER_PRESERVED}
+use Rattle.surface_store.specs.Surfaces.{SurfaceValue}
 use Rattle.std.specs.Option.{option_map, option_and_then}
 use Rattle.std.proofs.lemmas.Bool.{cond_both, eq-eqb, or_parts}
 use Rattle.egl_calls.specs.Calls.{CallValue}
@@ -7,34 +10,35 @@ use Rattle.egl_calls.specs.declared.errors.EglError.{EglError}
 use Rattle.egl_calls.specs.declared.kinds.Kind.TheVariants.{Egl}
 use Rattle.egl_calls.specs.declared.kinds.EglKind.TheVariants.{CreatePbufferSurface, MakeCurrent}
 use Rattle.call_rules.specs.Arguments.{is_zero, signed}
-use Rattle.call_rules.specs.EglRules.{is_release}
+use Rattle.call_rules.specs.EglRules.{is_release, has_code}
 use Rattle.call_rules.proofs.EglLaws.{current_allowed, pbuffer_allowed}
 use Rattle.driver_objects.specs.declared.kinds.ObjectKind.TheVariants.{Context as a_context_kind, Group as a_group, Storage as a_storage, Surface as a_surface_kind, Texture as a_texture}
 use Rattle.surface_store.specs.Formats.{format_of}
-use Rattle.egl_model.specs.Extents.{flagging, naming, quiet}
+use Rattle.egl_model.specs.Extents.{flagging, naming, quiet, dropping, ending}
 use Rattle.driver_objects.specs.declared.objects.Object.{Object}
-use Rattle.egl_model.specs.declared.handles.Handle.{Handle}
-use Rattle.egl_model.specs.declared.handles.HandleKind.{HandleKind}
-use Rattle.egl_model.specs.declared.handles.HandleKind.TheVariants.{Context as a_context, Surface as a_surface}
+use Rattle.display_table.specs.declared.handles.Handle.{Handle}
+use Rattle.display_table.specs.declared.handles.HandleKind.{HandleKind}
+use Rattle.display_table.specs.declared.handles.HandleKind.TheVariants.{Context as a_context, Surface as a_surface}
 use Rattle.egl_model.specs.State.{State, set_error}
 use Rattle.egl_model.specs.Arguments.{number}
 use Rattle.egl_model.specs.Contexts.{add_context, context_objects, created_context, share_handle, shared_group}
 use Rattle.egl_model.specs.Displays.{set_initialized, terminated}
 use Rattle.egl_model.specs.EglFacts.{egl_refusal}
-use Rattle.egl_model.specs.Handles.{is_named_on, valid, with_handle}
+use Rattle.display_table.specs.Handles.{is_named_on, without_found}
+use Rattle.egl_model.specs.Handles.{destroyed, handle_at, valid, with_handle}
 use Rattle.egl_model.specs.Waits.{waiting}
 use Rattle.egl_model.specs.Kinds.{named_kind}
-use Rattle.egl_model.specs.MakeCurrent.{bind, height_of, width_of, bound_by, context_handle, current_facts, draw_handle, first_use, is_context_taken, is_surface_taken, made_current, read_handle}
-use Rattle.egl_model.specs.Objects.{change_part, context_in, surface_in}
+use Rattle.egl_model.specs.MakeCurrent.{bind, height_of, width_of, bound_by, context_handle, current_facts, draw_handle, first_use, is_context_taken, is_surface_taken, made_current, read_handle, released}
+use Rattle.egl_model.specs.Objects.{change_part, context_in, surface_in, change_surface, with_surface}
 use Rattle.context_state.specs.Parts.{first_current}
 use Rattle.egl_model.specs.Shapes.{Goes, Shape, shapes}
 use Rattle.egl_model.specs.Sound.{IsWhole}
-use Rattle.egl_model.specs.Surfaces.{asked_height, asked_width, asks_for_largest, created_pbuffer, pbuffer_facts, pbuffer_objects, side_of}
+use Rattle.egl_model.specs.Surfaces.{asked_height, asked_width, asks_for_largest, created_pbuffer, pbuffer_facts, pbuffer_objects, side_of, set_attribute, with_behavior}
 use Rattle.egl_model.specs.Sweep.{live_bytes}
 use Rattle.egl_model.proofs.Blinds.{blind-context_of, blind-length, blind-surface_of}
 use Rattle.egl_model.proofs.GlCalls.{acts-part}
-use Rattle.egl_model.proofs.Keeps.{Acts, Blind, acts_cond, acts_of, acts_self, acts_then, by_moves, by_quiet_moves, by_quiet_row}
-use Rattle.egl_model.proofs.Moves.{Add, Await, Binds, Bind, Flags, Keep, Name, Note}
+use Rattle.egl_model.proofs.Keeps.{Acts, Blind, acts_cond, acts_of, acts_self, acts_then, by_moves, by_quiet_moves, by_quiet_row, acts_within}
+use Rattle.egl_model.proofs.Moves.{Add, Await, Binds, Bind, Flags, Keep, Name, Note, Change}
 use Rattle.egl_model.proofs.Named.{asks_on, bound_goes, context_free, found_below, found_goes, group_goes, is_some-bound_by, surface_free}
 use Rattle.egl_model.proofs.NewObjects.{full-blank, with_own_pixels, without_pixels}
 use Rattle.egl_model.proofs.Places.{new_kind, old_kind}
@@ -46,8 +50,26 @@ acts-error s t e = by_quiet_moves t s (Note e ∷ []) refl (tt, tt) (λ w. (tt, 
 pub acts-initialize : (s : State) (t d : ℕ) (on : Bool) → Acts flagging t s (λ a. set_initialized a d on)
 acts-initialize s t d on = by_quiet_row t s (λ a. Flags (cond (d == 1) on a.first) (cond (d == 2) on a.second) ∷ []) (λ w v x ne. refl) refl (tt, tt) (λ w. (tt, tt))
 
-pub acts-terminate : (s : State) (t d : ℕ) → Acts flagging t s (λ a. terminated a d)
+pub acts-terminate : (s : State) (t d : ℕ) → Acts ending t s (λ a. terminated a d)
 acts-terminate s t d = by_quiet_row t s (λ a. Flags (cond (d == 1) false a.first) (cond (d == 2) false a.second) ∷ Keep (λ h. not (h.display == d)) ∷ []) (λ w v x ne. refl) refl (tt, (tt, tt)) (λ w. (tt, λ v. (tt, tt)))
+
+-- a handle is removed, whatever it names
+acts-without : (t : ℕ) (s : State) (h : Option Handle) → Acts dropping t s (λ a. record a { handles = without_found h a.handles })
+acts-without t s None = acts_within dropping t s (λ a. a) (acts_self t s)
+acts-without t s (Some h) = by_quiet_moves t s (Keep (λ x. not (x.number == h.number)) ∷ []) refl (tt, tt) (λ w. (tt, tt))
+
+pub acts-destroyed : (s : State) (t : ℕ) (c : CallValue) (kind : HandleKind) → Acts dropping t s (λ a. destroyed a c kind)
+acts-destroyed s t c kind = acts_of dropping t s (λ a. handle_at a c 1 kind) (λ h a. record a { handles = without_found h a.handles }) (λ w v x ne. refl) (acts-without t s (handle_at s c 1 kind))
+
+-- ---- Surfaces.
+acts-behavior : (s : State) (t : ℕ) (c : CallValue) (h : Option Handle) → Acts quiet t s (λ a. with_behavior a c h)
+unfolding change_surface
+acts-behavior s t c None = acts_self t s
+acts-behavior s t c (Some h) = let f : SurfaceValue → SurfaceValue = λ x. record x { preserve = has_code c 3 EGL_BUFFER_PRESERVED } in
+    by_quiet_moves t s (Change h.object (with_surface f) ∷ []) refl (setter-surface f, tt) (λ w. (suits-surface t (shapes s.objects) s h.object f, tt))
+
+pub acts-attribute : (s : State) (t : ℕ) (c : CallValue) → Acts quiet t s (λ a. set_attribute a c)
+acts-attribute s t c = acts_of quiet t s (λ a. handle_at a c 1 a_surface) (λ h a. with_behavior a c h) (λ w v x ne. refl) (acts-behavior s t c (handle_at s c 1 a_surface))
 
 -- ---- Pbuffers.
 side_fits : (z : ℤ) → side_of z ≤ 2048
@@ -76,7 +98,7 @@ goes_shared s c w = cond_both (is_zero c 2) None _ (Goes (shapes s.objects) a_gr
     of_handle (Some h) = group_goes (shapes s.objects) (get_or s.objects h.object None) (w.firm.kinds.objects h.object)
 
 -- a new context with its group, or with one that is there
-acts-new_context : (s : State) (t d : ℕ) (config : ℤ) (group : Option ℕ) → (IsWhole (shapes s.objects) s → Goes (shapes s.objects) a_group group) → Acts naming t s (λ a. add_context a d config group)
+acts-new_context : (s : State) (t d config : ℕ) (group : Option ℕ) → (IsWhole (shapes s.objects) s → Goes (shapes s.objects) a_group group) → Acts naming t s (λ a. add_context a d config group)
 unfolding live_bytes
 acts-new_context s t d config None g =
     let n = length s.objects in let new = context_objects n config d None in
@@ -107,7 +129,7 @@ blind-shared_group : (t : ℕ) (s : State) (c : CallValue) → Blind t s (λ a. 
 blind-shared_group t s c w v x ne = ap (λ y. cond (is_zero c 2) None y) (blind-context_of (option_map (λ y. y.group)) (λ y p. refl) t (share_handle s c) s w v x ne)
 
 pub acts-context : (s : State) (t : ℕ) (c : CallValue) → Acts naming t s (λ a. created_context a c)
-acts-context s t c = acts_of naming t s (λ a. shared_group a c) (λ g a. add_context a (number c 0) (signed c 1) g) (blind-shared_group t s c) (acts-new_context s t (number c 0) (signed c 1) (shared_group s c) (goes_shared s c))
+acts-context s t c = acts_of naming t s (λ a. shared_group a c) (λ g a. add_context a (number c 0) (number c 1) g) (blind-shared_group t s c) (acts-new_context s t (number c 0) (number c 1) (shared_group s c) (goes_shared s c))
 
 -- ---- Currents.
 acts-first_use : (t : ℕ) (s : State) (context draw : Option Handle) → is_context_taken s t context ≡ false → Acts quiet t s (λ a. record a { objects = first_use context draw a.objects })
@@ -152,11 +174,14 @@ binds-none t sh s = record {
   read_below = tt;
 }
 
+pub acts-released : (s : State) (t : ℕ) → Acts quiet t s (λ a. released a t)
+acts-released s t = by_quiet_moves t s (Bind None None None ∷ []) refl (tt, tt) (λ w. (binds-none t (shapes s.objects) s, tt))
+
 pub acts-make_current : (s : State) (t : ℕ) (c : CallValue) → c.kind ≡ Egl MakeCurrent → egl_refusal s t MakeCurrent c ≡ None → Acts quiet t s (λ a. made_current a t c)
 unfolding egl_refusal
-acts-make_current s t c h r = acts_cond quiet t s (is_release c) (λ a. bind a t None None None)
+acts-make_current s t c h r = acts_cond quiet t s (is_release c) (λ a. released a t)
     (λ a. bind (record a { objects = first_use (context_handle a c) (draw_handle a c) a.objects }) t (bound_by (context_handle a c)) (bound_by (draw_handle a c)) (bound_by (read_handle a c)))
-    (λ e. by_quiet_moves t s (Bind None None None ∷ []) refl (tt, tt) (λ w. (binds-none t (shapes s.objects) s, tt)))
+    (λ e. acts-released s t)
     (λ e.
     let os = first_use (context_handle s c) (draw_handle s c) s.objects in let a = record s { objects = os } in
     acts_of {A = Option Handle × (Option Handle × Option Handle)} quiet t s (λ a. (context_handle a c, (draw_handle a c, read_handle a c))) (λ y a. bind (record a { objects = first_use y.0 y.1.0 a.objects }) t (bound_by y.0) (bound_by y.1.0) (bound_by y.1.1)) (λ w v x ne. refl)

@@ -4,7 +4,7 @@ use Rattle.egl_calls.specs.Calls.{CallValue}
 use Rattle.egl_calls.specs.declared.kinds.Kind.{Kind}
 use Rattle.egl_calls.specs.declared.kinds.Kind.TheVariants.{Egl}
 use Rattle.egl_calls.specs.declared.kinds.EglKind.{EglKind}
-use Rattle.egl_calls.specs.declared.kinds.EglKind.TheVariants.{Initialize, Terminate, CreatePbufferSurface, CreateContext}
+use Rattle.egl_calls.specs.declared.kinds.EglKind.TheVariants.{Initialize, Terminate, CreatePbufferSurface, CreateContext, DestroySurface, DestroyContext}
 use Rattle.egl_model.specs.Extents.{extent_of_kind, egl_extent}
 use Rattle.egl_model.specs.State.{State}
 use Rattle.egl_model.specs.EglEffects.{egl_effect}
@@ -18,6 +18,12 @@ pub makes_no_handle : (k : Kind) → k ≢ Egl CreatePbufferSurface → k ≢ Eg
 makes_no_handle (Egl CreatePbufferSurface) p x = absurd (p refl)
 makes_no_handle (Egl CreateContext) p x = absurd (x refl)
 makes_no_handle k p x = refl
+
+pub drops_no_handle : (k : Kind) → k ≢ Egl Terminate → k ≢ Egl DestroySurface → k ≢ Egl DestroyContext → (extent_of_kind k).drops ≡ false
+drops_no_handle (Egl Terminate) e s c = absurd (e refl)
+drops_no_handle (Egl DestroySurface) e s c = absurd (s refl)
+drops_no_handle (Egl DestroyContext) e s c = absurd (c refl)
+drops_no_handle k e s c = refl
 
 -- a call that makes a handle is done
 pub done_or_quiet : (s : State) (t : ℕ) (c : CallValue) (k : EglKind) → ((egl_effect s t k c).waits ≡ false) ⊎ ((egl_extent k).names ≡ 0)

@@ -5,16 +5,16 @@ use Rattle.std.specs.List.{sum_by}
 use Rattle.std.specs.Option.{option_map}
 use Rattle.std.proofs.lemmas.Bool.{both_ways, cases_lt, true_from_ne_false}
 use Rattle.std.proofs.lemmas.List.{get_or-set_other, length-append, length-set, set_past}
-use Rattle.std.proofs.lemmas.List.Elements.{All-append, All-contains, All-contains_itself, All-cons, All-filter, All-nil}
+use Rattle.std.proofs.lemmas.List.Elements.{All-append, All-contains, All-contains_itself, All-cons, All-filter, All-nil, Contains-append_left}
 use Rattle.std.proofs.lemmas.List.Sums.{sum_by-append, sum_by-cons, sum_by-set}
 use Rattle.egl_model.specs.Extents.{Extent, SameFlags, quiet}
 use Rattle.driver_objects.specs.declared.objects.Object.{Object}
 use Rattle.driver_objects.specs.Objects.{kind_of}
-use Rattle.egl_model.specs.declared.handles.Handle.{Handle}
+use Rattle.display_table.specs.declared.handles.Handle.{Handle}
 use Rattle.egl_model.specs.Graph.{reached}
 use Rattle.egl_model.specs.State.{State, initial, object_at, record_of}
 use Rattle.egl_model.specs.Objects.{change}
-use Rattle.egl_model.specs.Laws.{HandlesAreNew, IsKnownOrNew, ObjectsAreNew, has_object}
+use Rattle.egl_model.specs.Laws.{HandlesAreNew, IsKnownOrNew, ObjectsAreNew, has_object, StayValid}
 use Rattle.egl_model.specs.Shapes.{Shape, shape_in}
 use Rattle.egl_model.specs.Sweep.{bytes_in, edges_at, live_bytes, swept, sweep}
 use Rattle.egl_model.proofs.Moves.{extent, extent_of, joined, Await, Each, Body, Resize, Add, AllHold, Bind, Change, Flags, Holds, Keep, Move, Name, Note, apply, bytes_made, play}
@@ -28,6 +28,7 @@ pub record Frame (e : Extent) (t : ℕ) (s a : State) : Type 0 where
   pub others : (u : ℕ) → u ≢ t → record_of a u ≡ record_of s u
   pub count : length a.threads ≡ length s.threads
   pub handles : HandlesAreNew s a
+  pub kept : e.drops ≡ false → StayValid s a
   pub objects : ObjectsAreNew s a
   pub video : a.video ≡ s.video
 
@@ -108,7 +109,7 @@ objects_swept s a b rs e o = record {
 
 -- ---- Frames in a row, and behind a sweep.
 pub frame_self : (t : ℕ) (s : State) → Frame quiet t s s
-frame_self t s = record { flags = λ q. (refl, refl); next = omega arith; others = λ u ne. refl; count = refl; handles = handles_stay s s refl refl; objects = objects_same s s refl; video = refl }
+frame_self t s = record { flags = λ q. (refl, refl); next = omega arith; others = λ u ne. refl; count = refl; handles = handles_stay s s refl refl; kept = λ q h c. c; objects = objects_same s s refl; video = refl }
 
 -- a change, and one that goes nowhere further
 pub frame_then : (e : Extent) (t : ℕ) (a b c : State) → Frame e t a b → Frame quiet t b c → Frame e t a c
@@ -118,6 +119,7 @@ frame_then e t a b c f g = record {
   others = λ u ne. g.others u ne ∙ f.others u ne;
   count = g.count ∙ f.count;
   handles = handles_then a b c f.handles g.handles;
+  kept = λ q h c. g.kept refl h (f.kept q h c);
   objects = objects_then a b c f.objects g.objects;
   video = g.video ∙ f.video;
 }
@@ -133,6 +135,7 @@ frame_join e f t a b c v w = record {
   others = λ u ne. w.others u ne ∙ v.others u ne;
   count = w.count ∙ v.count;
   handles = handles_then a b c v.handles w.handles;
+  kept = λ q h c. let r = neither_flag e.drops f.drops q in w.kept r.1 h (v.kept r.0 h c);
   objects = objects_then a b c v.objects w.objects;
   video = w.video ∙ v.video;
 }
@@ -144,6 +147,7 @@ frame_swept e t s a f = record {
   others = f.others;
   count = f.count;
   handles = record { rises = f.handles.rises; each = f.handles.each };
+  kept = f.kept;
   objects = objects_swept s a (sweep a) _ refl f.objects;
   video = f.video;
 }
@@ -156,18 +160,20 @@ frame-change t n f s h = record {
   others = λ u ne. refl;
   count = refl;
   handles = handles_stay s _ refl refl;
+  kept = λ q h c. c;
   objects = objects_stay s (record s { objects = change f n s.objects }) (length-set s.objects n _) (same_at_set shape_in s.objects n (f (get_or s.objects n None)) None (h (get_or s.objects n None)));
   video = refl;
 }
 
 pub frame-apply : (t : ℕ) (m : Move) (s : State) → Holds m → Frame (extent_of m) t s (apply t m s)
-frame-apply t (Flags a b) s h = record { flags = λ q. absurd (let f : true ≡ false = q in cc); next = omega arith; others = λ u ne. refl; count = refl; handles = handles_stay s _ refl refl; objects = objects_same s _ refl; video = refl }
+frame-apply t (Flags a b) s h = record { flags = λ q. absurd (let f : true ≡ false = q in cc); next = omega arith; others = λ u ne. refl; count = refl; handles = handles_stay s _ refl refl; kept = λ q h c. c; objects = objects_same s _ refl; video = refl }
 frame-apply t (Note e) s h = record {
   flags = λ q. (refl, refl);
   next = omega arith;
   others = λ u ne. get_or-set_other s.threads t u _ initial ne;
   count = length-set s.threads t _;
   handles = handles_stay s _ refl refl;
+  kept = λ q h c. c;
   objects = objects_same s _ refl;
   video = refl;
 }
@@ -177,6 +183,7 @@ frame-apply t (Await x) s h = record {
   others = λ u ne. get_or-set_other s.threads t u _ initial ne;
   count = length-set s.threads t _;
   handles = handles_stay s _ refl refl;
+  kept = λ q h c. c;
   objects = objects_same s _ refl;
   video = refl;
 }
@@ -186,6 +193,7 @@ frame-apply t (Each f) s h = record {
   others = λ u ne. refl;
   count = refl;
   handles = handles_stay s _ refl refl;
+  kept = λ q h c. c;
   objects = objects_stay s (apply t (Each f) s) (length-map' f s.objects) (at_map (λ o p. shape_in p ≡ shape_in o) f s.objects None refl (λ o. ap (λ (b : Body). b.shape) (h o)));
   video = refl;
 }
@@ -195,6 +203,7 @@ frame-apply t (Bind c d r) s h = record {
   others = λ u ne. get_or-set_other s.threads t u _ initial ne;
   count = length-set s.threads t _;
   handles = handles_stay s _ refl refl;
+  kept = λ q h c. c;
   objects = objects_same s _ refl;
   video = refl;
 }
@@ -206,6 +215,7 @@ frame-apply t (Add os) s h = record {
   others = λ u ne. refl;
   count = refl;
   handles = handles_stay s _ refl refl;
+  kept = λ q h c. c;
   objects = record {
     rises = let l = length-append s.objects os in omega (arith, l);
     each = λ n l none. ap is_some (at_old s.objects os None n l) ∙ none;
@@ -223,6 +233,7 @@ frame-apply t (Name d k n) s h = record {
     each = All-append (IsKnownOrNew s (apply t (Name d k n) s)) s.handles _ (known s (apply t (Name d k n) s))
         (All-cons (IsKnownOrNew s (apply t (Name d k n) s)) _ [] (inr (omega arith, omega arith)) (All-nil (IsKnownOrNew s (apply t (Name d k n) s))));
   };
+  kept = λ q x c. Contains-append_left s.handles _ x c;
   objects = objects_same s _ refl;
   video = refl;
 }
@@ -232,6 +243,7 @@ frame-apply t (Keep p) s h = record {
   others = λ u ne. refl;
   count = refl;
   handles = record { rises = omega arith; each = All-filter p (IsKnownOrNew s (apply t (Keep p) s)) s.handles (known s (apply t (Keep p) s)) };
+  kept = λ q. absurd (let f : true ≡ false = q in cc);
   objects = objects_same s _ refl;
   video = refl;
 }

@@ -87,6 +87,7 @@ keeps_within e t s a f = record {
     others = f.frame.others;
     count = f.frame.count;
     handles = f.frame.handles;
+    kept = λ q. f.frame.kept refl;
     objects = f.frame.objects;
     video = f.frame.video;
   };

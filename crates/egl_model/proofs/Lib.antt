@@ -14,6 +14,7 @@ pub mod LinkedSteps
 pub mod NamedObjects
 pub mod Holders
 pub mod DisplayLaws
+pub mod DestroyLaws
 pub mod KindSteps
 pub mod CurrentLaws
 pub mod NewHandleLaws

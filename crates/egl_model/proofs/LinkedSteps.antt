@@ -11,7 +11,7 @@ use Rattle.driver_objects.specs.Storages.{StorageValue}
 use Rattle.driver_objects.specs.declared.contexts.Context.{Context as ContextObject}
 use Rattle.driver_objects.specs.declared.objects.Object.{Object}
 use Rattle.driver_objects.specs.declared.objects.Object.TheVariants.{Context, Group, Texture, Surface, Storage, Sync}
-use Rattle.egl_model.specs.declared.handles.Handle.{Handle}
+use Rattle.display_table.specs.declared.handles.Handle.{Handle}
 use Rattle.egl_model.specs.declared.records.ThreadRecord.{ThreadRecord}
 use Rattle.egl_model.specs.Graph.{is_in}
 use Rattle.egl_model.specs.State.{initial}

@@ -7,7 +7,7 @@ use Rattle.egl_calls.specs.Calls.{CallValue}
 use Rattle.egl_calls.specs.declared.kinds.Kind.{Kind}
 use Rattle.egl_calls.specs.declared.kinds.Kind.TheVariants.{Egl, Gl, Own as OwnCall}
 use Rattle.egl_calls.specs.declared.kinds.EglKind.{EglKind}
-use Rattle.egl_calls.specs.declared.kinds.EglKind.TheVariants.{GetError as EglGetError, GetDisplay, GetCurrentContext}
+use Rattle.egl_calls.specs.declared.kinds.EglKind.TheVariants.{GetError as EglGetError, GetDisplay, GetCurrentContext, BindApi, QueryApi, GetCurrentSurface, GetCurrentDisplay}
 use Rattle.egl_calls.specs.declared.kinds.GlKind.{GlKind}
 use Rattle.egl_calls.specs.declared.kinds.GlKind.TheVariants.{GetError, ClearColorx, Clear, ReadPixels}
 use Rattle.egl_calls.specs.declared.errors.EglError.{EglError}
@@ -155,12 +155,20 @@ local_facts : (s : State) (t : ℕ) (c : CallValue) (k : EglKind) → is_local_e
 local_facts s t c EglGetError h = refl
 local_facts s t c GetDisplay h = refl
 local_facts s t c GetCurrentContext h = refl
+local_facts s t c BindApi h = refl
+local_facts s t c QueryApi h = refl
+local_facts s t c GetCurrentSurface h = refl
+local_facts s t c GetCurrentDisplay h = refl
 local_facts s t c k h = not_local h
 
 egl_effect-local : (s : State) (t : ℕ) (c : CallValue) (k : EglKind) → is_local_egl k ≡ true → egl_effect s t k c ≡ valued (egl_value (part_of s t) k c) s
 egl_effect-local s t c EglGetError h = refl
 egl_effect-local s t c GetDisplay h = refl
 egl_effect-local s t c GetCurrentContext h = refl
+egl_effect-local s t c BindApi h = refl
+egl_effect-local s t c QueryApi h = refl
+egl_effect-local s t c GetCurrentSurface h = refl
+egl_effect-local s t c GetCurrentDisplay h = refl
 egl_effect-local s t c k h = not_local h
 
 by_egl_refusal : (s : State) (t : ℕ) (v : ℤ) (o : Option EglError) → IsSound s → after_egl_rules s t o (valued v s) ≡ as_step s t (egl_locally (part_of s t) o v)

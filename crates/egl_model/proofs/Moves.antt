@@ -7,14 +7,14 @@ use Rattle.context_state.specs.Parts.{PartValue}
 use Rattle.pixel_rows.specs.Images.{ImageValue}
 use Rattle.driver_objects.specs.declared.objects.Object.{Object}
 use Rattle.egl_model.specs.Slots.{own_of, slot}
-use Rattle.egl_model.specs.declared.handles.Handle.{Handle}
-use Rattle.egl_model.specs.declared.handles.HandleKind.{HandleKind}
+use Rattle.display_table.specs.declared.handles.Handle.{Handle}
+use Rattle.display_table.specs.declared.handles.HandleKind.{HandleKind}
 use Rattle.egl_model.specs.declared.records.Bound.{Bound}
 use Rattle.egl_model.specs.declared.records.ThreadRecord.{ThreadRecord}
 use Rattle.egl_model.specs.Full.{Full}
 use Rattle.egl_model.specs.Graph.{is_in}
 use Rattle.egl_model.specs.State.{State, initial, set_error}
-use Rattle.egl_model.specs.Extents.{Extent, flagging, naming, quiet}
+use Rattle.egl_model.specs.Extents.{Extent, flagging, naming, quiet, dropping}
 use Rattle.egl_model.specs.Objects.{change, surface_in}
 use Rattle.egl_model.specs.Parts.{is_place, set_image, set_part}
 use Rattle.egl_model.specs.Currents.{has_context, has_surface, is_bound}
@@ -65,10 +65,11 @@ play t (m ∷ ms) s = play t ms (apply t m s)
 abbrev pub extent_of : Move → Extent
 extent_of (Flags a b) = flagging
 extent_of (Name d k n) = naming
+extent_of (Keep p) = dropping
 extent_of m = quiet
 
 abbrev pub joined : Extent → Extent → Extent
-joined e f = record { flags = e.flags || f.flags; names = e.names + f.names }
+joined e f = record { flags = e.flags || f.flags; names = e.names + f.names; drops = e.drops || f.drops }
 
 abbrev pub extent : List Move → Extent
 extent [] = quiet

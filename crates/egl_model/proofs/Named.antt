@@ -10,12 +10,12 @@ use Rattle.driver_objects.specs.declared.kinds.ObjectKind.{ObjectKind}
 use Rattle.driver_objects.specs.declared.kinds.ObjectKind.TheVariants.{Group as a_group}
 use Rattle.driver_objects.specs.declared.objects.Object.{Object}
 use Rattle.driver_objects.specs.declared.objects.Object.TheVariants.{Context}
-use Rattle.egl_model.specs.declared.handles.Handle.{Handle}
-use Rattle.egl_model.specs.declared.handles.HandleKind.{HandleKind}
-use Rattle.egl_model.specs.declared.handles.HandleKind.TheVariants.{Context as c_kind, Surface as s_kind, Image as i_kind, Sync as y_kind}
+use Rattle.display_table.specs.declared.handles.Handle.{Handle}
+use Rattle.display_table.specs.declared.handles.HandleKind.{HandleKind}
+use Rattle.display_table.specs.declared.handles.HandleKind.TheVariants.{Context as c_kind, Surface as s_kind, Image as i_kind, Sync as y_kind}
 use Rattle.egl_model.specs.declared.records.ThreadRecord.{ThreadRecord}
 use Rattle.egl_model.specs.State.{State, initial}
-use Rattle.egl_model.specs.Handles.{is_named, is_named_on, is_same_kind}
+use Rattle.display_table.specs.Handles.{is_named, is_named_on, is_same_kind}
 use Rattle.egl_model.specs.Kinds.{NamesItsKind, named_kind}
 use Rattle.egl_model.specs.Currents.{has_context, has_surface, is_bound, is_context_elsewhere, is_surface_elsewhere}
 use Rattle.egl_model.specs.MakeCurrent.{bound_by}

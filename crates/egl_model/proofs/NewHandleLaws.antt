@@ -16,9 +16,9 @@ use Rattle.egl_calls.specs.declared.errors.Outcome.TheVariants.{Done, Waiting}
 use Rattle.call_rules.specs.Arguments.{signed}
 use Rattle.driver_objects.specs.Objects.{kind_of}
 use Rattle.driver_objects.specs.declared.objects.Object.{Object}
-use Rattle.egl_model.specs.declared.handles.Handle.{Handle}
-use Rattle.egl_model.specs.declared.handles.HandleKind.{HandleKind}
-use Rattle.egl_model.specs.declared.handles.HandleKind.TheVariants.{Context as a_context, Surface as a_surface}
+use Rattle.display_table.specs.declared.handles.Handle.{Handle}
+use Rattle.display_table.specs.declared.handles.HandleKind.{HandleKind}
+use Rattle.display_table.specs.declared.handles.HandleKind.TheVariants.{Context as a_context, Surface as a_surface}
 use Rattle.egl_model.specs.Graph.{is_in}
 use Rattle.egl_model.specs.State.{State, object_at, record_of, set_error}
 use Rattle.egl_model.specs.Arguments.{number}
@@ -86,7 +86,7 @@ pbuffer_gets_handle s t c h =
     subst (λ (a : State). HasNewHandle s a (number c 0) a_surface) (sym (allowed_egl_state s t CreatePbufferSurface c h))
     (has_new s t (number c 0) a_surface (pbuffer_objects (length s.objects) (signed c 1) (side_of (asked_width c)) (side_of (asked_height c)) (asks_for_largest c)) refl)
 
-context_first : (n : ℕ) (config : ℤ) (d : ℕ) (group : Option ℕ) → option_map kind_of (get_or (context_objects n config d group) 0 None) ≡ Some (named_kind a_context)
+context_first : (n : ℕ) (config d : ℕ) (group : Option ℕ) → option_map kind_of (get_or (context_objects n config d group) 0 None) ≡ Some (named_kind a_context)
 context_first n config d None = refl
 context_first n config d (Some g) = refl
 
@@ -94,7 +94,7 @@ pub context_gets_handle : (s : State) (t : ℕ) (c : CallValue) → IsAllowedEgl
 unfolding made
 context_gets_handle s t c h =
     subst (λ (a : State). HasNewHandle s a (number c 0) a_context) (sym (allowed_egl_state s t CreateContext c h))
-    (has_new s t (number c 0) a_context (context_objects (length s.objects) (signed c 1) (number c 0) (shared_group s c)) (context_first (length s.objects) (signed c 1) (number c 0) (shared_group s c)))
+    (has_new s t (number c 0) a_context (context_objects (length s.objects) (number c 1) (number c 0) (shared_group s c)) (context_first (length s.objects) (number c 1) (number c 0) (shared_group s c)))
 
 pub pbuffer_answers_number : (s : State) (t : ℕ) (c : CallValue) → IsAllowedEgl s t CreatePbufferSurface c → (step s t c).reply.value ≡ pos s.next_handle
 pbuffer_answers_number s t c h = ap (λ (x : Stepped). x.reply.value) (allowed_egl s t CreatePbufferSurface c h)

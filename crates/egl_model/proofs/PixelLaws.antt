@@ -52,13 +52,13 @@ live_bytes-created_pbuffer s c =
     live_bytes-append s.objects (pbuffer_objects n (signed c 1) w h (asks_for_largest c))
     ∙ ap (λ k. live_bytes s.objects + k) (pbuffer_objects_bytes n (signed c 1) w h (asks_for_largest c))
 
-context_bytes : (n : ℕ) (config : ℤ) (d : ℕ) (group : Option ℕ) → live_bytes (context_objects n config d group) ≡ 0
+context_bytes : (n : ℕ) (config d : ℕ) (group : Option ℕ) → live_bytes (context_objects n config d group) ≡ 0
 unfolding live_bytes
 context_bytes n config d None = refl
 context_bytes n config d (Some group) = refl
 
 pub live_bytes-created_context : (s : State) (c : CallValue) → live_bytes (created_context s c).objects ≡ live_bytes s.objects
 live_bytes-created_context s c =
-    let a = live_bytes-append s.objects (context_objects (length s.objects) (signed c 1) (number c 0) (shared_group s c)) in
-    let b = context_bytes (length s.objects) (signed c 1) (number c 0) (shared_group s c) in
+    let a = live_bytes-append s.objects (context_objects (length s.objects) (number c 1) (number c 0) (shared_group s c)) in
+    let b = context_bytes (length s.objects) (number c 1) (number c 0) (shared_group s c) in
     omega (arith, a, b)

@@ -14,8 +14,8 @@ use Rattle.egl_model.specs.declared.records.ThreadRecord.{ThreadRecord}
 use Rattle.egl_model.specs.Graph.{is_in}
 use Rattle.egl_model.specs.State.{State, initial, object_at, record_of}
 use Rattle.egl_model.specs.Objects.{as_context, as_surface, change}
-use Rattle.egl_model.specs.Currents.{current_context, draw_storage, has_context, is_bound, read_storage}
-use Rattle.egl_model.specs.Parts.{Kept, Own, Places, are_same, display_of, handle_of, kept_of, is_place, places, put_at, put_own, read_place, set_image, set_part, write, written}
+use Rattle.egl_model.specs.Currents.{current_context, draw_storage, has_context, is_bound, read_storage, display_at, handle_of}
+use Rattle.egl_model.specs.Parts.{Kept, Own, Places, are_same, kept_of, is_place, places, put_at, put_own, read_place, set_image, set_part, write, written}
 use Rattle.egl_model.specs.Shapes.{Goes, Leads, Shape, shape_in, shapes, slots_in}
 use Rattle.egl_model.specs.Sound.{IsWhole}
 use Rattle.egl_model.specs.Sweep.{roots, settle, settled, sweep, swept}
@@ -155,7 +155,7 @@ home_shaped o p e = sym (of_shape o) ∙ ap (λ x. option_map_or (λ d. d) (opti
         no_home (Context c) = refl
         no_home o = refl
 
-display-same : (s a : State) (b : Option Bound) → ((n : ℕ) → is_bound n b ≡ true → shape_in (object_at a n) ≡ shape_in (object_at s n)) → display_of a (option_map (λ (b : Bound). b.object) b) ≡ display_of s (option_map (λ (b : Bound). b.object) b)
+display-same : (s a : State) (b : Option Bound) → ((n : ℕ) → is_bound n b ≡ true → shape_in (object_at a n) ≡ shape_in (object_at s n)) → display_at a (option_map (λ (b : Bound). b.object) b) ≡ display_at s (option_map (λ (b : Bound). b.object) b)
 display-same s a None h = refl
 display-same s a (Some b) h = home_shaped (object_at a b.object) (object_at s b.object) (h b.object (eq-eqb b.object b.object refl))
 
@@ -164,10 +164,10 @@ kept_with d r x y = record { api = r.api; display = d; context = handle_of r.con
 
 pub kept-stand : (s a : State) (v : ℕ) → Stands s a v → kept_of a v ≡ kept_of s v
 kept-stand s a v h =
-    ap (λ (r : ThreadRecord). kept_with (display_of a (option_map (λ (b : Bound). b.object) r.context)) r (link a.objects r.draw) (link a.objects r.read)) h.same
+    ap (λ (r : ThreadRecord). kept_with (display_at a (option_map (λ (b : Bound). b.object) r.context)) r (link a.objects r.draw) (link a.objects r.read)) h.same
     ∙ ap (λ d. kept_with d (record_of s v) (link a.objects (record_of s v).draw) (link a.objects (record_of s v).read)) (display-same s a (record_of s v).context (λ n i. h.held n (held_context n (record_of s v) i)))
-    ∙ ap (λ d. kept_with (display_of s (current_context s v)) (record_of s v) d (link a.objects (record_of s v).read)) (link-same a.objects s.objects (record_of s v).draw (λ n i. own_shaped (object_at a n) (object_at s n) (h.held n (held_draw n (record_of s v) i))))
-    ∙ ap (λ d. kept_with (display_of s (current_context s v)) (record_of s v) (draw_storage s v) d) (link-same a.objects s.objects (record_of s v).read (λ n i. own_shaped (object_at a n) (object_at s n) (h.held n (held_read n (record_of s v) i))))
+    ∙ ap (λ d. kept_with (display_at s (current_context s v)) (record_of s v) d (link a.objects (record_of s v).read)) (link-same a.objects s.objects (record_of s v).draw (λ n i. own_shaped (object_at a n) (object_at s n) (h.held n (held_draw n (record_of s v) i))))
+    ∙ ap (λ d. kept_with (display_at s (current_context s v)) (record_of s v) (draw_storage s v) d) (link-same a.objects s.objects (record_of s v).read (λ n i. own_shaped (object_at a n) (object_at s n) (h.held n (held_read n (record_of s v) i))))
 
 held_is_there : (sh : List (Option Shape)) (s : State) (v n : ℕ) → IsWhole sh s → is_in n (ends (held_slots (record_of s v))) ≡ true → n < length sh
 held_is_there sh s v n w h = let a = by_slots sh (held_slots (record_of s v)) n (w.firm.kinds.threads v) h in within_shapes sh a.kind n a.has

@@ -11,7 +11,7 @@ use Rattle.std.specs.List.{sum_by, count_by, list_all, range_with_len}
 use Rattle.std.specs.Option.{option_map_or}
 use Rattle.driver_objects.specs.declared.objects.Object.{Object}
 use Rattle.driver_objects.specs.Objects.{edges_of}
-use Rattle.egl_model.specs.declared.handles.Handle.{Handle}
+use Rattle.display_table.specs.declared.handles.Handle.{Handle}
 use Rattle.egl_model.specs.declared.records.ThreadRecord.{ThreadRecord}
 use Rattle.egl_model.specs.State.{State}
 use Rattle.egl_model.specs.Sweep.{edges_in}

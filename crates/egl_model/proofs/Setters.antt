@@ -1,5 +1,6 @@
 -- What the fields of objects may be set to.
 use Rattle.std.proofs.Common.{◌≡◌, length, ℕ, ℤ, Bool, true, is_some, inl, inr, List, refl, sym, ap, subst, ◌∙◌, Option, None, Some}
+use Rattle.surface_store.specs.Surfaces.{SurfaceValue}
 use Rattle.driver_objects.specs.declared.kinds.ObjectKind.TheVariants.{Context as a_context}
 use Rattle.context_state.specs.Parts.{PartValue}
 use Rattle.pixel_rows.specs.Images.{ImageValue}
@@ -11,10 +12,10 @@ use Rattle.std.specs.Option.{option_map}
 use Rattle.std.proofs.lemmas.List.FromFn.{length-map-range_with_len}
 use Rattle.driver_objects.specs.Storages.{AreImageOf, IsImageOf, cleared_image}
 use Rattle.driver_objects.specs.declared.objects.Object.{Object}
-use Rattle.driver_objects.specs.declared.objects.Object.TheVariants.{Context, Storage}
+use Rattle.driver_objects.specs.declared.objects.Object.TheVariants.{Context, Storage, Surface}
 use Rattle.egl_model.specs.Full.{Full}
 use Rattle.egl_model.specs.Graph.{is_in}
-use Rattle.egl_model.specs.Objects.{with_image, with_part}
+use Rattle.egl_model.specs.Objects.{with_image, with_part, with_surface}
 use Rattle.egl_model.specs.Shapes.{Goes, Leads, Shape, pixels_in, slots_in, watch_in}
 use Rattle.egl_model.specs.Currents.{has_context}
 use Rattle.egl_model.specs.State.{State}
@@ -54,6 +55,39 @@ suits-part t sh s n f mine = record { leads = leads; pixels = λ o k h. inl (ap 
 
     leads : (o : Option Object) → Leads sh (slots_in o) → Leads sh (slots_in (with_part f o))
     leads (Some (Context c)) l = l
+    leads o l = l
+
+-- ---- A surface but for its storage.
+pub setter-surface : (f : SurfaceValue → SurfaceValue) → Setter (with_surface f)
+setter-surface f = record { body = body; full = full }
+  where
+    body : (o : Option Object) → body_in (with_surface f o) ≡ body_in o
+    body (Some (Surface x)) = refl
+    body o = refl
+
+    full : (o : Option Object) → Full o → Full (with_surface f o)
+    full (Some (Surface x)) h = tt
+    full o h = h
+
+pub suits-surface : (t : ℕ) (sh : List (Option Shape)) (s : State) (n : ℕ) (f : SurfaceValue → SurfaceValue) → Suits t sh s n (with_surface f)
+suits-surface t sh s n f = record { leads = leads; pixels = λ o k h. inl (ap (λ (x : Looks). is_in k x.pixels) (sym (looks o)) ∙ h); part = inl past_part; image = inl past_image; watch = λ o g. subst (Goes sh a_context) (ap (λ (x : Looks). x.watch) (sym (looks o))) g }
+  where
+    past_part : (x : Option PartValue) (o : Option Object) → set_part x (with_surface f o) ≡ with_surface f (set_part x o)
+    past_part x (Some (Context c)) = refl
+    past_part x (Some (Surface y)) = refl
+    past_part x o = refl
+
+    past_image : (y : Option ImageValue) (o : Option Object) → set_image y (with_surface f o) ≡ with_surface f (set_image y o)
+    past_image y (Some (Storage v)) = refl
+    past_image y (Some (Surface x)) = refl
+    past_image y o = refl
+
+    looks : (o : Option Object) → looks_in (with_surface f o) ≡ looks_in o
+    looks (Some (Surface x)) = refl
+    looks o = refl
+
+    leads : (o : Option Object) → Leads sh (slots_in o) → Leads sh (slots_in (with_surface f o))
+    leads (Some (Surface x)) l = l
     leads o l = l
 
 -- ---- The image of a storage.

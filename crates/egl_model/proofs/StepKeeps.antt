@@ -1,24 +1,25 @@
 -- What each step keeps, and so each history.
 use Rattle.std.proofs.Common.{◌≡◌, ℕ, true, false, List, [], ◌∷◌, refl, sym, ap, subst, ◌∙◌, arith, get_or, None, Some, is_some}
+use Rattle.display_table.specs.declared.handles.HandleKind.TheVariants.{Context as a_context, Surface as a_surface}
 use Rattle.std.specs.Prelude.{replicate}
 use Rattle.std.proofs.lemmas.List.Elements.{All-nil}
 use Rattle.egl_calls.specs.Calls.{CallValue}
 use Rattle.egl_calls.specs.declared.entries.Entry.{Entry}
 use Rattle.egl_calls.specs.declared.kinds.Kind.TheVariants.{Egl}
 use Rattle.egl_calls.specs.declared.kinds.EglKind.{EglKind}
-use Rattle.egl_calls.specs.declared.kinds.EglKind.TheVariants.{Initialize, Terminate, CreatePbufferSurface, CreateContext, MakeCurrent}
+use Rattle.egl_calls.specs.declared.kinds.EglKind.TheVariants.{Initialize, Terminate, CreatePbufferSurface, CreateContext, MakeCurrent, DestroySurface, SurfaceAttrib, DestroyContext, ReleaseThread}
 use Rattle.egl_calls.specs.declared.kinds.GlKind.{GlKind}
 use Rattle.egl_calls.specs.declared.kinds.GlKind.TheVariants.{GetError, ClearColorx, Clear}
 use Rattle.egl_calls.specs.declared.errors.EglError.TheVariants.{Success}
 use Rattle.context_state.specs.Parts.{noted}
 use Rattle.context_state.specs.Local.{apply}
 use Rattle.egl_model.specs.Extents.{SameFlags, egl_extent, extent_of_kind, quiet}
-use Rattle.egl_model.specs.declared.handles.Handle.{Handle}
+use Rattle.display_table.specs.declared.handles.Handle.{Handle}
 use Rattle.egl_model.specs.declared.records.ThreadRecord.{ThreadRecord}
 use Rattle.egl_model.specs.State.{State, capacity, initial, opening, record_of, set_error}
 use Rattle.egl_model.specs.Full.{IsFull}
 use Rattle.egl_model.specs.Kinds.{NamesItsKind}
-use Rattle.egl_model.specs.Laws.{HandlesAreNew, ObjectsAreNew, has_object}
+use Rattle.egl_model.specs.Laws.{HandlesAreNew, ObjectsAreNew, has_object, StayValid}
 use Rattle.egl_model.specs.Links.{IsHeld}
 use Rattle.egl_model.specs.Shapes.{Leads, shapes}
 use Rattle.egl_model.specs.Sound.{IsBelowNext, IsBoundBelowNext, IsFirm, IsSound, IsWhole}
@@ -33,7 +34,7 @@ use Rattle.egl_model.specs.EglFacts.{egl_refusal}
 use Rattle.egl_model.specs.GlEffects.{gl_effect}
 use Rattle.egl_model.specs.History.{replay_from}
 use Rattle.egl_model.specs.Step.{note_error, step}
-use Rattle.egl_model.proofs.EglCalls.{acts-context, acts-error, acts-initialize, acts-make_current, acts-pbuffer, acts-terminate, acts-wait_end}
+use Rattle.egl_model.proofs.EglCalls.{acts-context, acts-error, acts-initialize, acts-make_current, acts-pbuffer, acts-terminate, acts-wait_end, acts-attribute, acts-destroyed, acts-released}
 use Rattle.egl_model.proofs.GlCalls.{acts-clear, acts-own_part}
 use Rattle.egl_model.proofs.FrameMoves.{frame_self, handles_then, objects_then}
 use Rattle.egl_model.proofs.LinkLaws.{exists_marked}
@@ -49,8 +50,12 @@ egl_acts : (s : State) (t : ℕ) (c : CallValue) (k : EglKind) → c.kind ≡ Eg
 egl_acts s t c Initialize h r = acts-initialize s t (number c 0) true
 egl_acts s t c Terminate h r = acts-terminate s t (number c 0)
 egl_acts s t c CreatePbufferSurface h r = acts-pbuffer s t c h r
+egl_acts s t c DestroySurface h r = acts-destroyed s t c a_surface
+egl_acts s t c SurfaceAttrib h r = acts-attribute s t c
 egl_acts s t c CreateContext h r = acts-context s t c
+egl_acts s t c DestroyContext h r = acts-destroyed s t c a_context
 egl_acts s t c MakeCurrent h r = acts-make_current s t c h r
+egl_acts s t c ReleaseThread h r = acts-released s t
 egl_acts s t c k h r = acts_self t s
 
 gl_acts : (s : State) (t n : ℕ) (c : CallValue) (k : GlKind) → current_context s t ≡ Some n → Acts quiet t s (λ a. (gl_effect a t n k c).state)
@@ -106,6 +111,9 @@ flags-step s t c q = (keeps-step s t c).frame.flags q
 
 pub next-step : (s : State) (t : ℕ) (c : CallValue) → (extent_of_kind c.kind).names ≡ 0 → (step s t c).state.next_handle ≡ s.next_handle
 next-step s t c q = let k = keeps-step s t c in let a = k.frame.next in let b = k.frame.handles.rises in omega (arith, a, b, q)
+
+pub kept-step : (s : State) (t : ℕ) (c : CallValue) → (extent_of_kind c.kind).drops ≡ false → StayValid s (step s t c).state
+kept-step s t c q = (keeps-step s t c).frame.kept q
 
 -- ---- So a sound state stays sound.
 pub sound-step : (s : State) (t : ℕ) (c : CallValue) → IsSound s → IsSound (step s t c).state

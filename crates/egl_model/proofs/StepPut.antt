@@ -1,12 +1,21 @@
 -- The first law of frame: a step of a thread, and what is put for another one, may come in either order.
-use Rattle.std.proofs.Common.{◌≡◌, ◌≢◌, ℕ, pos, Bool, true, false, List, [], ◌∷◌, refl, sym, ap, ◌∙◌, Option, None, Some}
+use Rattle.std.proofs.Common.{◌≡◌, ◌≢◌, ℕ, pos, Bool, true, false, List, [], ◌∷◌, refl, sym, ap, ◌∙◌, Option, None, Some, ◌==◌, is_some, map}
+use Rattle.egl_model.proofs.Writes.{census-written}
+use Rattle.egl_model.specs.Contexts.{context_call_facts, context_value, context_value_at, draws_with, is_drawn_with, value_of_context}
+use Rattle.egl_model.specs.Handles.{handle_at}
+use Rattle.egl_model.specs.Arguments.{number}
+use Rattle.display_table.specs.declared.handles.HandleKind.TheVariants.{Context as a_context, Surface as a_surface}
+use Rattle.call_rules.specs.Arguments.{signed}
+use Rattle.egl_names.specs.declared.codes.TheConstants.{EGL_DRAW}
+use Rattle.egl_calls.specs.declared.errors.Outcome.TheVariants.{Done}
+use Rattle.std.specs.Prelude.{unwrap_or, if◌then◌else◌}
 use Rattle.std.specs.Option.{option_and_then, option_map_or}
 use Rattle.egl_calls.specs.Calls.{CallValue, ReplyValue}
 use Rattle.egl_calls.specs.Errors.{egl_code}
 use Rattle.egl_calls.specs.declared.kinds.Kind.{Kind}
 use Rattle.egl_calls.specs.declared.kinds.Kind.TheVariants.{Egl, Gl, Own as OwnCall}
 use Rattle.egl_calls.specs.declared.kinds.EglKind.{EglKind}
-use Rattle.egl_calls.specs.declared.kinds.EglKind.TheVariants.{GetError as EglGetError, CreatePbufferSurface, MakeCurrent, GetCurrentContext}
+use Rattle.egl_calls.specs.declared.kinds.EglKind.TheVariants.{GetError as EglGetError, CreatePbufferSurface, MakeCurrent, GetCurrentContext, GetCurrentSurface, GetCurrentDisplay, QueryApi, QuerySurface, QueryContext}
 use Rattle.egl_calls.specs.declared.kinds.GlKind.{GlKind}
 use Rattle.egl_calls.specs.declared.kinds.GlKind.TheVariants.{GetError, ClearColorx, ReadPixels}
 use Rattle.egl_calls.specs.declared.errors.EglError.{EglError}
@@ -14,10 +23,10 @@ use Rattle.egl_calls.specs.declared.errors.GlError.{GlError}
 use Rattle.context_state.specs.Parts.{noted}
 use Rattle.driver_objects.specs.Storages.{read_rows}
 use Rattle.call_rules.specs.EglRules as rules
-use Rattle.egl_model.specs.declared.handles.Handle.{Handle}
+use Rattle.display_table.specs.declared.handles.Handle.{Handle}
 use Rattle.egl_model.specs.declared.records.ThreadRecord.{ThreadRecord}
-use Rattle.egl_model.specs.State.{State, record_of}
-use Rattle.egl_model.specs.Currents.{current_context, read_storage}
+use Rattle.egl_model.specs.State.{State, record_of, api_code}
+use Rattle.egl_model.specs.Currents.{current_context, read_storage, display_at, handle_of}
 use Rattle.egl_model.specs.Drawing.{pack_alignment, read_form, read_pixels, read_rect}
 use Rattle.egl_model.specs.EglEffects.{egl_effect}
 use Rattle.egl_model.specs.EglFacts.{egl_facts, egl_refusal}
@@ -26,18 +35,18 @@ use Rattle.egl_model.specs.GlEffects.{gl_effect, local_value}
 use Rattle.egl_model.specs.GlFacts.{gl_refusal}
 use Rattle.egl_model.specs.Hidden.{hide, nothing}
 use Rattle.egl_model.specs.MakeCurrent.{config_of_context, config_of_surface, context_handle, current_facts, draw_handle, is_context_taken, is_surface_taken, read_handle}
-use Rattle.egl_model.specs.Objects.{storage_in}
+use Rattle.egl_model.specs.Objects.{storage_in, context_in}
 use Rattle.egl_model.specs.Parts.{Own, Places, places, put_at, put_own}
 use Rattle.egl_model.specs.Shapes.{shapes}
 use Rattle.egl_model.specs.Sound.{IsWhole}
 use Rattle.egl_model.specs.Step.{Stepped, after_egl_rules, after_gl_rules, done, egl_step, gl_step, gl_step_on, step, step_by, step_in, buffer_step_on, own_step, wait_step}
-use Rattle.egl_model.specs.Surfaces.{pbuffer_facts}
+use Rattle.egl_model.specs.Surfaces.{pbuffer_facts, surface_facts, surface_value, value_of_surface}
 use Rattle.egl_model.specs.OwnCalls.{buffer_effect, buffer_refusal}
 use Rattle.egl_model.specs.Waits.{is_signalled, is_wait_end}
 use Rattle.egl_model.specs.Effects.{valued}
 use Rattle.egl_calls.specs.declared.kinds.OwnKind.{OwnKind}
-use Rattle.egl_calls.specs.declared.kinds.OwnKind.TheVariants.{ReadBuffer}
-use Rattle.egl_model.proofs.Blinds.{blind-context_elsewhere, blind-context_of, blind-current, blind-live_bytes, blind-own_part, blind-own_storage, blind-read, blind-record, blind-surface_elsewhere, blind-surface_of, read_alone, blind-signalled}
+use Rattle.egl_calls.specs.declared.kinds.OwnKind.TheVariants.{ReadBuffer, Census}
+use Rattle.egl_model.proofs.Blinds.{blind-context_elsewhere, blind-context_of, blind-current, blind-live_bytes, blind-own_part, blind-own_storage, blind-read, blind-record, blind-surface_elsewhere, blind-surface_of, read_alone, blind-signalled, blind-any, blind-context, blind-display}
 use Rattle.egl_model.proofs.EglCalls.{acts-error}
 use Rattle.egl_model.proofs.GlCalls.{acts-own_part}
 use Rattle.egl_model.proofs.Keeps.{Blind}
@@ -47,7 +56,7 @@ use Rattle.egl_model.proofs.StepKeeps.{acts-egl_done, acts-gl_done, keeps-step, 
 
 -- ---- Facts: a line for each call whose facts look at objects or at threads.
 blind-config_of_context : (t : ℕ) (h : Option Handle) (s : State) → Blind t s (λ a. config_of_context a h)
-blind-config_of_context t h s = blind-context_of (λ o. option_map_or (λ x. x.config) o (pos 0)) (λ c x. refl) t h s
+blind-config_of_context t h s = blind-context_of (λ o. option_map_or (λ x. pos x.config) o (pos 0)) (λ c x. refl) t h s
 
 blind-config_of_surface : (t : ℕ) (h : Option Handle) (s : State) → Blind t s (λ a. config_of_surface a h)
 blind-config_of_surface t h s w v x ne = ap (λ y. option_map_or (λ x. x.surface.config) y (pos 0)) (blind-surface_of t h s w v x ne)
@@ -66,9 +75,25 @@ blind-current_facts t c s w v x ne =
     let e = blind-context_taken t (context_handle s c) s w v x ne in let f = blind-surface_taken t (draw_handle s c) s w v x ne in let g = blind-surface_taken t (read_handle s c) s w v x ne in
     cc
 
+-- what a surface or a context is asked for
+blind-surface_value : (t : ℕ) (c : CallValue) (s : State) → Blind t s (λ a. surface_value a c)
+blind-surface_value t c s w v x ne = ap (value_of_surface (signed c 2)) (blind-surface_of t (handle_at s c 1 a_surface) s w v x ne)
+
+blind-value_of_context : (t a : ℕ) (o : Option Handle) (s : State) → Blind t s (λ b. value_of_context b a o)
+unfolding is_drawn_with
+blind-value_of_context t a None s w v x ne = refl
+blind-value_of_context t a (Some h) s w v x ne =
+    ap (λ b. option_and_then (λ y. context_value_at y.config b a) (context_in (put_own s v x).objects h.object)) (blind-any (draws_with h.object) (λ r e. refl) t s w v x ne)
+    ∙ blind-context (λ o. option_and_then (λ y. context_value_at y.config (is_drawn_with s.threads h.object) a) o) (λ y p. refl) t h.object s w v x ne
+
+blind-context_value : (t : ℕ) (c : CallValue) (s : State) → Blind t s (λ a. context_value a c)
+blind-context_value t c s w v x ne = blind-value_of_context t (number c 2) (handle_at s c 1 a_context) s w v x ne
+
 blind-facts : (t : ℕ) (c : CallValue) (s : State) (k : EglKind) → Blind t s (λ a. egl_facts a t k c)
 blind-facts t c s CreatePbufferSurface w v x ne = ap (λ n. record (pbuffer_facts s c) { live_bytes = n }) (blind-live_bytes t s w v x ne)
 blind-facts t c s MakeCurrent w v x ne = blind-current_facts t c s w v x ne
+blind-facts t c s QuerySurface w v x ne = ap (λ y. record (surface_facts s c) { is_attribute = is_some y }) (blind-surface_value t c s w v x ne)
+blind-facts t c s QueryContext w v x ne = ap (λ y. record (context_call_facts s c) { is_attribute = is_some y }) (blind-context_value t c s w v x ne)
 blind-facts t c s k w v x ne = refl
 
 blind-refusal : (t : ℕ) (c : CallValue) (s : State) (k : EglKind) → Blind t s (λ a. egl_refusal a t k c)
@@ -82,7 +107,12 @@ blind-gl_refusal t n c s k w v x ne = refl
 -- ---- Replies: a line for each call that answers what it reads.
 blind-egl_reply : (t : ℕ) (c : CallValue) (s : State) (k : EglKind) → Blind t s (λ a. done (egl_effect a t k c))
 blind-egl_reply t c s EglGetError w v x ne = ap (λ (r : ThreadRecord). done (valued (pos (egl_code r.error)) s)) (blind-record t s w v x ne)
-blind-egl_reply t c s GetCurrentContext w v x ne = ap (λ (r : ThreadRecord). done (valued (pos (option_map_or (λ b. b.handle) r.context 0)) s)) (blind-record t s w v x ne)
+blind-egl_reply t c s GetCurrentContext w v x ne = ap (λ (r : ThreadRecord). done (valued (pos (handle_of r.context)) s)) (blind-record t s w v x ne)
+blind-egl_reply t c s GetCurrentSurface w v x ne = ap (λ (r : ThreadRecord). done (valued (pos (if number c 0 == EGL_DRAW then handle_of r.draw else handle_of r.read)) s)) (blind-record t s w v x ne)
+blind-egl_reply t c s GetCurrentDisplay w v x ne = ap (λ o. done (valued (pos (display_at (put_own s v x) o)) s)) (blind-current t s w v x ne) ∙ ap (λ d. done (valued (pos d) s)) (blind-display t (current_context s t) s w v x ne)
+blind-egl_reply t c s QueryApi w v x ne = ap (λ (r : ThreadRecord). done (valued (pos (api_code r.api)) s)) (blind-record t s w v x ne)
+blind-egl_reply t c s QuerySurface w v x ne = ap (λ y. done (valued (unwrap_or y (pos 0)) s)) (blind-surface_value t c s w v x ne)
+blind-egl_reply t c s QueryContext w v x ne = ap (λ y. done (valued (unwrap_or y (pos 0)) s)) (blind-context_value t c s w v x ne)
 blind-egl_reply t c s k w v x ne = refl
 
 blind-read_pixels : (t : ℕ) (c : CallValue) (s : State) → Blind t s (λ a. read_pixels a t c)
@@ -134,6 +164,7 @@ by_buffer t v x s c (Some n) ne w h = by_buffer_rules t v n x s c (buffer_refusa
 
 by_own : (t v : ℕ) (x : Own) (s : State) (c : CallValue) (k : OwnKind) → v ≢ t → IsWhole (shapes s.objects) s → own_step (put_own s v x) t k c ≡ moved_step (put_at (places s v) v x) (own_step s t k c)
 by_own t v x s c ReadBuffer ne w = ap (λ o. buffer_step_on (put_own s v x) t o c) (blind-current t s w v x ne) ∙ by_buffer t v x s c (current_context s t) ne w refl
+by_own t v x s c Census ne w = ap (λ l. stepped (record { outcome = Done; value = pos 0; list = map pos l; bytes = [] }) (put_own s v x)) (census-written (places s v) x s.objects)
 by_own t v x s c k ne w = refl
 
 by_kind : (t v : ℕ) (x : Own) (s : State) (c : CallValue) (k : Kind) → v ≢ t → IsWhole (shapes s.objects) s → c.kind ≡ k → step_by (put_own s v x) t k c ≡ moved_step (put_at (places s v) v x) (step_by s t k c)

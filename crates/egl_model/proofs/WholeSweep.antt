@@ -11,7 +11,7 @@ use Rattle.driver_objects.specs.declared.objects.Object.{Object}
 use Rattle.driver_objects.specs.declared.objects.Object.TheVariants.{Context, Group, Texture, Surface, Storage, Sync}
 use Rattle.driver_objects.specs.Objects.{kind_of, rank_of, rank_of_kind}
 use Rattle.egl_model.specs.Slots.{Slot, ends}
-use Rattle.egl_model.specs.declared.handles.Handle.{Handle}
+use Rattle.display_table.specs.declared.handles.Handle.{Handle}
 use Rattle.egl_model.specs.declared.records.Bound.{Bound}
 use Rattle.egl_model.specs.declared.records.ThreadRecord.{ThreadRecord}
 use Rattle.egl_model.specs.Graph.{is_in}

@@ -1,33 +1,43 @@
--- How far a call goes: whether it may turn the displays' flags, and how many handles it may make.
+-- How far a call goes: whether it may turn the displays' flags, how many handles it may make, and whether it may remove some.
 use Rattle.std.specs.Prelude.{◌≡◌, ℕ, Bool, true, false}
 use Rattle.egl_calls.specs.declared.kinds.Kind.{Kind}
 use Rattle.egl_calls.specs.declared.kinds.Kind.TheVariants.{Egl}
 use Rattle.egl_calls.specs.declared.kinds.EglKind.{EglKind}
-use Rattle.egl_calls.specs.declared.kinds.EglKind.TheVariants.{Initialize, Terminate, CreatePbufferSurface, CreateContext}
+use Rattle.egl_calls.specs.declared.kinds.EglKind.TheVariants.{Initialize, Terminate, CreatePbufferSurface, CreateContext, DestroySurface, DestroyContext}
 use Rattle.egl_model.specs.State.{State}
 
 pub record Extent : Type 0 where
   pub flags : Bool
   pub names : ℕ
+  pub drops : Bool
 
 abbrev pub quiet : Extent
-quiet = record { flags = false; names = 0 }
+quiet = record { flags = false; names = 0; drops = false }
 
 abbrev pub naming : Extent
-naming = record { flags = false; names = 1 }
+naming = record { flags = false; names = 1; drops = false }
 
 abbrev pub flagging : Extent
-flagging = record { flags = true; names = 0 }
+flagging = record { flags = true; names = 0; drops = false }
+
+abbrev pub dropping : Extent
+dropping = record { flags = false; names = 0; drops = true }
+
+-- a display ends
+abbrev pub ending : Extent
+ending = record { flags = true; names = 0; drops = true }
 
 abbrev pub SameFlags : State → State → Type 0
 SameFlags s a = (a.first ≡ s.first) × (a.second ≡ s.second)
 
--- which calls turn displays' flags, and which make handles
+-- which calls turn displays' flags, which make handles, and which remove some
 abbrev pub egl_extent : EglKind → Extent
 egl_extent Initialize = flagging
-egl_extent Terminate = flagging
+egl_extent Terminate = ending
 egl_extent CreatePbufferSurface = naming
 egl_extent CreateContext = naming
+egl_extent DestroySurface = dropping
+egl_extent DestroyContext = dropping
 egl_extent k = quiet
 
 abbrev pub extent_of_kind : Kind → Extent

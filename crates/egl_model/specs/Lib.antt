@@ -23,6 +23,7 @@ pub mod Links
 pub mod Named
 pub mod Kinds
 pub mod DisplayCalls
+pub mod Destroyed
 pub mod CurrentCalls
 pub mod NewHandles
 pub mod Wants

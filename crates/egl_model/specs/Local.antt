@@ -1,12 +1,12 @@
 -- Calls that a thread's private part answers.
-use Rattle.std.specs.Prelude.{ℕ, ℤ, pos, Bool, true, false, List, [], ◌||◌, ◌&&◌, if◌then◌else◌, Option, None, Some}
+use Rattle.std.specs.Prelude.{ℕ, ℤ, pos, Bool, true, false, List, [], ◌||◌, ◌&&◌, ◌==◌, if◌then◌else◌, Option, None, Some}
 use Rattle.std.specs.Option.{option_map, option_map_or}
 use Rattle.egl_calls.specs.Calls.{CallValue, ReplyValue}
 use Rattle.egl_calls.specs.Errors.{egl_code}
 use Rattle.egl_calls.specs.declared.kinds.Kind.{Kind}
 use Rattle.egl_calls.specs.declared.kinds.Kind.TheVariants.{Egl, Gl, Own as OwnCall}
 use Rattle.egl_calls.specs.declared.kinds.EglKind.{EglKind}
-use Rattle.egl_calls.specs.declared.kinds.EglKind.TheVariants.{GetError as EglGetError, GetDisplay, GetCurrentContext}
+use Rattle.egl_calls.specs.declared.kinds.EglKind.TheVariants.{GetError as EglGetError, GetDisplay, GetCurrentContext, BindApi, QueryApi, GetCurrentSurface, GetCurrentDisplay}
 use Rattle.egl_calls.specs.declared.kinds.GlKind.{GlKind}
 use Rattle.egl_calls.specs.declared.kinds.GlKind.TheVariants.{GetError, ClearColorx, Clear, ReadPixels}
 use Rattle.egl_calls.specs.declared.errors.EglError.{EglError}
@@ -21,6 +21,9 @@ use Rattle.call_rules.specs.Arguments.{signed}
 use Rattle.call_rules.specs.EglRules as rules
 use Rattle.call_rules.specs.EglRules.{no_facts}
 use Rattle.driver_objects.specs.Storages.{cleared_image}
+use Rattle.egl_names.specs.declared.codes.TheConstants.{EGL_DRAW}
+use Rattle.egl_model.specs.Arguments.{number}
+use Rattle.egl_model.specs.State.{api_code}
 use Rattle.egl_model.specs.Displays as displays
 use Rattle.egl_model.specs.Drawing.{clears_colour, pack_alignment, read_form, read_rect}
 use Rattle.egl_model.specs.GlFacts.{no_framebuffer}
@@ -33,6 +36,10 @@ abbrev pub is_local_egl : EglKind → Bool
 is_local_egl EglGetError = true
 is_local_egl GetDisplay = true
 is_local_egl GetCurrentContext = true
+is_local_egl BindApi = true
+is_local_egl QueryApi = true
+is_local_egl GetCurrentSurface = true
+is_local_egl GetCurrentDisplay = true
 is_local_egl k = false
 
 abbrev pub is_local_gl : GlKind → Bool
@@ -74,6 +81,10 @@ abbrev pub egl_value : Private → EglKind → CallValue → ℤ
 egl_value p EglGetError c = pos (egl_code p.own.error)
 egl_value p GetDisplay c = displays.display_of (signed c 0)
 egl_value p GetCurrentContext c = pos p.kept.context
+egl_value p BindApi c = pos 1
+egl_value p QueryApi c = pos (api_code p.kept.api)
+egl_value p GetCurrentSurface c = pos (if number c 0 == EGL_DRAW then p.kept.draw else p.kept.read)
+egl_value p GetCurrentDisplay c = pos p.kept.display
 egl_value p k c = pos 0
 
 -- no row of a local call asks for a fact

@@ -10,7 +10,7 @@ use Rattle.egl_model.specs.declared.records.Bound.{Bound}
 use Rattle.egl_model.specs.declared.records.ClientApi.{ClientApi}
 use Rattle.egl_model.specs.State.{State, record_of}
 use Rattle.egl_model.specs.Objects.{as_context, as_storage, context_in}
-use Rattle.egl_model.specs.Currents.{current_context, draw_storage, read_storage}
+use Rattle.egl_model.specs.Currents.{current_context, display_at, draw_storage, handle_of, read_storage}
 
 -- ---- Places: the thread's current context, and the storages to which it draws and from which it reads.
 pub record Places : Type 0 where
@@ -100,16 +100,10 @@ pub record Kept : Type 0 where
   -- one storage is drawn to and read from
   pub same : Bool
 
-abbrev pub handle_of : Option Bound → ℕ
-handle_of o = option_map_or (λ b. b.handle) o 0
-
-abbrev pub display_of : State → Option ℕ → ℕ
-display_of s o = option_map_or (λ x. x.display) (option_and_then (context_in s.objects) o) 0
-
 abbrev pub kept_of : State → ℕ → Kept
 kept_of s t = record {
   api = (record_of s t).api;
-  display = display_of s (current_context s t);
+  display = display_at s (current_context s t);
   context = handle_of (record_of s t).context;
   draw = handle_of (record_of s t).draw;
   read = handle_of (record_of s t).read;

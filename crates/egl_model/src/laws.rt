@@ -1,10 +1,12 @@
 //! What is true of every sweep, step and history: the contracts of functions that do nothing.
-ghost use Rattle.std.specs.Prelude.{◌≡◌, ◌≢◌, ◌<◌, ◌+◌, ◌⊎◌, ◌↔◌, ℕ, pos, ◌&&◌, ◌||◌, not, ◌==◌, true, false, All, AllPairs, ◌≤◌, if◌then◌else◌, length, List, ◌++◌, Option, None, Some};
+ghost use Rattle.std.specs.Prelude.{◌≡◌, ◌≢◌, ◌<◌, ◌+◌, ◌⊎◌, ◌↔◌, ℕ, pos, ◌&&◌, ◌||◌, not, ◌==◌, true, false, All, AllPairs, ◌≤◌, if◌then◌else◌, length, List, ◌++◌, Option, None, Some, Contains};
+ghost use Rattle.display_table.specs.declared.handles.Handle.{Handle};
+ghost use Rattle.egl_model.specs.Destroyed.{IsRemoved, KeepsCurrents};
 ghost use Rattle.egl_calls.specs.Calls.{CallValue};
 ghost use Rattle.egl_calls.specs.declared.entries.Entry.{Entry};
 ghost use Rattle.egl_calls.specs.declared.kinds.Kind.TheVariants.{Egl, Own};
 ghost use Rattle.egl_calls.specs.declared.kinds.EglKind.{EglKind};
-ghost use Rattle.egl_calls.specs.declared.kinds.EglKind.TheVariants.{Initialize, Terminate, CreatePbufferSurface, CreateContext};
+ghost use Rattle.egl_calls.specs.declared.kinds.EglKind.TheVariants.{Initialize, Terminate, CreatePbufferSurface, CreateContext, DestroySurface, DestroyContext, ReleaseThread};
 ghost use Rattle.egl_calls.specs.declared.kinds.GlKind.{GlKind};
 ghost use Rattle.egl_calls.specs.declared.kinds.OwnKind.{OwnKind};
 ghost use Rattle.egl_calls.specs.declared.kinds.OwnKind.TheVariants.{ReadBuffer, WaitEnd};
@@ -15,8 +17,8 @@ ghost use Rattle.egl_calls.specs.declared.errors.GlError.TheVariants.{NoError};
 ghost use Rattle.egl_calls.specs.declared.errors.Outcome.TheVariants.{Done, InWait, NoWait, Waiting, Egl as RefusedEgl, Gl as RefusedGl};
 ghost use Rattle.context_state.specs.Parts.{PartValue};
 ghost use Rattle.call_rules.specs.EglRules.{is_release};
-ghost use Rattle.egl_model.specs.declared.handles.HandleKind.TheVariants.{Context, Surface};
-ghost use Rattle.egl_model.specs.State.{State, object_at, opening, record_of, set_error};
+ghost use Rattle.display_table.specs.declared.handles.HandleKind.TheVariants.{Context, Surface};
+ghost use Rattle.egl_model.specs.State.{State, object_at, opening, record_of, set_error, initial};
 ghost use Rattle.egl_model.specs.Currents.{current_context, part_of_context};
 ghost use Rattle.egl_model.specs.Sweep.{is_reached, live_bytes, sweep, tidied};
 ghost use Rattle.egl_model.specs.Objects.{fence_in};
@@ -28,7 +30,7 @@ ghost use Rattle.egl_model.specs.GlFacts.{gl_refusal};
 ghost use Rattle.egl_model.specs.Step.{bare, done, note_error, step};
 ghost use Rattle.egl_model.specs.Waits.{ended, is_signalled};
 ghost use Rattle.egl_model.specs.History.{replay_from, IsLegalFrom};
-ghost use Rattle.egl_model.specs.Laws.{has_object, HasNoLitter, IsAllowedEgl, IsEglCall, IsGlCall, IsRefusedEgl, IsRefusedGl, HandlesAreNew, ObjectsAreNew};
+ghost use Rattle.egl_model.specs.Laws.{has_object, HasNoLitter, IsAllowedEgl, IsEglCall, IsGlCall, IsRefusedEgl, IsRefusedGl, HandlesAreNew, ObjectsAreNew, StayValid};
 ghost use Rattle.egl_model.specs.Surfaces.{created_pbuffer};
 ghost use Rattle.egl_model.specs.Contexts.{created_context};
 ghost use Rattle.egl_model.specs.Links.{IsHeld, IsLinked};
@@ -136,6 +138,25 @@ pub fn fences_are_signalled_with_their_contexts()
 pub fn a_step_keeps_other_threads()
     ensures others { (s : State) (t u : ℕ) (c : CallValue) → t ≢ u → record_of (step s u c).state t ≡ record_of s t }
     ensures count { (s : State) (t : ℕ) (c : CallValue) → length (step s t c).state.threads ≡ length s.threads }
+{}
+
+/// A handle stays valid but by eglTerminate, which takes those of its display alone, and by the calls that destroy, which take the one that they are given alone (EGL 1.5, section 2.1).
+pub fn handles_stay_valid()
+    ensures other_calls { (s : State) (t : ℕ) (c : CallValue) → c.kind ≢ Egl Terminate → c.kind ≢ Egl DestroySurface → c.kind ≢ Egl DestroyContext → StayValid s (step s t c).state }
+    ensures terminated { (s : State) (t : ℕ) (c : CallValue) (h : Handle) → IsTerminated s t c → (h.display == number c 0) ≡ false → Contains s.handles h → Contains (step s t c).state.handles h }
+    ensures surface { (s : State) (t : ℕ) (c : CallValue) → IsAllowedEgl s t DestroySurface c → IsRemoved s (step s t c).state (number c 1) }
+    ensures context { (s : State) (t : ℕ) (c : CallValue) → IsAllowedEgl s t DestroyContext c → IsRemoved s (step s t c).state (number c 1) }
+{}
+
+/// What is destroyed stays current to each thread to which it is (sections 3.5.5 and 3.7.2).
+pub fn what_is_destroyed_stays_current()
+    ensures surface { (s : State) (t : ℕ) (c : CallValue) → IsAllowedEgl s t DestroySurface c → KeepsCurrents s (step s t c).state }
+    ensures context { (s : State) (t : ℕ) (c : CallValue) → IsAllowedEgl s t DestroyContext c → KeepsCurrents s (step s t c).state }
+{}
+
+/// A thread that is released is as it was before its first call (section 3.12).
+pub fn a_released_thread_is_as_new()
+    ensures { (s : State) (t : ℕ) (c : CallValue) → IsAllowedEgl s t ReleaseThread c → t < length s.threads → record_of (step s t c).state t ≡ initial }
 {}
 
 /// Only eglInitialize and eglTerminate change whether a display is initialised, and each only its own (EGL 1.5, section 3.2).

@@ -6,6 +6,8 @@ mod choosing;
 #[cfg(test)]
 mod configs;
 #[cfg(test)]
+mod destroying;
+#[cfg(test)]
 mod drawing;
 #[cfg(test)]
 mod faults;
@@ -15,6 +17,8 @@ mod forms;
 mod library;
 #[cfg(test)]
 mod playing;
+#[cfg(test)]
+mod queries;
 #[cfg(test)]
 mod runs;
 #[cfg(test)]

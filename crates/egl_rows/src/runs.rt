@@ -8,7 +8,7 @@ use std::test::Fail;
 pub type Step = (&'static str, &'static str);
 
 /// What a run shows, its calls, and the census behind them.
-#[derive(Drop)]
+#[derive(Clone, Copy, Drop)]
 pub struct Run {
     pub shows: &'static str,
     pub start: &'static [Step],
@@ -21,6 +21,21 @@ pub const INITIALIZED: &[Step] = &[
     ("$d = eglGetDisplay 0", "ok 1 [] -"),
     ("eglInitialize $d", "ok 1 [] -"),
 ];
+
+/// A surface of 4 by 4 and a context with 8 bits of each component, current to the thread.
+pub const CURRENT: &[Step] = &[
+    ("$d = eglGetDisplay 0", "ok 1 [] -"),
+    ("eglInitialize $d", "ok 1 [] -"),
+    (
+        "$s = eglCreatePbufferSurface $d 4 [EGL_WIDTH,4,EGL_HEIGHT,4]",
+        "ok 3 [] -",
+    ),
+    ("$c = eglCreateContext $d 4 0 []", "ok 4 [] -"),
+    ("eglMakeCurrent $d $s $s $c", "ok 1 [] -"),
+];
+
+/// The census of those.
+pub const ONE_OF_EACH: &str = "1 1 1 0 0 0 1 1 0 0 64";
 
 pub const NOTHING: &str = "0 0 0 0 0 0 0 0 0 0 0";
 

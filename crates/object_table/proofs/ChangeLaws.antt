@@ -1,15 +1,16 @@
 -- Objects change in place.
 use Rattle.std.proofs.Common.{◌≡◌, ◌≢◌, ℕ, ◌<◌, true, false, length, get_or, set, refl, sym, ap, ◌∙◌, arith, inl, inr, Option, None, Some, Result, Ok, Err}
+use Rattle.surface_store.specs.Surfaces.{SurfaceValue}
 use Rattle.std.proofs.lemmas.Bool.{cases_eq, cond-false}
 use Rattle.std.proofs.lemmas.List.{length-set, get_or-set_same, get_or-set_other}
 use Rattle.std.proofs.lemmas.List.FromFn.{fill_by_all}
 use Rattle.std.specs.Prelude.{is_some, OnOk, OnErr}
 use Rattle.driver_objects.specs.declared.objects.Object.{Object}
-use Rattle.driver_objects.specs.declared.objects.Object.TheVariants.{Context, Storage}
+use Rattle.driver_objects.specs.declared.objects.Object.TheVariants.{Context, Storage, Surface}
 use Rattle.driver_objects.specs.Objects.{edges_of, rank_of}
 use Rattle.driver_objects.specs.Storages.{StorageValue}
 use Rattle.context_state.specs.Parts.{PartValue}
-use Rattle.egl_model.specs.Objects.{with_part, with_storage}
+use Rattle.egl_model.specs.Objects.{with_part, with_storage, with_surface}
 use Rattle.egl_model.specs.Parts.{set_image, set_part}
 use Rattle.pixel_rows.specs.Images.{ImageValue}
 use Rattle.std.specs.Option.{option_map}
@@ -134,6 +135,10 @@ keeps_as x y z h r e f = let w : y ≡ z = some_is h in rw w (record { rank = r;
 pub part_keeps : (f : PartValue → PartValue) (x y : Object) → Some y ≡ with_part f (Some x) → Keeps x y
 part_keeps f (Context c) y h = keeps_as (Context c) y _ h refl refl refl
 part_keeps f x y h = keeps_as x y x h refl refl refl
+
+pub surface_keeps : (f : SurfaceValue → SurfaceValue) (x y : Object) → Some y ≡ with_surface f (Some x) → Keeps x y
+surface_keeps f (Surface v) y h = keeps_as (Surface v) y _ h refl refl refl
+surface_keeps f x y h = keeps_as x y x h refl refl refl
 
 pub storage_keeps : (f : StorageValue → StorageValue) (x y : Object) → Some y ≡ with_storage f (Some x) → Keeps x y
 storage_keeps f (Storage v) y h = keeps_as (Storage v) y _ h refl refl refl

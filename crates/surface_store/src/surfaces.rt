@@ -1,6 +1,7 @@
 //! Surfaces: of windows and of no window.
 
 ghost use Rattle.std.specs.Prelude.{◌≡◌, ◌≤◌, pos, ◌≤ℤ◌, IfOk, IfSome};
+ghost use Rattle.egl_calls.specs.Ranges.{IsNumber};
 ghost use Rattle.surface_store.specs.Surfaces as values;
 ghost use Rattle.surface_store.specs.Surfaces.{IsBackOf};
 
@@ -158,7 +159,8 @@ impl Surface {
     /// The value of an attribute; none where the number is no attribute of a surface
     /// (EGL 1.5, section 3.5.6).
     pub fn query(&self, attribute: i64) -> Option<i64>
-        ensures { result ≡ values.query self.now attribute }
+        ensures value { result ≡ values.query self.now attribute }
+        ensures number { IfSome result IsNumber }
     {
         let code = unsigned(attribute);
         if code == EGL_CONFIG_ID {

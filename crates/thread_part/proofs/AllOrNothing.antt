@@ -12,11 +12,11 @@ use Rattle.driver_objects.specs.declared.surfaces.BackedSurface.{BackedSurface}
 use Rattle.pixel_formats.specs.declared.formats.Format.{Format}
 use Rattle.pixel_rows.specs.Images.{ImageValue, IsImage}
 use Rattle.egl_model.specs.declared.records.Bound.{Bound}
-use Rattle.egl_model.specs.Currents.{bound_surface, current_context, draw_storage, read_storage}
+use Rattle.egl_model.specs.Currents.{bound_surface, current_context, draw_storage, read_storage, display_at, handle_of}
 use Rattle.egl_model.specs.Frame.{IsReady}
 use Rattle.egl_model.specs.Full.{Full}
 use Rattle.egl_model.specs.Objects.{as_storage, as_surface}
-use Rattle.egl_model.specs.Parts.{are_same, at_place, display_of, handle_of, image_in, part_of, places, read_place}
+use Rattle.egl_model.specs.Parts.{are_same, at_place, image_in, part_of, places, read_place}
 use Rattle.egl_model.specs.Shapes.{Goes, shapes}
 use Rattle.egl_model.specs.State.{State, object_at, record_of}
 use Rattle.egl_model.proofs.Framing.{has_part}
@@ -44,7 +44,7 @@ nothing_without s t r h =
     let rn : read_storage s t ≡ None = ap storage e in
     let more = no_more (places s t) t s in
     record {
-      display = ap (display_of s) h;
+      display = ap (display_at s) h;
       context_handle = ap handle_of c;
       draw_handle = ap handle_of d;
       read_handle = ap handle_of e;

@@ -1,5 +1,7 @@
 //! What a call's numbers say, and which calls are refused.
-ghost use Rattle.std.specs.Prelude.{◌≡◌, ◌<◌, true};
+ghost use Rattle.std.specs.Prelude.{◌≡◌, ◌<◌, ◌==◌, pos, true};
+ghost use Rattle.egl_model.specs.State.{api_code};
+ghost use Rattle.egl_names.specs.declared.codes.TheConstants.{EGL_DRAW as ADraw};
 ghost use Rattle.egl_calls.specs.Kinds.{is_built};
 ghost use Rattle.egl_calls.specs.Ranges.{IsNumber};
 ghost use Rattle.call_rules.specs.Arguments.{signed};
@@ -12,7 +14,8 @@ ghost use Rattle.egl_model.specs.Local.{local_refusal};
 
 use call_rules::{EglFacts, GlFacts};
 use egl_calls::{Call, EglError, GlError, unsigned};
-use egl_names::codes::{GL_COLOR_BUFFER_BIT, GL_UNSIGNED_SHORT_5_6_5};
+use egl_model::ClientApi;
+use egl_names::codes::{EGL_DRAW, EGL_OPENGL_ES_API, GL_COLOR_BUFFER_BIT, GL_UNSIGNED_SHORT_5_6_5};
 use pixel_formats::Format;
 use pixel_rows::Rect;
 
@@ -43,6 +46,23 @@ pub fn display_of(call: &Call) -> i64
     } else {
         0
     }
+}
+
+/// The code of an API's name (EGL 1.5, section 3.7).
+pub fn api_code(api: ClientApi) -> i64
+    ensures value { result ≡ pos (api_code api) }
+    ensures number { IsNumber result }
+{
+    match api {
+        ClientApi::OpenGlEs => EGL_OPENGL_ES_API as i64,
+    }
+}
+
+/// Whether eglGetCurrentSurface asks for the surface that is drawn to.
+pub fn asks_for_draw(call: &Call) -> bool
+    ensures { result ≡ (number call.now 0 == ADraw) }
+{
+    number(call, 0) == EGL_DRAW
 }
 
 /// Whether the mask of glClear has the bit of the colour buffer.

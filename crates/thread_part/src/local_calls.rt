@@ -15,7 +15,10 @@ ghost use Rattle.egl_model.specs.GlFacts.{no_framebuffer};
 ghost use Rattle.egl_model.specs.Local.{after_rules, cleared_locally, egl_locally, egl_value, gl_locally, gl_with, is_local, is_local_egl, is_local_gl, is_local_unbound, is_unbound, local_refusal, locally, part_after, read_locally};
 ghost use Rattle.thread_part.specs.Memory.{is_bare, is_bare_gl, takes_pixels};
 
-use crate::answers::{clears_colour, display_of, gl_refusal, local_refusal, read_form, read_rect};
+use crate::answers::{
+    api_code, asks_for_draw, clears_colour, display_of, gl_refusal, local_refusal, read_form,
+    read_rect,
+};
 use crate::parts::Parts;
 use crate::replies::{bare, read, valued};
 use driver_objects::clear_image;
@@ -53,7 +56,13 @@ fn is_local_egl(kind: EglKind) -> bool
     ensures { result ≡ is_local_egl kind }
 {
     match kind {
-        EglKind::GetError | EglKind::GetDisplay | EglKind::GetCurrentContext => true,
+        EglKind::GetError
+        | EglKind::GetDisplay
+        | EglKind::BindApi
+        | EglKind::QueryApi
+        | EglKind::GetCurrentContext
+        | EglKind::GetCurrentSurface
+        | EglKind::GetCurrentDisplay => true,
         _ => false,
     }
 }
@@ -87,7 +96,12 @@ impl Parts {
         match kind {
             EglKind::GetError => i64::from(self.error.code()),
             EglKind::GetDisplay => display_of(call),
+            EglKind::BindApi => 1,
+            EglKind::QueryApi => api_code(self.api),
             EglKind::GetCurrentContext => i64::from(self.context_handle),
+            EglKind::GetCurrentSurface if asks_for_draw(call) => i64::from(self.draw_handle),
+            EglKind::GetCurrentSurface => i64::from(self.read_handle),
+            EglKind::GetCurrentDisplay => i64::from(self.display),
             _ => unreachable!(),
         }
     }

@@ -3,7 +3,7 @@ ghost use Rattle.std.specs.Prelude.{◌≡◌, ℕ, length, ◌≤◌, true, IfS
 ghost use Rattle.egl_calls.specs.Kinds.{is_built};
 ghost use Rattle.trace_reader.specs.CallNames.{kind_of, forms_of};
 
-use egl_calls::{EglKind, GlKind, Kind};
+use egl_calls::{EglKind, GlKind, Kind, OwnKind};
 
 /// What an argument of a call may be.
 #[derive(Clone, Copy, Debug, PartialEq, Eq, Drop)]
@@ -46,6 +46,30 @@ pub fn kind_of(word: &[u8]) -> Option<Kind>
         Some(Kind::Egl(EglKind::MakeCurrent))
     } else if word == b"eglGetCurrentContext".as_slice() {
         Some(Kind::Egl(EglKind::GetCurrentContext))
+    } else if word == b"eglDestroySurface".as_slice() {
+        Some(Kind::Egl(EglKind::DestroySurface))
+    } else if word == b"eglQuerySurface".as_slice() {
+        Some(Kind::Egl(EglKind::QuerySurface))
+    } else if word == b"eglSurfaceAttrib".as_slice() {
+        Some(Kind::Egl(EglKind::SurfaceAttrib))
+    } else if word == b"eglBindAPI".as_slice() {
+        Some(Kind::Egl(EglKind::BindApi))
+    } else if word == b"eglQueryAPI".as_slice() {
+        Some(Kind::Egl(EglKind::QueryApi))
+    } else if word == b"eglDestroyContext".as_slice() {
+        Some(Kind::Egl(EglKind::DestroyContext))
+    } else if word == b"eglGetCurrentSurface".as_slice() {
+        Some(Kind::Egl(EglKind::GetCurrentSurface))
+    } else if word == b"eglGetCurrentDisplay".as_slice() {
+        Some(Kind::Egl(EglKind::GetCurrentDisplay))
+    } else if word == b"eglQueryContext".as_slice() {
+        Some(Kind::Egl(EglKind::QueryContext))
+    } else if word == b"eglWaitClient".as_slice() {
+        Some(Kind::Egl(EglKind::WaitClient))
+    } else if word == b"eglReleaseThread".as_slice() {
+        Some(Kind::Egl(EglKind::ReleaseThread))
+    } else if word == b"census".as_slice() {
+        Some(Kind::Own(OwnKind::Census))
     } else if word == b"glGetError".as_slice() {
         Some(Kind::Gl(GlKind::GetError))
     } else if word == b"glClearColorx".as_slice() {
@@ -83,6 +107,26 @@ pub fn forms_of(kind: Kind) -> &'static [Form]
             Form::AttributeList,
         ],
         Kind::Egl(EglKind::MakeCurrent) => &[Form::NumberOrVariable; 4],
+        Kind::Egl(EglKind::DestroySurface) => &[Form::NumberOrVariable, Form::NumberOrVariable],
+        Kind::Egl(EglKind::QuerySurface) => &[
+            Form::NumberOrVariable,
+            Form::NumberOrVariable,
+            Form::Number,
+        ],
+        Kind::Egl(EglKind::SurfaceAttrib) => &[
+            Form::NumberOrVariable,
+            Form::NumberOrVariable,
+            Form::Number,
+            Form::Number,
+        ],
+        Kind::Egl(EglKind::BindApi) => &[Form::Number],
+        Kind::Egl(EglKind::DestroyContext) => &[Form::NumberOrVariable, Form::NumberOrVariable],
+        Kind::Egl(EglKind::GetCurrentSurface) => &[Form::Number],
+        Kind::Egl(EglKind::QueryContext) => &[
+            Form::NumberOrVariable,
+            Form::NumberOrVariable,
+            Form::Number,
+        ],
         Kind::Gl(GlKind::ClearColorx) => &[Form::Number; 4],
         Kind::Gl(GlKind::Clear) => &[Form::Number],
         Kind::Gl(GlKind::ReadPixels) => &[Form::Number; 6],

@@ -1,5 +1,5 @@
 use Rattle.display_table.proofs.TableLaws.{rising}
 use Rattle.display_table.proofs.tables.rising_in.Goals as goal
 
-pub returns : goal.returns
-returns c = rising _ _ _ c.requires
+pub returns-clause-rise : goal.returns-clause-rise
+returns-clause-rise c = rising _ _ _ c.requires
