@@ -1,5 +1,5 @@
 //! The library's calls that may run out of memory, with ample memory.
-ghost use Rattle.std.specs.Prelude.{◌≡◌, ◌<◌, true};
+ghost use Rattle.std.specs.Prelude.{◌≡◌, ◌<◌, true, IfOk};
 ghost use Rattle.egl_calls.specs.Kinds.{is_built};
 ghost use Rattle.egl_calls.specs.Ranges.{IsNumber};
 ghost use Rattle.egl_calls.specs.declared.kinds.Kind.TheVariants.{Egl};
@@ -7,6 +7,7 @@ ghost use Rattle.egl_calls.specs.declared.kinds.Kind.TheVariants.{Egl};
 use driver_core::Driver;
 use egl_calls::{Bytes, Call, EglError, EglKind, Kind, NoMemory, Numbers, Outcome, Reply};
 use std::alloc::Global;
+use std::process::Abort;
 use std::test::Fail;
 use trace_reader::{Reference, Trace, Uses};
 
@@ -29,23 +30,47 @@ fn play(alloc: Global, driver: &mut Driver, kind: EglKind, number: i64) -> Resul
     driver.play(alloc, 0, &call)
 }
 
+/// A call with one number is done and answers a value. What the reply says isn't told, so that the proof of the test below stays short.
+fn assert_answers(
+    rt: &impl Abort,
+    alloc: Global,
+    driver: &mut Driver,
+    kind: EglKind,
+    number: i64,
+    value: i64,
+) -> Result<(), Fail>
+    requires made { 0 < driver.old.made }
+    requires built { is_built (Egl kind) ≡ true }
+    requires number { IsNumber number }
+    ensures made { driver.new.made ≡ driver.old.made }
+{
+    let reply = play(alloc, driver, kind, number)?;
+    assert_eq!(rt; reply.outcome, Outcome::Done);
+    assert_eq!(rt; reply.value, value);
+    Ok(())
+}
+
+/// A driver with its first thread.
+fn opened(alloc: Global) -> Result<Driver, NoMemory>
+    ensures { IfOk result (λ d. d.made ≡ 1) }
+{
+    Driver::new(alloc, 67_108_864)
+}
+
+fn has_nothing(driver: &Driver) -> bool {
+    driver.census() == [0; 11]
+}
+
 #[test]
 fn the_driver_plays_calls(rt: HostRuntime) -> Result<(), Fail> {
     let alloc = rt.alloc();
-    let mut driver = Driver::new(alloc, 67_108_864)?;
-    let display = play(alloc, &mut driver, EglKind::GetDisplay, 0)?;
-    assert_eq!(rt; (display.outcome, display.value), (Outcome::Done, 1));
-    let initialized = play(alloc, &mut driver, EglKind::Initialize, 1)?;
-    assert_eq!(rt;
-        (initialized.outcome, initialized.value),
-        (Outcome::Done, 1)
-    );
     let success = i64::from(EglError::Success.code());
-    let first = play(alloc, &mut driver, EglKind::GetError, 0)?;
-    assert_eq!(rt; (first.outcome, first.value), (Outcome::Done, success));
-    let second = play(alloc, &mut driver, EglKind::GetError, 0)?;
-    assert_eq!(rt; (second.outcome, second.value), (Outcome::Done, success));
-    assert_eq!(rt; driver.census(), [0; 11]);
+    let mut driver = opened(alloc)?;
+    assert_answers(&rt, alloc, &mut driver, EglKind::GetDisplay, 0, 1)?;
+    assert_answers(&rt, alloc, &mut driver, EglKind::Initialize, 1, 1)?;
+    assert_answers(&rt, alloc, &mut driver, EglKind::GetError, 0, success)?;
+    assert_answers(&rt, alloc, &mut driver, EglKind::GetError, 0, success)?;
+    assert!(rt; has_nothing(&driver));
     Ok(())
 }
 

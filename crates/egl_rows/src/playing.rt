@@ -3,7 +3,6 @@ use egl_calls::{Bytes, Numbers, Text};
 use egl_cli::plain;
 use egl_flow::{MemorySink, MemorySource, Sink, Source};
 use std::alloc::Global;
-use std::process::Abort;
 use std::test::Fail;
 
 pub fn words(alloc: Global, words: &[&str]) -> Result<Vec<Text>, Fail> {
@@ -46,14 +45,4 @@ pub fn serial(alloc: Global, input: &[u8]) -> Result<(u8, MemorySink), Fail> {
         &mut sink,
     )?;
     Ok((status, sink))
-}
-
-/// Each input is malformed, and the program says so by the text beside it.
-pub fn assert_malformed(rt: &impl Abort, alloc: Global, rows: &[(&str, &str)]) -> Result<(), Fail> {
-    for (input, text) in rows {
-        let (status, sink) = serial(alloc, input.as_bytes())?;
-        assert_eq!(rt; status, 4, "{input}");
-        assert_eq!(rt; sink.taken(), text.as_bytes(), "{input}");
-    }
-    Ok(())
 }

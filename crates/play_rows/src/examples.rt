@@ -1,0 +1,15 @@
+//! Worked examples.
+
+/// A trace, and what `serial` must answer to it.
+#[derive(Drop)]
+pub struct Example {
+    /// What it shows.
+    pub heading: String,
+    /// The line of its file on which it ends.
+    pub line: u64,
+    pub trace: Vec<u8>,
+    /// The exit status.
+    pub status: u8,
+    /// Every byte that is written.
+    pub output: String,
+}

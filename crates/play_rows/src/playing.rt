@@ -1,0 +1,51 @@
+//! What the program answers to an example, beside what is wanted.
+use crate::examples::Example;
+use anyhow::{Result, anyhow};
+use egl_calls::{Bytes, Numbers, Text};
+use egl_cli::plain;
+use egl_flow::{MemorySink, MemorySource};
+use std::alloc::Global;
+
+/// How many bytes an answer may have.
+const ROOM: u64 = 1_048_576;
+
+/// The exit status of `serial` on a trace, and what it wrote.
+fn serial(alloc: Global, trace: &[u8]) -> Result<(u8, MemorySink)> {
+    let mut words = Vec::new(alloc);
+    words.push(Text::from_vec(Vec::from_slice(alloc, b"serial")?))?;
+    let bytes = Bytes::from_vec(Vec::from_slice(alloc, trace)?);
+    let mut source = MemorySource::new(bytes, Numbers::new(alloc));
+    let mut sink = MemorySink::new(alloc, ROOM, Numbers::new(alloc)).map_err(|_| anyhow!(
+        "no memory for a sink"
+    ))?;
+    let status = plain(alloc, &words, &mut source, &mut sink).number();
+    Ok((status, sink))
+}
+
+/// The first line in which two texts differ, of both. Behind its end a text has empty lines.
+fn first_difference<'a>(wanted: &'a str, found: &'a str) -> (&'a str, &'a str) {
+    let mut found = found.split('\n');
+    for line in wanted.split('\n') {
+        let other = found.next().unwrap_or("");
+        if line != other {
+            return (line, other);
+        }
+    }
+    ("", found.next().unwrap_or(""))
+}
+
+/// Plays an example of a file, and prints how the answer differs from the one that is wanted.
+pub fn is_as_wanted<R: Print + AllocGlobal>(rt: &R, file: &str, example: &Example) -> Result<bool> {
+    let (status, sink) = serial(rt.alloc(), example.trace.as_slice())?;
+    let found = str::from_utf8(sink.taken())?;
+    if status == example.status && found == example.output.as_str() {
+        return Ok(true);
+    }
+    let (line, heading) = (example.line, example.heading.as_str());
+    println!(rt; "{file}:{line}: {heading}")?;
+    let wanted_status = example.status;
+    let (wanted_line, found_line) = first_difference(example.output.as_str(), found);
+    println!(rt; "  wanted, with status {wanted_status}: {wanted_line}")?;
+    println!(rt; "  found, with status {status}: {found_line}")?;
+    Ok(false)
+}
