@@ -4,7 +4,6 @@ ghost use Rattle.std.specs.Option.{option_copied};
 ghost use Rattle.egl_calls.specs.Ranges.{IsNumber, unsigned};
 ghost use Rattle.buffer_objects.specs.Buffers.{fresh, parameter, specified, replaced};
 ghost use Rattle.buffer_objects.specs.Contents.{given};
-ghost use Rattle.buffer_objects.specs.Usages.{is_usage};
 
 use crate::contents::{filled, refill};
 use crate::usages::{Usage, usage_code, usage_of};
@@ -12,6 +11,9 @@ use egl_calls::{Bytes, NoMemory, unsigned};
 use egl_names::codes::{GL_BUFFER_SIZE, GL_BUFFER_USAGE};
 use std::alloc::Global;
 use std::marker::Model;
+
+/// The most bytes that a buffer has.
+const SIZE_LIMIT: u64 = 4_294_967_295;
 
 /// A buffer object: its bytes, at most 4,294,967,295, and what they are meant for (OpenGL ES 1.1, section 2.9).
 #[derive(Drop)]
@@ -52,13 +54,16 @@ impl Buffer {
         }
     }
 
-    /// Replaces the contents by so many bytes, and the usage, the code of GL_STATIC_DRAW or GL_DYNAMIC_DRAW. The first bytes are those that are given, the others, and all for the null pointer, are 0.
+    /// Replaces the contents by so many bytes, and the usage, the code of GL_STATIC_DRAW or GL_DYNAMIC_DRAW; any other is taken for the first. The first bytes are those that are given, the others, and all for the null pointer, are 0.
+    ///
+    /// Want of memory, and more than 4,294,967,295 bytes, are the one refusal: all is as it was.
     pub fn data(&mut self, size: u64, usage: i64, bytes: Option<&Bytes>) -> Result<(), NoMemory>
-        requires size { size ≤ 4294967295 }
-        requires usage { is_usage usage ≡ true }
         ensures ok { OnOk result (self.new ≡ specified size (unsigned usage) (given (option_copied bytes.entry))) }
         ensures err { OnErr result (self.new ≡ self.old) }
     {
+        if size > SIZE_LIMIT {
+            return Err(NoMemory);
+        }
         let alloc = *self.contents.allocator();
         let contents = filled(alloc, size as usize, given(bytes))?;
         self.contents = contents;

@@ -54,7 +54,12 @@ fn bytes_that_are_missing_are_zero(rt: HostRuntime) -> Result<(), Fail> {
             "{given:?}"
         );
     }
+    buffer.data(1, 7, None)?;
+    assert_eq!(rt; buffer.parameter(USAGE), Some(STATIC));
     buffer.data(2, DYNAMIC, None)?;
+    for size in [4_294_967_296, u64::MAX] {
+        assert_eq!(rt; buffer.data(size, STATIC, None), Err(NoMemory));
+    }
     assert_eq!(rt;
         (buffer.size(), buffer.parameter(USAGE)),
         (2, Some(DYNAMIC))

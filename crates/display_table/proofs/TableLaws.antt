@@ -1,12 +1,14 @@
 -- The handles of two displays.
-use Rattle.std.proofs.Common.{◌≡◌, ◌≢◌, ℕ, ◌+◌, ◌≤◌, Bool, true, false, not, ◌&&◌, ◌==◌, if◌then◌else◌, List, [], ◌∷◌, ◌++◌, Option, None, Some, refl, sym, ◌∙◌, ap, arith, inl, inr, IfSome, subst}
+use Rattle.std.proofs.Common.{◌≡◌, ◌≢◌, ℕ, ◌+◌, ◌≤◌, Bool, true, false, not, ◌&&◌, ◌==◌, if◌then◌else◌, List, [], ◌∷◌, ◌++◌, Option, None, Some, refl, sym, ◌∙◌, ap, arith, IfSome, IsSome, subst}
 use Rattle.std.specs.List.{filter, find}
-use Rattle.std.specs.Option.{option_to_list, option_map, option_or}
-use Rattle.std.proofs.lemmas.Bool.{cases_eq, ne_eqb, eq-eqb}
+use Rattle.std.specs.Option.{option_to_list, option_or}
+use Rattle.std.proofs.lemmas.Bool.{ne_eqb, eq-eqb}
 use Rattle.display_table.specs.declared.handles.Handle.{Handle}
 use Rattle.display_table.specs.declared.handles.HandleKind.{HandleKind}
-use Rattle.display_table.specs.Handles.{is_named, is_named_on, is_on, is_same_kind, newest, off_display, on_display, valid, valid_anywhere, without, RiseFrom, Takes}
-use Rattle.display_table.specs.Tables.{either, handles_in, listed, handle_named, AreApart, AreTables, IsHandle, IsLast}
+use Rattle.display_table.specs.Handles.{is_named, is_named_on, is_on, is_same_kind, newest, off_display, on_display, without, RiseFrom, Takes}
+use Rattle.display_table.specs.Tables.{at_number, either, handles_in, listed, handle_named, valid_in, AreApart, AreBelow, AreRows, AreTables, IsHandle, IsLast, Rises}
+use Rattle.display_table.proofs.SlotLaws.{none_there}
+use Rattle.display_table.specs.declared.TheConstants.{HANDLES_END}
 use Rattle.std.proofs.lemmas.List.{map-append}
 use Rattle.display_table.proofs.ListedLaws.{listed-same, listed-more, listed-none, filter-listed, listed-last, last_or-push, find-listed, rise-listed, IsNumbered}
 
@@ -196,12 +198,6 @@ rising next f g t = rise-listed 3 (λ k. either (f k) (g k)) next (λ k. numbere
 
 -- the newest handle of a display, taken
 
-none_there : (g : ℕ → Option Handle) (n : ℕ) → g n ≡ None → (k : ℕ) → g k ≡ (if k == n then None else g k)
-none_there g n e k = elim (cases_eq k n) [
-  | inl q ↦ rw (eq-eqb k n q) (ap g q ∙ e)
-  | inr ne ↦ rw (ne_eqb k n ne) refl
-]
-
 apart_right : (a b : Option Handle) (h : Handle) → AreApart a b → a ≡ Some h → b ≡ None
 apart_right a None h p e = refl
 apart_right None (Some k) h p e = cc
@@ -211,6 +207,11 @@ apart_left : (a b : Option Handle) (h : Handle) → AreApart a b → b ≡ Some 
 apart_left None b h p e = refl
 apart_left (Some j) None h p e = cc
 apart_left (Some j) (Some k) h p e = absurd p
+
+apart_some : (a b : Option Handle) → AreApart a b → IsSome a → b ≡ None
+apart_some a None p s = refl
+apart_some None (Some k) p s = absurd (let f : false ≡ true = s in cc)
+apart_some (Some j) (Some k) p s = absurd p
 
 is_handle : (d next n : ℕ) (o : Option Handle) (h : Handle) → o ≡ Some h → IfSome o (IsHandle d next n) → IsHandle d next n h
 is_handle d next n o h e i = subst (λ (x : Option Handle). IfSome x (IsHandle d next n)) e i
@@ -307,3 +308,28 @@ module _ (next : ℕ) (f g : ℕ → Option Handle) (t : AreTables f g next) whe
   takes_none-second g' e = takes_none 2 (handles_in f g next) (handles_in f g' next)
       (on-second next f g t ∙ listed-none g next (λ k l. (e k).0))
       (same-tables f g f g' next (λ k. refl) (λ k. (e k).1 ∙ sym (e k).0))
+
+-- the slots of both displays
+
+pub no_rows : (next : ℕ) → 3 ≤ next → next ≤ HANDLES_END → AreRows [] [] next
+unfolding at_number valid_in Rises AreBelow
+no_rows next low high = record {
+  tables = record {
+    first = record { each = λ n. tt };
+    second = record { each = λ n. tt };
+    apart = λ n. tt;
+    low = low;
+    high = high;
+  };
+  first_rises = tt;
+  second_rises = tt;
+  first_below = tt;
+  second_below = tt;
+}
+
+pub no_handles : (next : ℕ) → handles_in (at_number []) (at_number []) next ≡ []
+unfolding handles_in at_number valid_in
+no_handles next = listed-none _ next (λ k l. refl)
+
+pub removed-first : (m next : ℕ) (f g f' : ℕ → Option Handle) → AreTables f g next → IsSome (f m) → ((k : ℕ) → f' k ≡ (if k == m then None else f k)) → handles_in f' g next ≡ without m (handles_in f g next)
+removed-first m next f g f' t some e = removed m m next f g f' g refl t e (none_there g m (apart_some (f m) (g m) (t.apart m) some))

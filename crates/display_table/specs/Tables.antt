@@ -1,8 +1,10 @@
 -- What contracts see of the displays, and how the code keeps their handles.
-use Rattle.std.specs.Prelude.{◌≡◌, ℕ, zero, suc, ◌≤◌, ◌<◌, Bool, true, false, List, [], ◌++◌, Option, None, Some, IfSome, nat_le, if◌then◌else◌, ◌==◌}
+use Rattle.std.specs.Prelude.{◌≡◌, ℕ, zero, suc, ◌+◌, ◌≤◌, ◌<◌, Bool, true, false, List, [], ◌∷◌, ◌++◌, Option, None, Some, IfSome, length, nat_le, if◌then◌else◌, ◌==◌}
+use Rattle.std.specs.List.{find, HoldsAt}
 use Rattle.std.specs.Option.{option_to_list}
 use Rattle.display_table.specs.declared.handles.Handle.{Handle}
 use Rattle.display_table.specs.declared.handles.HandleKind.{HandleKind}
+use Rattle.display_table.specs.declared.tables.Slot.{Slot}
 use Rattle.display_table.specs.Handles.{is_same_kind}
 use Rattle.display_table.specs.declared.errors.HandleError.{HandleError}
 use Rattle.display_table.specs.declared.errors.HandleError.TheVariants.{Limit, NoMemory}
@@ -30,6 +32,30 @@ flag_of display d = if display == 1 then d.first else if display == 2 then d.sec
 abbrev pub HasCause : ℕ → HandleError → Type 0
 HasCause next Limit = are_used_up next ≡ true
 HasCause next NoMemory = are_used_up next ≡ false
+
+-- the valid handles of a display's slots, in their order
+unfoldable pub valid_in : List Slot → List Handle
+valid_in [] = []
+valid_in (s ∷ more) = if s.is_valid then s.handle ∷ valid_in more else valid_in more
+
+-- the valid handle of a number
+unfoldable pub at_number : List Slot → ℕ → Option Handle
+at_number slots number = find (λ h. h.number == number) (valid_in slots)
+
+-- numbers rise from slot to slot, from `low` at least
+unfoldable pub Rises : ℕ → List Slot → Type 0
+Rises low [] = Unit {0}
+Rises low (s ∷ more) = (low ≤ s.handle.number) × Rises (s.handle.number + 1) more
+
+-- numbers are below `end`
+unfoldable pub AreBelow : ℕ → List Slot → Type 0
+AreBelow end [] = Unit {0}
+AreBelow end (s ∷ more) = (s.handle.number < end) × AreBelow end more
+
+-- the slot of a number stands at this place
+pub record IsPlace (slots : List Slot) (number place : ℕ) : Type 0 where
+  pub within : place < length slots
+  pub named : HoldsAt (λ s. s.handle.number ≡ number) slots place
 
 -- the first of two
 abbrev pub either : Option Handle → Option Handle → Option Handle
@@ -65,6 +91,14 @@ pub record AreTables (firsts seconds : ℕ → Option Handle) (next : ℕ) : Typ
   pub apart : (n : ℕ) → AreApart (firsts n) (seconds n)
   pub low : 3 ≤ next
   pub high : next ≤ HANDLES_END
+
+-- the same of the slots of both displays, whose numbers rise and are below the next
+pub record AreRows (first second : List Slot) (next : ℕ) : Type 0 where
+  pub tables : AreTables (at_number first) (at_number second) next
+  pub first_rises : Rises 3 first
+  pub second_rises : Rises 3 second
+  pub first_below : AreBelow next first
+  pub second_below : AreBelow next second
 
 -- a handle, where it has this kind
 abbrev pub handle_named : HandleKind → Option Handle → Option Handle

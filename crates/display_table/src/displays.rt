@@ -13,7 +13,6 @@ use crate::tables::{Table, handle_in, rising_in, take};
 use crate::taking::{take_first, take_second};
 use egl_calls::unsigned;
 use std::alloc::Global;
-use std::collections::BTreeMap;
 use std::marker::Model;
 
 /// Which of the two displays are initialised, and the valid handles of both.
@@ -21,7 +20,7 @@ use std::marker::Model;
 /// Handles are numbered from 3 in the order of their making. A number is never given again.
 ///
 /// Contracts see the two flags, the valid handles in the order of their making, and the number of the next one. The
-/// handles of each display are kept by their numbers, so that no call looks at others than those that it names.
+/// handles of each display lie in slots in the order of their numbers, so that the newest is the last.
 #[derive(Drop)]
 pub struct Displays {
     first: bool,
@@ -32,15 +31,13 @@ pub struct Displays {
 }
 
 impl Model for Displays {
-    ghost use Rattle.std.specs.Ordering.{nat_cmp};
-    ghost use Rattle.std.specs.BTreeMap.{get};
-    ghost use Rattle.display_table.specs.Tables.{DisplaysValue, handles_in, AreTables};
+    ghost use Rattle.display_table.specs.Tables.{DisplaysValue, at_number, handles_in, AreRows};
 
     ghost Value = { DisplaysValue };
 
-    ghost view = { λ d. record { first = d.first; second = d.second; handles = handles_in (get nat_cmp d.first_handles) (get nat_cmp d.second_handles) d.next_handle; next_handle = d.next_handle } };
+    ghost view = { λ d. record { first = d.first; second = d.second; handles = handles_in (at_number d.first_handles.items) (at_number d.second_handles.items) d.next_handle; next_handle = d.next_handle } };
 
-    ghost invariant = { λ d. AreTables (get nat_cmp d.first_handles) (get nat_cmp d.second_handles) d.next_handle };
+    ghost invariant = { λ d. AreRows d.first_handles.items d.second_handles.items d.next_handle };
 }
 
 impl Displays {
@@ -48,24 +45,26 @@ impl Displays {
     pub fn new(alloc: Global) -> Displays
         ensures { result ≡ record { first = false; second = false; handles = []; next_handle = 3 } }
     {
-        Displays {
-            first: false,
-            second: false,
-            first_handles: BTreeMap::new(alloc),
-            second_handles: BTreeMap::new(alloc),
-            next_handle: 3,
-        }
+        Displays::starting_at(alloc, 3)
     }
 
     // Displays without handles, of which one can still be made.
     #[cfg(test)]
     pub(crate) fn before_last(alloc: Global) -> Displays {
+        Displays::starting_at(alloc, HANDLES_END - 1)
+    }
+
+    fn starting_at(alloc: Global, next_handle: u32) -> Displays
+        requires low { 3 ≤ next_handle }
+        requires high { next_handle ≤ HANDLES_END }
+        ensures { result ≡ record { first = false; second = false; handles = []; next_handle = next_handle } }
+    {
         Displays {
             first: false,
             second: false,
-            first_handles: BTreeMap::new(alloc),
-            second_handles: BTreeMap::new(alloc),
-            next_handle: HANDLES_END - 1,
+            first_handles: Vec::new(alloc),
+            second_handles: Vec::new(alloc),
+            next_handle,
         }
     }
 
@@ -276,7 +275,8 @@ impl Displays {
     pub fn remove_number(&mut self, number: u64)
         ensures { self.new ≡ record self.old { handles = without number self.old.handles } }
     {
-        take(&mut self.first_handles, number);
-        take(&mut self.second_handles, number);
+        if !take(&mut self.first_handles, number) {
+            take(&mut self.second_handles, number);
+        }
     }
 }

@@ -1,8 +1,6 @@
 //! A new handle in the tables of both displays.
 ghost use Rattle.std.specs.Prelude.{◌≡◌, ◌+◌, ◌<◌, pos, [], ◌∷◌, ◌++◌, IfOk, IfErr, OnOk, OnErr};
-ghost use Rattle.std.specs.Ordering.{nat_cmp};
-ghost use Rattle.std.specs.BTreeMap.{get};
-ghost use Rattle.display_table.specs.Tables.{handles_in, AreTables};
+ghost use Rattle.display_table.specs.Tables.{at_number, handles_in, AreRows};
 
 use crate::HANDLES_END;
 use crate::errors::HandleError;
@@ -16,16 +14,16 @@ pub(crate) fn add_first(
     kind: HandleKind,
     object: u64,
 ) -> Result<i64, HandleError>
-    requires tables { AreTables (get nat_cmp first.old) (get nat_cmp second.now) next.old }
+    requires tables { AreRows first.old.items second.now.items next.old }
     requires fits { next.old < HANDLES_END }
     ensures number { IfOk result (λ n. n ≡ pos next.old) }
-    ensures made { OnOk result (handles_in (get nat_cmp first.new) (get nat_cmp second.now) next.new
-        ≡ handles_in (get nat_cmp first.old) (get nat_cmp second.now) next.old ++ record { number = next.old; display = 1; kind = kind; object = object } ∷ []) }
+    ensures made { OnOk result (handles_in (at_number first.new.items) (at_number second.now.items) next.new
+        ≡ handles_in (at_number first.old.items) (at_number second.now.items) next.old ++ record { number = next.old; display = 1; kind = kind; object = object } ∷ []) }
     ensures next { OnOk result (next.new ≡ next.old + 1) }
-    ensures same { OnErr result (handles_in (get nat_cmp first.new) (get nat_cmp second.now) next.new ≡ handles_in (get nat_cmp first.old) (get nat_cmp second.now) next.old) }
+    ensures same { OnErr result (handles_in (at_number first.new.items) (at_number second.now.items) next.new ≡ handles_in (at_number first.old.items) (at_number second.now.items) next.old) }
     ensures same_next { OnErr result (next.new ≡ next.old) }
     ensures cause { IfErr result (λ e. e ≡ HandleError.NoMemory) }
-    ensures tables { AreTables (get nat_cmp first.new) (get nat_cmp second.now) next.new }
+    ensures tables { AreRows first.new.items second.now.items next.new }
 {
     let number = *next;
     let handle = Handle {
@@ -34,7 +32,7 @@ pub(crate) fn add_first(
         kind,
         object,
     };
-    add(first, u64::from(number), handle)?;
+    add(first, handle)?;
     *next = number + 1;
     Ok(i64::from(number))
 }
@@ -46,16 +44,16 @@ pub(crate) fn add_second(
     kind: HandleKind,
     object: u64,
 ) -> Result<i64, HandleError>
-    requires tables { AreTables (get nat_cmp first.now) (get nat_cmp second.old) next.old }
+    requires tables { AreRows first.now.items second.old.items next.old }
     requires fits { next.old < HANDLES_END }
     ensures number { IfOk result (λ n. n ≡ pos next.old) }
-    ensures made { OnOk result (handles_in (get nat_cmp first.now) (get nat_cmp second.new) next.new
-        ≡ handles_in (get nat_cmp first.now) (get nat_cmp second.old) next.old ++ record { number = next.old; display = 2; kind = kind; object = object } ∷ []) }
+    ensures made { OnOk result (handles_in (at_number first.now.items) (at_number second.new.items) next.new
+        ≡ handles_in (at_number first.now.items) (at_number second.old.items) next.old ++ record { number = next.old; display = 2; kind = kind; object = object } ∷ []) }
     ensures next { OnOk result (next.new ≡ next.old + 1) }
-    ensures same { OnErr result (handles_in (get nat_cmp first.now) (get nat_cmp second.new) next.new ≡ handles_in (get nat_cmp first.now) (get nat_cmp second.old) next.old) }
+    ensures same { OnErr result (handles_in (at_number first.now.items) (at_number second.new.items) next.new ≡ handles_in (at_number first.now.items) (at_number second.old.items) next.old) }
     ensures same_next { OnErr result (next.new ≡ next.old) }
     ensures cause { IfErr result (λ e. e ≡ HandleError.NoMemory) }
-    ensures tables { AreTables (get nat_cmp first.now) (get nat_cmp second.new) next.new }
+    ensures tables { AreRows first.now.items second.new.items next.new }
 {
     let number = *next;
     let handle = Handle {
@@ -64,7 +62,7 @@ pub(crate) fn add_second(
         kind,
         object,
     };
-    add(second, u64::from(number), handle)?;
+    add(second, handle)?;
     *next = number + 1;
     Ok(i64::from(number))
 }

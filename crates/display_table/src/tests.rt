@@ -52,6 +52,31 @@ fn newest_goes_first_and_the_other_display_stays(rt: HostRuntime) -> Result<(), 
 }
 
 #[test]
+fn handles_outlast_many_that_come_and_go(rt: HostRuntime) -> Result<(), Fail> {
+    let mut displays = Displays::new(rt.alloc());
+    let first = displays.new_handle(1, HandleKind::Surface, 1)?;
+    for _ in 0..500 {
+        let number = displays.new_handle(1, HandleKind::Sync, 2)?;
+        displays.remove(number);
+    }
+    let later = displays.new_handle(1, HandleKind::Context, 3)?;
+    for _ in 0..500 {
+        let _number = displays.new_handle(1, HandleKind::Image, 4)?;
+    }
+    for handle in 504..1_004 {
+        displays.remove(handle);
+    }
+    assert_eq!(rt; (first, later), (3, 504));
+    assert_eq!(rt; displays.valid(1, first, HandleKind::Surface), Some(1));
+    assert_eq!(rt; displays.valid(1, later, HandleKind::Context), None);
+    for object in [Some(4), Some(1), None] {
+        assert_eq!(rt; displays.take_handle(1), object);
+    }
+    assert_eq!(rt; displays.new_handle(1, HandleKind::Sync, 5)?, 1_005);
+    Ok(())
+}
+
+#[test]
 fn wrong_names_name_nothing(rt: HostRuntime) -> Result<(), Fail> {
     let mut displays = Displays::new(rt.alloc());
     let _context = displays.new_handle(1, HandleKind::Context, 7)?;

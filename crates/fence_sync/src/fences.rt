@@ -82,6 +82,8 @@ impl Fences {
     }
 
     /// Makes an unsignalled fence of a context, and answers its number.
+    ///
+    /// Want of memory, and 4,294,967,295 fences, are the one refusal: all is as it was.
     pub fn create(&mut self, context: u64) -> Result<u64, NoMemory>
         ensures sync { IfOk result (λ n. n ≡ self.old.made) }
         ensures created { OnOk result (self.new ≡ record self.old {

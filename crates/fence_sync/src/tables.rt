@@ -8,6 +8,9 @@ ghost use Rattle.fence_sync.specs.Tables.{fences_in, is_flushed, marked_kept, si
 use egl_calls::NoMemory;
 use std::collections::BTreeMap;
 
+/// There are never more fences.
+const FENCE_LIMIT: usize = 4_294_967_295;
+
 /// A fence as it is kept: its context, and whether it was signalled by itself.
 #[derive(Clone, Copy, Drop)]
 pub(crate) struct Kept {
@@ -122,7 +125,7 @@ pub(crate) fn create_in(
     ensures are_made { AreMade (get nat_cmp table.new) (get nat_cmp contexts.new) made.new }
 {
     let n = *made;
-    if n == u64::MAX {
+    if n == u64::MAX || table.len() >= FENCE_LIMIT {
         return Err(NoMemory);
     }
     let kept = Kept {

@@ -1,5 +1,5 @@
 -- Renderbuffers (OES_framebuffer_object).
-use Rattle.std.specs.Prelude.{◌≡◌, ℕ, ◌≤◌}
+use Rattle.std.specs.Prelude.{◌≡◌, ℕ}
 use Rattle.std.specs.Option.{option_map}
 use Rattle.std.specs.declared.option.Option.{Option}
 use Rattle.std.specs.declared.option.Option.TheVariants.{None, Some}
@@ -16,10 +16,8 @@ pub record RenderbufferValue : Type 0 where
 abbrev pub fresh : RenderbufferValue
 fresh = record { point = None; width = 0; height = 0 }
 
--- sides of at most 2,048, and of 0 without storage
+-- sides of 0 without storage
 pub record IsStored (point : Option Point) (w h : ℕ) : Type 0 where
-  pub wide : w ≤ 2048
-  pub high : h ≤ 2048
   pub no_width : point ≡ None → w ≡ 0
   pub no_height : point ≡ None → h ≡ 0
 

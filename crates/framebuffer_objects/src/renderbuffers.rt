@@ -12,7 +12,7 @@ use pixel_rows::Image;
 use std::alloc::Global;
 use std::marker::Model;
 
-/// A renderbuffer: the kind and the sides of its storage, at most 2,048 pixels each. It keeps no pixels.
+/// A renderbuffer: the kind and the sides of its storage, in pixels. It keeps no pixels.
 #[derive(Drop)]
 pub struct Renderbuffer {
     point: Option<Point>,
@@ -43,7 +43,6 @@ impl Renderbuffer {
     }
 
     fn become_kind(&mut self, point: Point, w: u32, h: u32)
-        requires { (w ≤ 2048) × (h ≤ 2048) }
         ensures { self.new ≡ of_kind point w h }
     {
         self.point = Some(point);
@@ -77,7 +76,6 @@ impl Renderbuffer {
 
     /// Takes over the storage of an image with these sides: from then on it is a colour renderbuffer. It takes no memory.
     pub fn target(&mut self, w: u32, h: u32)
-        requires { (w ≤ 2048) × (h ≤ 2048) }
         ensures { self.new ≡ of_kind Color w h }
     {
         self.become_kind(Point::Color, w, h);
@@ -93,7 +91,6 @@ impl Renderbuffer {
     /// The value of GL_RENDERBUFFER_WIDTH_OES, in pixels; 0 without storage.
     pub fn width(&self) -> u32
         ensures width { result ≡ self.now.width }
-        ensures within { result ≤ 2048 }
         ensures none { self.now.point ≡ None → result ≡ 0 }
     {
         self.width
@@ -102,7 +99,6 @@ impl Renderbuffer {
     /// The value of GL_RENDERBUFFER_HEIGHT_OES, in pixels; 0 without storage.
     pub fn height(&self) -> u32
         ensures height { result ≡ self.now.height }
-        ensures within { result ≤ 2048 }
         ensures none { self.now.point ≡ None → result ≡ 0 }
     {
         self.height

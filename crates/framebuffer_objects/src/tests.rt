@@ -62,6 +62,8 @@ fn storage_has_the_kind_of_its_format(rt: HostRuntime) -> Result<(), Fail> {
     assert_eq!(rt; told(&renderbuffer), (Some(Point::Stencil), 0, 7));
     renderbuffer.target(5, 0);
     assert_eq!(rt; told(&renderbuffer), (Some(Point::Color), 5, 0));
+    renderbuffer.target(u32::MAX, 1);
+    assert_eq!(rt; told(&renderbuffer), (Some(Point::Color), u32::MAX, 1));
     let empty = renderbuffer.storage(alloc, GL_RGBA8_OES as i64, 0, 2)?;
     assert_eq!(rt; empty.map(|i| (i.width(), i.height())), Some((0, 2)));
     Ok(())
@@ -172,4 +174,27 @@ fn status_is_the_first_that_holds(rt: HostRuntime) {
     for (parts, code) in table {
         assert_eq!(rt; status(&parts), code, "{parts:?}");
     }
+}
+
+#[test]
+fn attached_renderbuffer_makes_a_framebuffer_complete(rt: HostRuntime) -> Result<(), Fail> {
+    let mut renderbuffer = Renderbuffer::new();
+    let pixels = renderbuffer.storage(rt.alloc(), GL_RGB565_OES as i64, 2, 2)?;
+    assert_eq!(rt;
+        pixels.map(|i| (i.format(), i.width(), i.height())),
+        Some((Format::Rgb565, 2, 2))
+    );
+    let mut framebuffer = Framebuffer::new();
+    assert_eq!(rt; status(&[NONE, NONE, NONE]), MISSING);
+    assert_eq!(rt; framebuffer.attach_renderbuffer(Point::Color, 1, 4), None);
+    let color = Part {
+        present: framebuffer.attached(Point::Color).is_some(),
+        attachable: renderbuffer.point() == Some(Point::Color),
+        w: renderbuffer.width(),
+        h: renderbuffer.height(),
+    };
+    assert_eq!(rt; status(&[color, NONE, NONE]), COMPLETE);
+    assert_eq!(rt; framebuffer.detach(Point::Color), Some(4));
+    assert!(rt; framebuffer.attached(Point::Color).is_none());
+    Ok(())
 }

@@ -1,6 +1,9 @@
 use Rattle.std.proofs.Common.{refl}
-use Rattle.display_table.proofs.TableLaws.{removed}
+use Rattle.display_table.proofs.TableLaws.{removed, removed-first}
 use Rattle.display_table.proofs.displays.Displays.remove_number.Goals as goal
 
-pub returns : goal.returns
-returns c = rw (← c.self.view_is, removed _ _ _ _ _ _ _ refl c.self.invariant c.take.ensures c.take-2.ensures) refl
+pub returns-then-not-take : goal.returns-then-not-take
+returns-then-not-take c = rw (← c.self.view_is, removed _ _ _ _ _ _ _ refl c.self.invariant.tables c.take.ensures.removed c.take-then-not-take.ensures.removed) refl
+
+pub returns-else-not-take : goal.returns-else-not-take
+returns-else-not-take c = rw (← c.self.view_is, removed-first _ _ _ _ _ c.self.invariant.tables (c.if-not-take.ensures.found refl) c.take.ensures.removed) refl
