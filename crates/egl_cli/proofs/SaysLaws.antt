@@ -1,22 +1,27 @@
 -- What each status promises, from what was read and written.
-use Rattle.std.proofs.Common.{◌≡◌, ℕ, ◌<◌, ◌≤◌, Bool, true, false, List, [], ◌++◌, length, refl, sym, ap, ◌∙◌, arith, subst, Option, None, Some, Result, Ok, Err, inl, inr, ◌⊎◌, length-append}
+use Rattle.std.proofs.Common.{◌≡◌, ℕ, ◌<◌, ◌≤◌, Bool, true, false, List, [], ◌++◌, length, refl, sym, ap, ◌∙◌, arith, subst, Option, None, Some, Result, Ok, Err, inl, inr, length-append}
 use Rattle.std.proofs.lemmas.Bool.{cond-true, cond-false}
 use Rattle.std.proofs.lemmas.List.{append-nil}
 use Rattle.std.specs.Prelude.{codes, nat_lt}
 use Rattle.egl_flow.specs.Flow.{AtEnd, Gave, Took, TookFront}
 use Rattle.egl_flow.specs.Causes.{GavePast}
 use Rattle.trace_reader.specs.declared.traces.Defect.{Defect}
+use Rattle.trace_reader.specs.declared.traces.TraceError.{TraceError}
+use Rattle.trace_reader.specs.declared.traces.TraceError.TheVariants.{Malformed as Defective, NoMemory as Unread}
 use Rattle.trace_reader.specs.Traces.{TraceValue}
+use Rattle.trace_reader.specs.Reading.{Gives}
 use Rattle.trace_reader.specs.Grammar.{trace}
 use Rattle.trace_model.specs.Serial.{serial}
+use Rattle.trace_model.specs.Recording.{recording}
 use Rattle.trace_model.proofs.SerialLaws.{serial_legal, serial_follows}
 use Rattle.egl_cli.specs.declared.statuses.Status.{Status}
 use Rattle.egl_cli.specs.declared.statuses.Status.TheVariants.{Ok as Fine, Usage, ReadFault, Malformed, WriteFault, NoMemory, TooLong}
 use Rattle.egl_cli.specs.declared.answers.Answer.{Answer}
 use Rattle.egl_cli.specs.declared.commands.Command.{Command}
 use Rattle.egl_cli.specs.declared.commands.Command.TheVariants.{Serial, Configs}
-use Rattle.egl_cli.specs.Answers.{serial_answer, trace_answer, played_answer, usage_text, read_fault_text, too_long_text, most_input}
-use Rattle.egl_cli.specs.Says.{WhereTold, Wrote, IsAnswered, IsMeant, WentWell, Says, IsRecorded, IsHeadline}
+use Rattle.egl_cli.proofs.AnswerLaws.{answer_ok, answer_malformed}
+use Rattle.egl_cli.specs.Answers.{serial_answer, trace_answer, played_answer, malformed_text, usage_text, read_fault_text, too_long_text, most_input}
+use Rattle.egl_cli.specs.Says.{WhereTold, Wrote, Told, WantsMemory, IsAnswered, IsMeant, WentWell, Says, IsRecorded, IsHeadline}
 
 -- ---- The answer to bytes within the limit and past it.
 within : (b : List ℕ) → length b ≤ most_input → serial_answer b ≡ trace_answer b
@@ -63,11 +68,14 @@ module _ (left rest : Option (List ℕ)) (source_failed : Type 0) (before after 
   abbrev pub Written : List ℕ → Status → Status → Type 0
   Written text status result = Wrote before text after sink_failed status result
 
-  -- what follows where the writing failed, or memory ran out
+  -- what follows where the writing failed
   ended : (command : Option Command) (text : List ℕ) (result : Status) → IsMeant command left source_failed text →
-      (((result ≡ WriteFault) × TookFront before text after × sink_failed) ⊎ ((result ≡ NoMemory) × Took before [] after)) → Promises command result
-  ended command text result m (inl w) = subst (Promises command) (sym w.0) (w.2, (text, w.1, m))
-  ended command text result m (inr w) = subst (Promises command) (sym w.0) w.1
+      ((result ≡ WriteFault) × TookFront before text after × sink_failed) → Promises command result
+  ended command text result m w = subst (Promises command) (sym w.0) (w.2, (text, w.1, m))
+
+  -- what follows where memory ran out
+  wanted : (command : Option Command) (result : Status) → ((result ≡ NoMemory) × Took before [] after) → Promises command result
+  wanted command result w = subst (Promises command) (sym w.0) w.1
 
   says_played : (r : Result TraceValue Defect) (result : Status) → AtEnd rest → WhereTold left (λ b. serial_answer b ≡ played_answer r) → Written (played_answer r).text (played_answer r).status result → Promises (Some Serial) result
   says_played (Ok t) result e w (inl q) = subst (Promises (Some Serial)) (sym q.0) (e, answered left before after (played_answer (Ok t)) w q.1)
@@ -80,6 +88,12 @@ module _ (left rest : Option (List ℕ)) (source_failed : Type 0) (before after 
   says_answer bytes a result g e le h q =
       let P : Answer → Type 0 = λ x. Written x.text x.status result in
       says_played (trace bytes) result e (read_whole left rest bytes (played_answer (trace bytes)) g e le refl) (subst P h q)
+
+  pub says_told : (bytes : List ℕ) (read : Result TraceValue TraceError) (result : Status) → Gave left bytes rest → AtEnd rest → length bytes ≤ most_input → Gives (λ t. t) read (trace bytes) → Told read before after sink_failed result → Promises (Some Serial) result
+  says_told bytes (Ok t) result g e le h (inl q) = says_answer bytes (record { status = Fine; text = recording t (serial t) }) result g e le (sym (answer_ok bytes t h)) q
+  says_told bytes (Ok t) result g e le h (inr q) = wanted (Some Serial) result q
+  says_told bytes (Err (Defective n r)) result g e le h q = says_answer bytes (record { status = Malformed; text = malformed_text n r }) result g e le (sym (answer_malformed bytes n r h)) q
+  says_told bytes (Err Unread) result g e le h q = wanted (Some Serial) result q
 
   pub says_read_fault : (result : Status) → source_failed → Written (codes "read fault\n") ReadFault result → Promises (Some Serial) result
   unfolding read_fault_text
@@ -98,6 +112,17 @@ module _ (left rest : Option (List ℕ)) (source_failed : Type 0) (before after 
   says_usage (Some x) result h e q = absurd (let f : Some x ≡ None = h in cc)
   says_usage None result h e (inl q) = subst (Promises None) (sym q.0) (refl, e, q.1)
   says_usage None result h e (inr q) = ended None usage_text result refl q
+
+-- ---- Where memory is wanted.
+-- a text that is written without memory leads to no want of it
+pub finish_wants_none : (before after : Option (List ℕ)) (text : List ℕ) (failed : Type 0) (told result : Status) → ¬ (told ≡ NoMemory) → Wrote before text after failed told result → ¬ (result ≡ NoMemory)
+finish_wants_none before after text failed told result other (inl w) e = other (sym w.0 ∙ e)
+finish_wants_none before after text failed told result other (inr w) e = absurd (let f : WriteFault ≡ NoMemory = sym w.0 ∙ e in cc)
+
+pub memory_of : (command : Option Command) (named : Command) (left rest : Option (List ℕ)) (faults_before faults : ℕ) → command ≡ Some named → WantsMemory (Some named) left rest faults_before faults → WantsMemory command left rest faults_before faults
+memory_of command named left rest faults_before faults e w =
+    let P : Option Command → Type 0 = λ x. WantsMemory x left rest faults_before faults in
+    subst P (sym e) w
 
 -- ---- What follows from it.
 by_trace : (b : List ℕ) (before after : Option (List ℕ)) (r : Result TraceValue Defect) → trace b ≡ r → (played_answer r).status ≡ Fine → Took before (played_answer r).text after → IsRecorded b before after

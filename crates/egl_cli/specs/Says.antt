@@ -1,19 +1,22 @@
 -- What each status of the program promises of what was read and written.
-use Rattle.std.specs.Prelude.{◌≡◌, ℕ, ◌⊎◌, List, [], Option, None, Some, Ok as Spelt}
+use Rattle.std.specs.Prelude.{◌≡◌, ℕ, ◌⊎◌, List, [], Option, None, Some, Result, Ok as Spelt, Err}
 use Rattle.egl_calls.specs.declared.entries.Entry.{Entry}
 use Rattle.egl_model.specs.State.{opening}
 use Rattle.egl_model.specs.History.{IsLegalFrom}
 use Rattle.egl_flow.specs.Flow.{AtEnd, Took, TookFront}
-use Rattle.egl_flow.specs.Causes.{GavePast}
+use Rattle.egl_flow.specs.Causes.{GavePast, GaveWithin}
+use Rattle.trace_reader.specs.declared.traces.TraceError.{TraceError}
+use Rattle.trace_reader.specs.declared.traces.TraceError.TheVariants.{Malformed as Defective, NoMemory as Unread}
 use Rattle.trace_reader.specs.Traces.{TraceValue}
 use Rattle.trace_reader.specs.Grammar.{trace}
 use Rattle.trace_model.specs.Follows.{Follows}
+use Rattle.trace_model.specs.Serial.{serial}
 use Rattle.trace_model.specs.Recording.{recording}
 use Rattle.egl_cli.specs.declared.statuses.Status.{Status}
 use Rattle.egl_cli.specs.declared.statuses.Status.TheVariants.{Ok, Usage, ReadFault, Malformed, WriteFault, Stalled, NoMemory, TooLong, Differs}
 use Rattle.egl_cli.specs.declared.commands.Command.{Command}
 use Rattle.egl_cli.specs.declared.commands.Command.TheVariants.{Serial, Configs}
-use Rattle.egl_cli.specs.Answers.{serial_answer, usage_text, read_fault_text, most_input}
+use Rattle.egl_cli.specs.Answers.{serial_answer, malformed_text, usage_text, read_fault_text, most_input}
 use Rattle.egl_cli.specs.ConfigLines.{configs_text}
 
 -- a fact of the bytes of the input, where the source tells them
@@ -21,9 +24,19 @@ abbrev pub WhereTold : Option (List ℕ) → (List ℕ → Type 0) → Type 0
 WhereTold None P = Unit {0}
 WhereTold (Some b) P = P b
 
--- a text was written whole with its status, or else a front part of it and the sink failed; want of memory may come before
+-- a text was written whole with its status, or else a front part of it and the sink failed
 abbrev pub Wrote : Option (List ℕ) → List ℕ → Option (List ℕ) → Type 0 → Status → Status → Type 0
-Wrote before text after failed meant result = ((result ≡ meant) × Took before text after) ⊎ (((result ≡ WriteFault) × TookFront before text after × failed) ⊎ ((result ≡ NoMemory) × Took before [] after))
+Wrote before text after failed meant result = ((result ≡ meant) × Took before text after) ⊎ ((result ≡ WriteFault) × TookFront before text after × failed)
+
+-- the same of a text that is made in memory: where that runs out nothing was written
+abbrev pub WroteIfMade : Option (List ℕ) → List ℕ → Option (List ℕ) → Type 0 → Status → Status → Type 0
+WroteIfMade before text after failed meant result = Wrote before text after failed meant result ⊎ ((result ≡ NoMemory) × Took before [] after)
+
+-- what the reader answered was told: a trace by its recording, where memory suffices, and a defect in any case
+abbrev pub Told : Result TraceValue TraceError → Option (List ℕ) → Option (List ℕ) → Type 0 → Status → Type 0
+Told (Spelt t) before after failed result = WroteIfMade before (recording t (serial t)) after failed Ok result
+Told (Err (Defective line reason)) before after failed result = Wrote before (malformed_text line reason) after failed Malformed result
+Told (Err Unread) before after failed result = (result ≡ NoMemory) × Took before [] after
 
 -- the status and the text are the answer of `serial` to the bytes
 abbrev pub IsAnswered : List ℕ → Option (List ℕ) → Option (List ℕ) → Status → Type 0
@@ -54,6 +67,12 @@ Says command left rest source_failed before after sink_failed TooLong = (command
 Says command left rest source_failed before after sink_failed Stalled = ⊥
 Says command left rest source_failed before after sink_failed Differs = ⊥
 
+-- memory is wanted only where it is taken: for the configs, and for an input where the source neither failed nor gave more than the limit
+abbrev pub WantsMemory : Option Command → Option (List ℕ) → Option (List ℕ) → ℕ → ℕ → Type 0
+WantsMemory None left rest faults_before faults = ⊥
+WantsMemory (Some Serial) left rest faults_before faults = (faults ≡ faults_before) × GaveWithin left rest most_input
+WantsMemory (Some Configs) left rest faults_before faults = Unit {0}
+
 -- words other than `serial` leave the source alone: what it has left, and its count of faults
 abbrev pub IsUnread : Option Command → Option (List ℕ) → Option (List ℕ) → ℕ → ℕ → Type 0
 IsUnread None left rest faults_before faults = (rest ≡ left) × (faults ≡ faults_before)
@@ -71,8 +90,8 @@ IsHeadline None left rest before after = ⊥
 IsHeadline (Some Serial) left rest before after = AtEnd rest × WhereTold left (λ b. IsRecorded b before after)
 IsHeadline (Some Configs) left rest before after = (rest ≡ left) × Took before configs_text after
 
--- where nothing failed that the command needs, the status is that of its answer, or memory ran out
+-- where nothing failed that the command needs, the status is that of its answer, or memory ran out for a command
 abbrev pub IsWhole : Option Command → Option (List ℕ) → Type 0 → Type 0 → Status → Type 0
-IsWhole None left source_failed sink_failed status = ¬ sink_failed → (status ≡ Usage) ⊎ (status ≡ NoMemory)
+IsWhole None left source_failed sink_failed status = ¬ sink_failed → status ≡ Usage
 IsWhole (Some Serial) left source_failed sink_failed status = WhereTold left (λ b. ¬ source_failed → ¬ sink_failed → ((serial_answer b).status ≡ status) ⊎ (status ≡ NoMemory))
 IsWhole (Some Configs) left source_failed sink_failed status = ¬ sink_failed → (status ≡ Ok) ⊎ (status ≡ NoMemory)

@@ -1,14 +1,20 @@
 //! What the program says to the bytes of its input.
-ghost use Rattle.std.specs.Prelude.{◌≡◌, IfOk};
-ghost use Rattle.egl_cli.specs.Answers.{reason_name, malformed_text, trace_answer};
+ghost use Rattle.std.specs.Prelude.{◌≡◌, ◌≤◌, length, IfOk};
+ghost use Rattle.trace_model.specs.Serial.{serial};
+ghost use Rattle.trace_model.specs.Recording.{recording};
+ghost use Rattle.egl_cli.specs.Answers.{reason_name, malformed_text};
 
 use crate::recordings::recording;
 use crate::sessions::run_serial;
 use crate::statuses::Status;
-use crate::texts::{put_decimal, put_text};
+use arrayvec::ArrayString;
 use egl_calls::{Bytes, NoMemory};
+use itoa::Buffer;
 use std::alloc::Global;
-use trace_reader::{Reason, Trace, TraceError};
+use trace_reader::{Reason, Trace};
+
+/// Room for the words, the name of a reason, and a line's number.
+const MALFORMED_ROOM: usize = 64;
 
 /// A status, and the text that is written with it.
 #[derive(Drop)]
@@ -19,7 +25,8 @@ pub struct Answer {
 
 #[tactic(auto, unfolding(crate::specs::Answers::reason_name))]
 fn reason_name(reason: Reason) -> &'static str
-    ensures { result.now ≡ reason_name reason }
+    ensures value { result.now ≡ reason_name reason }
+    ensures short { length result.now ≤ 8 }
 {
     match reason {
         Reason::Header => "Header",
@@ -33,36 +40,24 @@ fn reason_name(reason: Reason) -> &'static str
     }
 }
 
+/// What is said to a trace with a defect. It takes no memory.
 #[tactic(auto, unfolding(crate::specs::Answers::malformed_text))]
-fn malformed_text(alloc: Global, line: u64, reason: Reason) -> Result<Bytes, NoMemory>
-    ensures { IfOk result (λ b. b ≡ malformed_text line reason) }
+pub fn malformed_text(line: u64, reason: Reason) -> ArrayString<MALFORMED_ROOM>
+    ensures { result.bytes ≡ malformed_text line reason }
 {
-    let mut out = Bytes::new(alloc);
-    put_text(&mut out, "malformed ")?;
-    put_decimal(&mut out, line)?;
-    put_text(&mut out, " ")?;
-    put_text(&mut out, reason_name(reason))?;
-    put_text(&mut out, "\n")?;
-    Ok(out)
+    let mut out = ArrayString::new();
+    out.push_str("malformed ");
+    out.push_str(Buffer::new().format(line));
+    out.push_str(" ");
+    out.push_str(reason_name(reason));
+    out.push_str("\n");
+    out
 }
 
-/// What is said to bytes within the limit.
-#[tactic(auto, using(crate::proofs::AnswerLaws::answer_ok, crate::proofs::AnswerLaws::answer_malformed))]
-pub fn trace_answer(alloc: Global, bytes: &Bytes) -> Result<Answer, NoMemory>
-    ensures { IfOk result (λ a. a ≡ trace_answer bytes.now) }
+/// What is said to a trace: the recording of its serial journal.
+pub fn played_text(alloc: Global, trace: &Trace) -> Result<Bytes, NoMemory>
+    ensures { IfOk result (λ b. b ≡ recording trace.now (serial trace.now)) }
 {
-    match Trace::read(alloc, bytes) {
-        Ok(trace) => {
-            let run = run_serial(alloc, &trace)?;
-            Ok(Answer {
-                status: Status::Ok,
-                text: recording(alloc, &run.journal, &run.driver)?,
-            })
-        }
-        Err(TraceError::Malformed { line, reason }) => Ok(Answer {
-            status: Status::Malformed,
-            text: malformed_text(alloc, line, reason)?,
-        }),
-        Err(TraceError::NoMemory) => Err(NoMemory),
-    }
+    let run = run_serial(alloc, trace)?;
+    recording(alloc, &run.journal, &run.driver)
 }

@@ -5,11 +5,13 @@ mod answers;
 mod commands;
 mod config_lines;
 pub mod laws;
+mod process;
 mod recordings;
 mod respond;
 mod sessions;
 mod statuses;
 mod texts;
 
+pub use process::run;
 pub use respond::plain;
 pub use statuses::Status;

@@ -11,4 +11,4 @@ mod writing;
 pub use memory::{MemorySink, MemorySource};
 pub use reading::{Failed, ReadError, Source, read_all};
 pub use streams::{StdSink, StdSource};
-pub use writing::{Sink, WriteFault, write_all};
+pub use writing::{Sink, WriteFault, write_all, write_slice};

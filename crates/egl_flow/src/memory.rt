@@ -1,5 +1,5 @@
 //! A source and a sink in memory, which fail at listed calls.
-ghost use Rattle.std.specs.Prelude.{◌≡◌, ℕ, ◌+◌, ◌-◌, ◌*◌, ◌<◌, ◌≤◌, ◌==◌, ◌||◌, ◌&&◌, not, pos, Some, [], ◌++◌, length, take, drop, min, IfOk, OnErr, is_err, vec_len, vec_capacity};
+ghost use Rattle.std.specs.Prelude.{◌≡◌, ℕ, ◌+◌, ◌-◌, ◌*◌, ◌<◌, ◌≤◌, ◌==◌, ◌||◌, ◌&&◌, not, pos, Some, [], ◌++◌, length, take, drop, min, IfOk, OnOk, OnErr, is_err, vec_len, vec_capacity};
 ghost use Rattle.std.specs.Ordering.{int_eq};
 ghost use Rattle.std.specs.List.{list_any};
 ghost use Rattle.egl_flow.specs.Flow.{HasRisen, Gave, AtEnd, Took};
@@ -77,6 +77,7 @@ impl Source for MemorySource {
         ensures within { IfOk result (λ n. n ≤ length into.old) }
         ensures moved { IfOk result (λ n. Gave (Some self.old.left) (take n into.new) (Some self.new.left)) }
         ensures ended { IfOk result (λ n. n ≡ 0 → 0 < length into.old → AtEnd (Some self.new.left)) }
+        ensures steady { OnOk result (self.new.faults ≡ self.old.faults) }
         ensures failed { OnErr result (HasRisen self.old.faults self.new.faults) }
         ensures count { self.old.faults ≤ self.new.faults }
         ensures listed { is_err result ≡ is_listed self.old.fails self.old.calls }

@@ -13,9 +13,9 @@ pub struct Failed;
 
 /// Where bytes come from.
 pub trait Source {
-    /// The bytes that are still to come, where the source tells them. It tells them always or never.
+    /// The bytes that are still to come, where the source tells them. One that tells them goes on telling.
     ghost left: { Self → Option (List ℕ) };
-    /// How often it has failed. The count never falls, and stands still at the last value of a u64.
+    /// How often it has failed. Only a call that fails raises the count, and it stands still at the last value of a u64.
     ghost faults: { Self → ℕ };
 
     /// Takes some bytes into the front of a slice, and says how many. It gives 0 for a slice with places only at the end of the input.
@@ -23,6 +23,7 @@ pub trait Source {
         ensures within { IfOk result (λ n. n ≤ length into.old) }
         ensures moved { IfOk result (λ n. Gave (left self.old) (take n into.new) (left self.new)) }
         ensures ended { IfOk result (λ n. n ≡ 0 → 0 < length into.old → AtEnd (left self.new)) }
+        ensures steady { OnOk result (faults self.new ≡ faults self.old) }
         ensures failed { OnErr result (HasRisen (faults self.old) (faults self.new)) }
         ensures count { faults self.old ≤ faults self.new };
 }
@@ -38,12 +39,13 @@ pub enum ReadError {
     NoMemory,
 }
 
-/// Reads a source to its end, where it has at most `limit` bytes.
+/// Reads a source to its end, where it has at most `limit` bytes. Memory is asked for only for bytes within the limit.
 #[tactic(auto, using(crate::proofs::FlowLaws::gave_more))]
 pub fn read_all<S: Source>(alloc: Global, s: &mut S, limit: u64) -> Result<Bytes, ReadError>
     ensures all { IfOk result (λ b. Gave (S.left s.old) b (S.left s.new)) }
     ensures ended { OnOk result (AtEnd (S.left s.new)) }
     ensures within { IfOk result (λ b. length b ≤ limit) }
+    ensures steady { OnOk result (S.faults s.new ≡ S.faults s.old) }
     ensures cause { IfErr result (λ e. HasCause (S.left s.old) (S.left s.new) limit (S.faults s.old) (S.faults s.new) e) }
     ensures count { S.faults s.old ≤ S.faults s.new }
 {
@@ -59,12 +61,12 @@ pub fn read_all<S: Source>(alloc: Global, s: &mut S, limit: u64) -> Result<Bytes
         if n == 0 {
             return Ok(bytes);
         }
-        if bytes.extend(&buffer[..n]).is_err() {
-            return Err(ReadError::NoMemory);
-        }
-        let taken = bytes.len();
+        let taken = (bytes.as_slice().len() + n) as u64;
         if taken > limit {
             return Err(ReadError::TooLong { taken });
+        }
+        if bytes.extend(&buffer[..n]).is_err() {
+            return Err(ReadError::NoMemory);
         }
     }
 }

@@ -1,5 +1,5 @@
-//! std's readers and writers as a source and a sink: the trusted edge. They tell nothing of the bytes.
-ghost use Rattle.std.specs.Prelude.{◌≡◌, ℕ, ◌+◌, None};
+//! std's readers and writers as a source and a sink. They tell of the bytes what std tells: all where the bytes are in memory, and nothing of a terminal, which is the trusted edge.
+ghost use Rattle.std.specs.Prelude.{◌≡◌, ℕ, ◌+◌};
 
 use crate::reading::{Failed, Source};
 use crate::writing::Sink;
@@ -17,17 +17,19 @@ pub struct StdSource<R: Drop> {
 
 impl<R: Read + Drop> StdSource<R> {
     pub fn new(reader: R) -> StdSource<R>
-        ensures { result.faults ≡ 0 }
+        ensures reader { result.reader ≡ reader }
+        ensures faults { result.faults ≡ 0 }
     {
         StdSource { reader, faults: 0 }
     }
 }
 
 impl<R: Read + Drop> Source for StdSource<R> {
-    ghost left = { λ s. None };
+    ghost left = { λ s. R.remaining s.reader };
 
     ghost faults = { λ s. s.faults };
 
+    #[tactic(auto, using(crate::proofs::StreamLaws::kept_none, crate::proofs::StreamLaws::kept_more, crate::proofs::StreamLaws::gave_behind))]
     fn take(&mut self, into: &mut [u8]) -> Result<usize, Failed> {
         'tries: for _ in 0..TRIES {
             match self.reader.read(into) {
@@ -53,17 +55,19 @@ pub struct StdSink<W: Drop> {
 
 impl<W: Write + Drop> StdSink<W> {
     pub fn new(writer: W) -> StdSink<W>
-        ensures { result.faults ≡ 0 }
+        ensures writer { result.writer ≡ writer }
+        ensures faults { result.faults ≡ 0 }
     {
         StdSink { writer, faults: 0 }
     }
 }
 
 impl<W: Write + Drop> Sink for StdSink<W> {
-    ghost taken = { λ s. None };
+    ghost taken = { λ s. W.contents s.writer };
 
     ghost faults = { λ s. s.faults };
 
+    #[tactic(auto, using(crate::proofs::StreamLaws::kept_none, crate::proofs::StreamLaws::kept_more, crate::proofs::StreamLaws::took_behind, crate::proofs::StreamLaws::took_none))]
     fn give(&mut self, piece: &[u8]) -> Result<usize, Failed> {
         'tries: for _ in 0..TRIES {
             match self.writer.write(piece) {

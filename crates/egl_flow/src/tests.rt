@@ -84,3 +84,17 @@ fn limits_are_exact(rt: HostRuntime) -> Result<(), Fail> {
     assert_eq!(rt; sink.taken(), b"ab".as_slice());
     Ok(())
 }
+
+/// Want of memory that is answered at will, past some length, shows here.
+#[test]
+fn the_longest_input_is_read_and_written(rt: HostRuntime) -> Result<(), Fail> {
+    let alloc = rt.alloc();
+    let bytes = Bytes::from_vec(vec![in alloc; b'x'; 33_554_432]?);
+    let mut source = MemorySource::new(bytes, Numbers::new(alloc));
+    let all = read_all(alloc, &mut source, 33_554_432)?;
+    assert_eq!(rt; all.len(), 33_554_432);
+    let mut sink = MemorySink::new(alloc, 33_554_432, Numbers::new(alloc))?;
+    assert_eq!(rt; write_all(&mut sink, &all), Ok(()));
+    assert_eq!(rt; sink.taken().len(), 33_554_432);
+    Ok(())
+}

@@ -7,7 +7,7 @@ use egl_calls::Bytes;
 
 /// Where bytes go.
 pub trait Sink {
-    /// The bytes that it has taken so far, where the sink tells them. It tells them always or never.
+    /// The bytes that it has taken so far, where the sink tells them. One that tells them goes on telling.
     ghost taken: { Self → Option (List ℕ) };
     /// How often it has failed. The count never falls, and stands still at the last value of a u64.
     ghost faults: { Self → ℕ };
@@ -26,15 +26,14 @@ pub trait Sink {
 #[derive(Clone, Copy, Debug, PartialEq, Eq, Drop)]
 pub struct WriteFault;
 
-/// Gives all bytes to a sink. It takes no memory.
+/// Gives all bytes of a slice to a sink. It takes no memory.
 #[tactic(auto, using(crate::proofs::FlowLaws::took_more))]
-pub fn write_all<K: Sink>(k: &mut K, bytes: &Bytes) -> Result<(), WriteFault>
-    ensures all { OnOk result (Took (K.taken k.old) bytes.now (K.taken k.new)) }
-    ensures front { OnErr result (TookFront (K.taken k.old) bytes.now (K.taken k.new)) }
+pub fn write_slice<K: Sink>(k: &mut K, all: &[u8]) -> Result<(), WriteFault>
+    ensures all { OnOk result (Took (K.taken k.old) all.now (K.taken k.new)) }
+    ensures front { OnErr result (TookFront (K.taken k.old) all.now (K.taken k.new)) }
     ensures fault { OnErr result (HasRisen (K.faults k.old) (K.faults k.new)) }
     ensures count { K.faults k.old ≤ K.faults k.new }
 {
-    let all = bytes.as_slice();
     let mut at = 0;
     'pieces: while at < all.len() {
         let (_, rest) = all.split_at(at);
@@ -44,4 +43,14 @@ pub fn write_all<K: Sink>(k: &mut K, bytes: &Bytes) -> Result<(), WriteFault>
         }
     }
     Ok(())
+}
+
+/// Gives all bytes to a sink. It takes no memory.
+pub fn write_all<K: Sink>(k: &mut K, bytes: &Bytes) -> Result<(), WriteFault>
+    ensures all { OnOk result (Took (K.taken k.old) bytes.now (K.taken k.new)) }
+    ensures front { OnErr result (TookFront (K.taken k.old) bytes.now (K.taken k.new)) }
+    ensures fault { OnErr result (HasRisen (K.faults k.old) (K.faults k.new)) }
+    ensures count { K.faults k.old ≤ K.faults k.new }
+{
+    write_slice(k, bytes.as_slice())
 }

@@ -11,3 +11,4 @@ pub mod FrontLaws
 pub mod NumeralLaws
 pub mod AttributeLaws
 pub mod SpellingLaws
+pub mod CallLaws

@@ -4,16 +4,15 @@ use Rattle.std.proofs.lemmas.Bool.{cond-true, cond-false}
 use Rattle.std.proofs.lemmas.List.Elements.{All-nil, All-cons}
 use Rattle.std.specs.List.{list_all}
 use Rattle.egl_calls.specs.Calls.{CallValue}
-use Rattle.egl_calls.specs.declared.kinds.Kind.{Kind}
 use Rattle.trace_reader.specs.declared.traces.Line.{Line}
 use Rattle.trace_reader.specs.declared.traces.Defect.{Defect}
 use Rattle.trace_reader.specs.declared.traces.Reason.{Reason}
 use Rattle.trace_reader.specs.declared.traces.Reason.TheVariants.{Argument, Variable, Limit}
 use Rattle.trace_reader.specs.Words.{words, word_at}
-use Rattle.trace_reader.specs.CallNames.{forms_of}
+use Rattle.trace_reader.specs.CallNames.{Signature}
 use Rattle.trace_reader.specs.Arguments.{call_of, is_known, references}
 use Rattle.trace_reader.specs.Header.{header_of}
-use Rattle.trace_reader.specs.Body.{◌>>=◌, or_reason, provided, call_word, argument_words, target_of, thread_of, kind_in, is_assignable, assigned, line_with, line_in, body_of, is_within, within_limits, is_skipped, body_then, read_body}
+use Rattle.trace_reader.specs.Body.{◌>>=◌, or_reason, provided, call_word, argument_words, target_of, thread_of, signature_in, is_assignable, assigned, line_with, line_in, body_of, is_within, within_limits, is_skipped, body_then, read_body}
 use Rattle.trace_reader.specs.Pixels.{pixel_bytes}
 use Rattle.trace_reader.specs.Grammar.{behind_header, trace_of_lines}
 
@@ -26,11 +25,11 @@ given : {A : Type 0} (b : Bool) (r : Reason) (more : Result A Reason) (y : A) �
 given true r more y h = h
 given false r more y h = absurd (let g : Err r ≡ Ok y = h in cc)
 
-line_number : (vs : List (List ℕ)) (n thread : ℕ) (kind : Kind) (target : Option (List ℕ)) (arguments : List (List ℕ)) (l : Line) → line_in vs n thread kind target arguments ≡ Ok l → l.number ≡ n
+line_number : (vs : List (List ℕ)) (n thread : ℕ) (s : Signature) (target : Option (List ℕ)) (arguments : List (List ℕ)) (l : Line) → line_in vs n thread s target arguments ≡ Ok l → l.number ≡ n
 unfolding line_in
-line_number vs n thread kind target arguments l h =
-    let a : (call : CallValue) × (line_with vs n thread target (forms_of kind) arguments call ≡ Ok l) = bound (or_reason (call_of kind (forms_of kind) arguments) Argument) (λ (call : CallValue). line_with vs n thread target (forms_of kind) arguments call) l h in
-    let x : Line = record { number = n; thread = thread; assigns = assigned vs target; call = a.0; uses = references vs 0 (forms_of kind) arguments } in
+line_number vs n thread s target arguments l h =
+    let a : (call : CallValue) × (line_with vs n thread target s.forms arguments call ≡ Ok l) = bound (or_reason (call_of s.kind s.forms arguments) Argument) (λ (call : CallValue). line_with vs n thread target s.forms arguments call) l h in
+    let x : Line = record { number = n; thread = thread; assigns = assigned vs target; call = a.0; uses = references vs 0 s.forms arguments } in
     let y : Result Line Reason = Ok x in
     let e : y ≡ Ok l = given (list_all (is_known vs) arguments) Variable y l (given (is_assignable vs target) Variable (provided (list_all (is_known vs) arguments) Variable y) l a.1) in
     let i : x ≡ l = cc in
@@ -39,8 +38,8 @@ line_number vs n thread kind target arguments l h =
 body_number : (threads n : ℕ) (vs ws : List (List ℕ)) (l : Line) → body_of threads vs n ws ≡ Ok l → l.number ≡ n
 unfolding body_of
 body_number threads n vs ws l h =
-    let a : (thread : ℕ) × ((kind_in (call_word ws) (argument_words ws) >>= (λ kind. line_in vs n thread kind (target_of ws) (argument_words ws))) ≡ Ok l) = bound (thread_of threads (word_at ws 0)) (λ (thread : ℕ). kind_in (call_word ws) (argument_words ws) >>= (λ kind. line_in vs n thread kind (target_of ws) (argument_words ws))) l h in
-    let b : (kind : Kind) × (line_in vs n a.0 kind (target_of ws) (argument_words ws) ≡ Ok l) = bound (kind_in (call_word ws) (argument_words ws)) (λ (kind : Kind). line_in vs n a.0 kind (target_of ws) (argument_words ws)) l a.1 in
+    let a : (thread : ℕ) × ((signature_in (call_word ws) (argument_words ws) >>= (λ s. line_in vs n thread s (target_of ws) (argument_words ws))) ≡ Ok l) = bound (thread_of threads (word_at ws 0)) (λ (thread : ℕ). signature_in (call_word ws) (argument_words ws) >>= (λ s. line_in vs n thread s (target_of ws) (argument_words ws))) l h in
+    let b : (s : Signature) × (line_in vs n a.0 s (target_of ws) (argument_words ws) ≡ Ok l) = bound (signature_in (call_word ws) (argument_words ws)) (λ (s : Signature). line_in vs n a.0 s (target_of ws) (argument_words ws)) l a.1 in
     line_number vs n a.0 b.0 (target_of ws) (argument_words ws) l b.1
 
 limited : (b : Bool) (l m : Line) → (if b then Ok l else Err Limit) ≡ Ok m → l ≡ m

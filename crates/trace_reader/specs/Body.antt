@@ -3,7 +3,6 @@ use Rattle.std.specs.Prelude.{ℕ, ◌+◌, ◌-◌, Bool, true, ◌&&◌, ◌||
 use Rattle.std.specs.List.{list_any, list_all}
 use Rattle.std.specs.Str.{bytes_eq}
 use Rattle.egl_calls.specs.Calls.{CallValue}
-use Rattle.egl_calls.specs.declared.kinds.Kind.{Kind}
 use Rattle.trace_reader.specs.declared.call_names.Form.{Form}
 use Rattle.trace_reader.specs.declared.traces.Reason.{Reason}
 use Rattle.trace_reader.specs.declared.traces.Reason.TheVariants.{Thread, Name, Argument, Variable, Limit}
@@ -11,7 +10,7 @@ use Rattle.trace_reader.specs.declared.traces.Defect.{Defect}
 use Rattle.trace_reader.specs.declared.traces.Line.{Line}
 use Rattle.trace_reader.specs.Words.{words, word_at, begins_with}
 use Rattle.trace_reader.specs.Numerals.{numeral}
-use Rattle.trace_reader.specs.CallNames.{kind_of, forms_of}
+use Rattle.trace_reader.specs.CallNames.{Signature, call_named}
 use Rattle.trace_reader.specs.Variables.{is_variable, variable_in}
 use Rattle.trace_reader.specs.Arguments.{has_unknown_name, is_known, call_of, references}
 use Rattle.trace_reader.specs.Pixels.{most_pixel_bytes, pixel_bytes}
@@ -50,9 +49,9 @@ target_of ws = if is_assignment ws then Some (word_at ws 1) else None
 unfoldable pub thread_of : ℕ → List ℕ → Result ℕ Reason
 thread_of threads w = or_reason (numeral (threads - 1) w) Thread
 
--- the kind of call, where no word among the arguments is or lists an unknown name
-unfoldable pub kind_in : List ℕ → List (List ℕ) → Result Kind Reason
-kind_in call arguments = if list_any has_unknown_name arguments then Err Name else or_reason (kind_of call) Name
+-- the call, where no word among the arguments is or lists an unknown name
+unfoldable pub signature_in : List ℕ → List (List ℕ) → Result Signature Reason
+signature_in call arguments = if list_any has_unknown_name arguments then Err Name else or_reason (call_named call) Name
 
 -- nothing is assigned, or a variable that no line before has assigned
 abbrev pub is_assignable : List (List ℕ) → Option (List ℕ) → Bool
@@ -71,17 +70,17 @@ line_with variables number thread target forms arguments call =
     Ok (record { number = number; thread = thread; assigns = assigned variables target; call = call; uses = references variables 0 forms arguments })))
 
 -- the line of a call with these arguments, or its first defect
-unfoldable pub line_in : List (List ℕ) → ℕ → ℕ → Kind → Option (List ℕ) → List (List ℕ) → Result Line Reason
-line_in variables number thread kind target arguments = do
-  call ← or_reason (call_of kind (forms_of kind) arguments) Argument
-  line_with variables number thread target (forms_of kind) arguments call
+unfoldable pub line_in : List (List ℕ) → ℕ → ℕ → Signature → Option (List ℕ) → List (List ℕ) → Result Line Reason
+line_in variables number thread signature target arguments = do
+  call ← or_reason (call_of signature.kind signature.forms arguments) Argument
+  line_with variables number thread target signature.forms arguments call
 
 -- the body line of these words with this number, after lines that assigned these variables; or its first defect
 unfoldable pub body_of : ℕ → List (List ℕ) → ℕ → List (List ℕ) → Result Line Reason
 body_of threads variables number ws = do
   thread ← thread_of threads (word_at ws 0)
-  kind ← kind_in (call_word ws) (argument_words ws)
-  line_in variables number thread kind (target_of ws) (argument_words ws)
+  signature ← signature_in (call_word ws) (argument_words ws)
+  line_in variables number thread signature (target_of ws) (argument_words ws)
 
 -- a trace has at most 100,000 body lines, which ask for at most 134,217,728 bytes of pixels; count lines that ask for so many bytes stand before this one
 abbrev pub is_within : ℕ → ℕ → Line → Bool

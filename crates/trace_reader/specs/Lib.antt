@@ -5,6 +5,7 @@ pub mod Hexadecimals
 pub mod NumberWords
 pub mod Lists
 pub mod CallNames
+pub mod CallRows
 pub mod Variables
 pub mod Arguments
 pub mod Pixels

@@ -1,18 +1,19 @@
 //! Body lines.
 ghost use Rattle.std.specs.Prelude.{◌≡◌, ℕ, ◌+◌, ◌-◌, ◌<◌, ◌≤◌, ◌^◌, [], ◌∷◌, ◌++◌, length, map, true, IfOk, OnOk, option_to_list};
 ghost use Rattle.std.specs.Option.{option_map};
-ghost use Rattle.trace_reader.specs.Words.{words};
-ghost use Rattle.trace_reader.specs.Body.{is_assignment, call_place, call_word, argument_words, target_of, thread_of, kind_in, is_assignable, assigned, line_in, body_of};
+ghost use Rattle.trace_reader.specs.CallRows.{result_of};
+ghost use Rattle.trace_reader.specs.Body.{target_of, thread_of, signature_in, is_assignable, assigned, line_in, body_of};
 ghost use Rattle.trace_reader.specs.Reading.{GivesLine};
 ghost use Rattle.trace_reader.specs.Order.{IsNext, IsLineAt, more_variables};
 ghost use Rattle.egl_calls.specs.Kinds.{is_built};
 
 use crate::arguments::{are_known, call_of, have_unknown_name, references};
-use crate::call_names::{forms_of, kind_of};
+use crate::body_words::BodyWords;
+use crate::call_names::{Form, call_named};
 use crate::numerals::numeral;
 use crate::traces::{Line, Reason};
 use crate::variables::{Variables, is_variable};
-use crate::word_cuts::{begins_with, word_at, words};
+use crate::word_cuts::word_at;
 use egl_calls::{Kind, NoMemory};
 use std::alloc::Global;
 
@@ -21,44 +22,6 @@ use std::alloc::Global;
 pub enum LineError {
     Defective(Reason),
     NoMemory,
-}
-
-fn is_assignment(words: &[&[u8]]) -> bool
-    ensures { result ≡ is_assignment (map (λ w. w.now) words.now) }
-{
-    begins_with(word_at(words, 1), b'$') && word_at(words, 2) == b"=".as_slice()
-}
-
-fn call_place(words: &[&[u8]]) -> usize
-    ensures value { result ≡ call_place (map (λ w. w.now) words.now) }
-    ensures small { result ≤ 3 }
-{
-    if is_assignment(words) { 3 } else { 1 }
-}
-
-/// The word that stands where a variable is assigned.
-pub fn target_of<'a>(words: &[&'a [u8]]) -> Option<&'a [u8]>
-    ensures { option_map (λ w. w.now) result ≡ target_of (map (λ w. w.now) words.now) }
-{
-    if is_assignment(words) {
-        Some(word_at(words, 1))
-    } else {
-        None
-    }
-}
-
-fn call_word<'a>(words: &[&'a [u8]]) -> &'a [u8]
-    ensures { result.now ≡ call_word (map (λ w. w.now) words.now) }
-{
-    word_at(words, call_place(words))
-}
-
-fn argument_words<'w, 'a>(words: &'w [&'a [u8]]) -> &'w [&'a [u8]]
-    ensures { map (λ w. w.now) result.now ≡ argument_words (map (λ w. w.now) words.now) }
-{
-    let count = (call_place(words) + 1).min(words.len());
-    let (_, rest) = words.split_at(count);
-    rest
 }
 
 #[tactic(auto, unfolding(crate::specs::Body::thread_of))]
@@ -73,16 +36,18 @@ fn thread_of(threads: u32, word: &[u8]) -> Result<u32, Reason>
     }
 }
 
-#[tactic(auto, unfolding(crate::specs::Body::kind_in))]
-fn kind_in(call: &[u8], arguments: &[&[u8]]) -> Result<Kind, Reason>
-    ensures value { result ≡ kind_in call.now (map (λ w. w.now) arguments.now) }
-    ensures built { IfOk result (λ k. is_built k ≡ true) }
+/// The kind of the call, and the forms of its arguments.
+#[tactic(auto, unfolding(crate::specs::Body::signature_in))]
+fn signature_in(call: &[u8], arguments: &[&[u8]]) -> Result<(Kind, &'static [Form]), Reason>
+    ensures value { result_of result ≡ signature_in call.now (map (λ w. w.now) arguments.now) }
+    ensures built { IfOk result (λ s. is_built s.0 ≡ true) }
+    ensures few { IfOk result (λ s. length s.1.now ≤ 8) }
 {
     if have_unknown_name(arguments) {
         return Err(Reason::Name);
     }
-    match kind_of(call) {
-        Some(kind) => Ok(kind),
+    match call_named(call) {
+        Some(signature) => Ok(signature),
         None => Err(Reason::Name),
     }
 }
@@ -115,17 +80,18 @@ fn line_in(
     number: u64,
     thread: u32,
     kind: Kind,
+    forms: &[Form],
     target: Option<&[u8]>,
     arguments: &[&[u8]],
 ) -> Result<Line, LineError>
-    requires { is_built kind ≡ true }
-    ensures line { GivesLine result (line_in variables.now number thread kind (option_map (λ w. w.now) target.entry) (map (λ w. w.now) arguments.now)) }
+    requires built { is_built kind ≡ true }
+    requires few { length forms.now ≤ 8 }
+    ensures line { GivesLine result (line_in variables.now number thread (record { kind = kind; forms = forms.now }) (option_map (λ w. w.now) target.entry) (map (λ w. w.now) arguments.now)) }
     ensures assignable { OnOk result (is_assignable variables.now (option_map (λ w. w.now) target.entry) ≡ true) }
     ensures thread { IfOk result (λ l. l.thread ≡ thread) }
     ensures order { IfOk result (IsLineAt number (length variables.now)) }
     ensures count { IfOk result (λ l. more_variables (length variables.now) l.assigns ≡ length (variables.now ++ option_to_list (option_map (λ w. w.now) target.entry))) }
 {
-    let forms = forms_of(kind);
     let Ok(found) = call_of(alloc, kind, forms, arguments) else {
         return Err(LineError::NoMemory);
     };
@@ -157,28 +123,29 @@ pub fn body_of(
     threads: u32,
     variables: &Variables<'_>,
     number: u64,
-    words: &[&[u8]],
+    words: &BodyWords<'_, '_>,
 ) -> Result<Line, LineError>
     requires { 0 < threads }
-    ensures line { GivesLine result (body_of threads variables.now number (map (λ w. w.now) words.now)) }
-    ensures assignable { OnOk result (is_assignable variables.now (target_of (map (λ w. w.now) words.now)) ≡ true) }
+    ensures line { GivesLine result (body_of threads variables.now number (map (λ w. w.now) words.now.words.now)) }
+    ensures assignable { OnOk result (is_assignable variables.now (target_of (map (λ w. w.now) words.now.words.now)) ≡ true) }
     ensures thread { IfOk result (λ l. l.thread < threads) }
     ensures order { IfOk result (IsLineAt number (length variables.now)) }
-    ensures count { IfOk result (λ l. more_variables (length variables.now) l.assigns ≡ length (variables.now ++ option_to_list (target_of (map (λ w. w.now) words.now)))) }
+    ensures count { IfOk result (λ l. more_variables (length variables.now) l.assigns ≡ length (variables.now ++ option_to_list (target_of (map (λ w. w.now) words.now.words.now)))) }
 {
-    let thread = match thread_of(threads, word_at(words, 0)) {
+    let thread = match thread_of(threads, word_at(words.words, 0)) {
         Ok(thread) => thread,
         Err(reason) => return Err(LineError::Defective(reason)),
     };
-    let arguments = argument_words(words);
-    match kind_in(call_word(words), arguments) {
-        Ok(kind) => line_in(
+    let arguments = words.arguments();
+    match signature_in(words.call(), arguments) {
+        Ok((kind, forms)) => line_in(
             alloc,
             variables,
             number,
             thread,
             kind,
-            target_of(words),
+            forms,
+            words.target(),
             arguments,
         ),
         Err(reason) => Err(LineError::Defective(reason)),

@@ -1,7 +1,10 @@
-//! The words that name calls, and the forms of their arguments.
-ghost use Rattle.std.specs.Prelude.{◌≡◌, ℕ, length, ◌≤◌, true, IfSome};
+//! The calls: the words that name them, their kinds, and the forms of their arguments.
+ghost use Rattle.std.specs.Prelude.{◌≡◌, ℕ, length, ◌≤◌, true, map, IfSome};
+ghost use Rattle.std.specs.Option.{option_map};
 ghost use Rattle.egl_calls.specs.Kinds.{is_built};
-ghost use Rattle.trace_reader.specs.CallNames.{kind_of, forms_of};
+ghost use Rattle.egl_names.specs.Names.{value_in};
+ghost use Rattle.trace_reader.specs.CallNames.{signature, call_named};
+ghost use Rattle.trace_reader.specs.CallRows.{signature_of};
 
 use egl_calls::{EglKind, GlKind, Kind, OwnKind};
 
@@ -18,118 +21,64 @@ pub enum Form {
     AttributeList,
 }
 
-/// The kind of the call that a word names.
-#[tactic(auto, unfolding(crate::specs::CallNames::kind_of))]
-pub fn kind_of(word: &[u8]) -> Option<Kind>
-    ensures value { result ≡ kind_of word.now }
-    ensures built { IfSome result (λ k. is_built k ≡ true) }
-{
-    if word == b"eglGetError".as_slice() {
-        Some(Kind::Egl(EglKind::GetError))
-    } else if word == b"eglGetDisplay".as_slice() {
-        Some(Kind::Egl(EglKind::GetDisplay))
-    } else if word == b"eglInitialize".as_slice() {
-        Some(Kind::Egl(EglKind::Initialize))
-    } else if word == b"eglTerminate".as_slice() {
-        Some(Kind::Egl(EglKind::Terminate))
-    } else if word == b"eglGetConfigs".as_slice() {
-        Some(Kind::Egl(EglKind::GetConfigs))
-    } else if word == b"eglChooseConfig".as_slice() {
-        Some(Kind::Egl(EglKind::ChooseConfig))
-    } else if word == b"eglGetConfigAttrib".as_slice() {
-        Some(Kind::Egl(EglKind::GetConfigAttrib))
-    } else if word == b"eglCreatePbufferSurface".as_slice() {
-        Some(Kind::Egl(EglKind::CreatePbufferSurface))
-    } else if word == b"eglCreateContext".as_slice() {
-        Some(Kind::Egl(EglKind::CreateContext))
-    } else if word == b"eglMakeCurrent".as_slice() {
-        Some(Kind::Egl(EglKind::MakeCurrent))
-    } else if word == b"eglGetCurrentContext".as_slice() {
-        Some(Kind::Egl(EglKind::GetCurrentContext))
-    } else if word == b"eglDestroySurface".as_slice() {
-        Some(Kind::Egl(EglKind::DestroySurface))
-    } else if word == b"eglQuerySurface".as_slice() {
-        Some(Kind::Egl(EglKind::QuerySurface))
-    } else if word == b"eglSurfaceAttrib".as_slice() {
-        Some(Kind::Egl(EglKind::SurfaceAttrib))
-    } else if word == b"eglBindAPI".as_slice() {
-        Some(Kind::Egl(EglKind::BindApi))
-    } else if word == b"eglQueryAPI".as_slice() {
-        Some(Kind::Egl(EglKind::QueryApi))
-    } else if word == b"eglDestroyContext".as_slice() {
-        Some(Kind::Egl(EglKind::DestroyContext))
-    } else if word == b"eglGetCurrentSurface".as_slice() {
-        Some(Kind::Egl(EglKind::GetCurrentSurface))
-    } else if word == b"eglGetCurrentDisplay".as_slice() {
-        Some(Kind::Egl(EglKind::GetCurrentDisplay))
-    } else if word == b"eglQueryContext".as_slice() {
-        Some(Kind::Egl(EglKind::QueryContext))
-    } else if word == b"eglWaitClient".as_slice() {
-        Some(Kind::Egl(EglKind::WaitClient))
-    } else if word == b"eglReleaseThread".as_slice() {
-        Some(Kind::Egl(EglKind::ReleaseThread))
-    } else if word == b"census".as_slice() {
-        Some(Kind::Own(OwnKind::Census))
-    } else if word == b"glGetError".as_slice() {
-        Some(Kind::Gl(GlKind::GetError))
-    } else if word == b"glClearColorx".as_slice() {
-        Some(Kind::Gl(GlKind::ClearColorx))
-    } else if word == b"glClear".as_slice() {
-        Some(Kind::Gl(GlKind::Clear))
-    } else if word == b"glReadPixels".as_slice() {
-        Some(Kind::Gl(GlKind::ReadPixels))
-    } else {
-        None
-    }
+/// A call: the word that names it, its kind, and the forms of its arguments in order.
+type Row = (&'static str, Kind, &'static [Form]);
+
+/// A row for each line: a word, a kind, and the forms of the arguments.
+macro_rules! rows {
+    ($($name:literal: Kind::$family:ident($kind:path) [$($form:ident),*];)*) => {
+        [$(($name, Kind::$family($kind), &[$(Form::$form),*])),*]
+    };
 }
 
-/// The forms of a call's arguments, in order.
-pub fn forms_of(kind: Kind) -> &'static [Form]
-    ensures value { result.now ≡ forms_of kind }
-    ensures few { length result.now ≤ 8 }
+/// The calls that a trace may make.
+static CALLS: [Row; 27] = rows![
+    "eglGetError": Kind::Egl(EglKind::GetError) [];
+    "eglGetDisplay": Kind::Egl(EglKind::GetDisplay) [Number];
+    "eglInitialize": Kind::Egl(EglKind::Initialize) [NumberOrVariable];
+    "eglTerminate": Kind::Egl(EglKind::Terminate) [NumberOrVariable];
+    "eglGetConfigs": Kind::Egl(EglKind::GetConfigs) [NumberOrVariable];
+    "eglChooseConfig": Kind::Egl(EglKind::ChooseConfig) [NumberOrVariable, AttributeList];
+    "eglGetConfigAttrib": Kind::Egl(EglKind::GetConfigAttrib) [NumberOrVariable, Number, Number];
+    "eglCreatePbufferSurface": Kind::Egl(EglKind::CreatePbufferSurface) [NumberOrVariable, Number, AttributeList];
+    "eglCreateContext": Kind::Egl(EglKind::CreateContext) [NumberOrVariable, Number, NoShare, AttributeList];
+    "eglMakeCurrent": Kind::Egl(EglKind::MakeCurrent) [NumberOrVariable, NumberOrVariable, NumberOrVariable, NumberOrVariable];
+    "eglGetCurrentContext": Kind::Egl(EglKind::GetCurrentContext) [];
+    "eglDestroySurface": Kind::Egl(EglKind::DestroySurface) [NumberOrVariable, NumberOrVariable];
+    "eglQuerySurface": Kind::Egl(EglKind::QuerySurface) [NumberOrVariable, NumberOrVariable, Number];
+    "eglSurfaceAttrib": Kind::Egl(EglKind::SurfaceAttrib) [NumberOrVariable, NumberOrVariable, Number, Number];
+    "eglBindAPI": Kind::Egl(EglKind::BindApi) [Number];
+    "eglQueryAPI": Kind::Egl(EglKind::QueryApi) [];
+    "eglDestroyContext": Kind::Egl(EglKind::DestroyContext) [NumberOrVariable, NumberOrVariable];
+    "eglGetCurrentSurface": Kind::Egl(EglKind::GetCurrentSurface) [Number];
+    "eglGetCurrentDisplay": Kind::Egl(EglKind::GetCurrentDisplay) [];
+    "eglQueryContext": Kind::Egl(EglKind::QueryContext) [NumberOrVariable, NumberOrVariable, Number];
+    "eglWaitClient": Kind::Egl(EglKind::WaitClient) [];
+    "eglReleaseThread": Kind::Egl(EglKind::ReleaseThread) [];
+    "census": Kind::Own(OwnKind::Census) [];
+    "glGetError": Kind::Gl(GlKind::GetError) [];
+    "glClearColorx": Kind::Gl(GlKind::ClearColorx) [Number, Number, Number, Number];
+    "glClear": Kind::Gl(GlKind::Clear) [Number];
+    "glReadPixels": Kind::Gl(GlKind::ReadPixels) [Number, Number, Number, Number, Number, Number];
+];
+
+/// The kind and the forms that stand beside a word.
+fn beside(rows: &[Row], word: &[u8]) -> Option<(Kind, &'static [Form])>
+    ensures { option_map signature_of result ≡ value_in (map (λ r. (r.0.now, signature r.1 r.2.now)) rows.now) word.now }
 {
-    match kind {
-        Kind::Egl(EglKind::GetDisplay) => &[Form::Number],
-        Kind::Egl(EglKind::Initialize) => &[Form::NumberOrVariable],
-        Kind::Egl(EglKind::Terminate) => &[Form::NumberOrVariable],
-        Kind::Egl(EglKind::GetConfigs) => &[Form::NumberOrVariable],
-        Kind::Egl(EglKind::ChooseConfig) => &[Form::NumberOrVariable, Form::AttributeList],
-        Kind::Egl(EglKind::GetConfigAttrib) => {
-            &[Form::NumberOrVariable, Form::Number, Form::Number]
+    for row in rows {
+        if row.0.as_bytes() == word {
+            return Some((row.1, row.2));
         }
-        Kind::Egl(EglKind::CreatePbufferSurface) => {
-            &[Form::NumberOrVariable, Form::Number, Form::AttributeList]
-        }
-        Kind::Egl(EglKind::CreateContext) => &[
-            Form::NumberOrVariable,
-            Form::Number,
-            Form::NoShare,
-            Form::AttributeList,
-        ],
-        Kind::Egl(EglKind::MakeCurrent) => &[Form::NumberOrVariable; 4],
-        Kind::Egl(EglKind::DestroySurface) => &[Form::NumberOrVariable, Form::NumberOrVariable],
-        Kind::Egl(EglKind::QuerySurface) => &[
-            Form::NumberOrVariable,
-            Form::NumberOrVariable,
-            Form::Number,
-        ],
-        Kind::Egl(EglKind::SurfaceAttrib) => &[
-            Form::NumberOrVariable,
-            Form::NumberOrVariable,
-            Form::Number,
-            Form::Number,
-        ],
-        Kind::Egl(EglKind::BindApi) => &[Form::Number],
-        Kind::Egl(EglKind::DestroyContext) => &[Form::NumberOrVariable, Form::NumberOrVariable],
-        Kind::Egl(EglKind::GetCurrentSurface) => &[Form::Number],
-        Kind::Egl(EglKind::QueryContext) => &[
-            Form::NumberOrVariable,
-            Form::NumberOrVariable,
-            Form::Number,
-        ],
-        Kind::Gl(GlKind::ClearColorx) => &[Form::Number; 4],
-        Kind::Gl(GlKind::Clear) => &[Form::Number],
-        Kind::Gl(GlKind::ReadPixels) => &[Form::Number; 6],
-        _ => &[],
     }
+    None
+}
+
+/// The kind of the call that a word names, and the forms of its arguments.
+pub fn call_named(word: &[u8]) -> Option<(Kind, &'static [Form])>
+    ensures value { option_map signature_of result ≡ call_named word.now }
+    ensures built { IfSome result (λ s. is_built s.0 ≡ true) }
+    ensures few { IfSome result (λ s. length s.1.now ≤ 8) }
+{
+    beside(&CALLS, word)
 }

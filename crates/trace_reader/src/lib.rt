@@ -3,6 +3,7 @@
 
 mod arguments;
 mod body;
+mod body_words;
 mod call_names;
 mod header;
 mod hexadecimals;

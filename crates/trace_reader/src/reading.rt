@@ -9,7 +9,8 @@ ghost use Rattle.trace_reader.specs.Pixels.{most_pixel_bytes};
 ghost use Rattle.trace_reader.specs.Reading.{Gives, GivesNext};
 ghost use Rattle.trace_reader.specs.Order.{AreInOrder, AreBefore};
 
-use crate::body::{LineError, body_of, target_of};
+use crate::body::{LineError, body_of};
+use crate::body_words::BodyWords;
 use crate::header::header_of;
 use crate::line_cuts::cut_line;
 use crate::pixels::pixel_bytes;
@@ -73,7 +74,8 @@ fn next_line<'a>(
     if is_skipped(line, &parts) {
         return Ok(());
     }
-    match body_of(alloc, threads, variables, number, &parts) {
+    let body_words = BodyWords::new(&parts);
+    match body_of(alloc, threads, variables, number, &body_words) {
         Ok(body) => {
             let asked = pixel_bytes(&body.call);
             if read.len() >= MOST_BODY_LINES || asked > (MOST_PIXEL_BYTES - *pixels) as u128 {
@@ -82,7 +84,7 @@ fn next_line<'a>(
                     reason: Reason::Limit,
                 });
             }
-            let Ok(()) = add_target(variables, target_of(&parts)) else {
+            let Ok(()) = add_target(variables, body_words.target()) else {
                 return Err(TraceError::NoMemory);
             };
             let Ok(()) = read.push(body) else {

@@ -10,6 +10,8 @@ use crate::account::Account;
 use crate::token::{AttachError, Opened, Shared, Token};
 use std::alloc::Global;
 use std::sync::Wait;
+use std::thread;
+use std::time::{Clock, Duration};
 use turn_lock::{NoMemory, Opening, Turns};
 
 impl Shared {
@@ -87,6 +89,17 @@ impl Shared {
         self.turns.join(&mut into.pass, pass);
         held.value().dismiss();
         self.turns.give_back(&mut into.pass, held);
+    }
+
+    /// Sleeps in a turn, so that those who wait sleep too.
+    pub fn linger<R: Wait + Clock>(&self, rt: &R, token: &mut Token, pause: Duration)
+        requires { IsOf self.now token.old }
+        ensures token { IsOf self.now token.new × (token.new.number ≡ token.old.number) }
+        ensures seen { Adds token.old [] token.new }
+    {
+        let held = self.turns.take_turn(&mut token.pass, rt);
+        thread::sleep(rt, pause);
+        self.turns.give_back(&mut token.pass, held);
     }
 
     /// How many tokens are live.

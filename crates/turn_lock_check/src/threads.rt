@@ -9,25 +9,39 @@ use std::alloc::Global;
 use std::sync::Wait;
 use std::thread;
 use std::thread::Threads;
+use std::time::{Clock, Duration};
 
-// Makes deposits of 1.
-fn deposits<R: Wait>(rt: &R, shared: &Shared, token: &mut Token, count: u64)
+// How many deposits a thread makes before it sleeps in a turn.
+const APART: u64 = 50;
+
+// Makes deposits of 1, and sleeps in a turn before each so many of them.
+fn deposits<R: Wait + Clock>(
+    rt: &R,
+    shared: &Shared,
+    token: &mut Token,
+    count: u64,
+    pause: Duration,
+)
     requires { IsOf shared.now token.old }
     ensures { IsOf shared.now token.new }
 {
-    for _ in 0..count {
+    for k in 0..count {
+        if k % APART == 0 {
+            shared.linger(rt, token, pause);
+        }
         let _ = shared.deposit(rt, token, 1);
     }
 }
 
-/// Makes `count` deposits of 1 in each of `threads` threads, with tokens that it joins in the end.
-pub fn crowd<R: Threads + Wait + Sync>(
+/// Makes `count` deposits of 1 in each of `threads` threads, with tokens that it joins in the end. Each thread sleeps in a turn for a pause now and then.
+pub fn crowd<R: Threads + Wait + Clock + Sync>(
     rt: &R,
     alloc: Global,
     shared: &Shared,
     token: &mut Token,
     threads: usize,
     count: u64,
+    pause: Duration,
 )
     requires token { IsOf shared.now token.old }
     requires threads { 0 < threads }
@@ -49,7 +63,7 @@ pub fn crowd<R: Threads + Wait + Sync>(
         &|_, t: &mut Token|
             requires { IsOf shared.now t.now }
             ensures { IsOf shared.entry.now t.exit.now }
-        { deposits(rt, shared, t, count) },
+        { deposits(rt, shared, t, count, pause) },
     );
     'joining: while let Some(other) = tokens.pop() {
         shared.join(rt, token, other);

@@ -13,5 +13,5 @@ returns-in-Some-Serial-clause-headline g c =
 pub returns-in-None-clause-says : goal.returns-in-None-clause-says
 returns-in-None-clause-says g c =
     let source_failed : Type 0 = HasRisen (g.S.Source.faults c.args.source.now) (g.S.Source.faults c.args.source.now) in
-    let sink_failed : Type 0 = HasRisen (g.K.Sink.faults c.args.sink.now) (g.K.Sink.faults c.say.new.sink) in
-    says_usage (g.S.Source.left c.args.source.now) (g.S.Source.left c.args.source.now) source_failed (g.K.Sink.taken c.args.sink.now) (g.K.Sink.taken c.say.new.sink) sink_failed (command_of c.args.words.now) c.say.result (sym c.command_of.ensures ∙ c.in-None.is) refl c.say.ensures.wrote
+    let sink_failed : Type 0 = HasRisen (g.K.Sink.faults c.args.sink.now) (g.K.Sink.faults c.finish.new.sink) in
+    says_usage (g.S.Source.left c.args.source.now) (g.S.Source.left c.args.source.now) source_failed (g.K.Sink.taken c.args.sink.now) (g.K.Sink.taken c.finish.new.sink) sink_failed (command_of c.args.words.now) c.finish.result (sym c.command_of.ensures ∙ c.in-None.is) refl c.finish.ensures.wrote

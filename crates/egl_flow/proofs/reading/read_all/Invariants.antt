@@ -1,4 +1,4 @@
-use Rattle.std.proofs.Common.{◌≤◌, ◌+◌, ◌-◌, length}
+use Rattle.std.proofs.Common.{◌≡◌, ◌≤◌, ◌+◌, ◌-◌, length}
 use Rattle.egl_flow.specs.Flow.{Gave}
 use Rattle.egl_flow.proofs.reading.read_all.Given as goal
 
@@ -6,7 +6,7 @@ abbrev pub invariant-pieces : goal.invariant-pieces
 invariant-pieces g l = record {
   read : Gave (g.S.Source.left l.fn.s) l.bytes (g.S.Source.left l.s);
   within : length l.bytes ≤ l.limit;
-  count : g.S.Source.faults l.fn.s ≤ g.S.Source.faults l.s;
+  steady : g.S.Source.faults l.s ≡ g.S.Source.faults l.fn.s;
 }
 
 abbrev pub decreases-pieces : goal.decreases-pieces

@@ -9,8 +9,9 @@ returns-in-Ok-body_of-clause-order c =
     let count : more_variables (length c.args.variables.now) body.body.assigns ≡ length c.add_target.new.variables =
     let assigned = body.ensures.count in
     let added = c.in-Ok-add_target.ensures in
-    let target = c.target_of.ensures in
+    let target = c.target.ensures in
+    let taken = c.new-body_words.ensures in
     let first = c.deref-2.ensures.value in
-    let second = c.deref-in-Ok-body_of.ensures.value in cc in
+    cc in
     rw c.in-Ok-push.ensures.items
     (before_more c.args.threads c.args.number (length c.args.variables.now) (length c.add_target.new.variables) c.args.read.now.items body.body c.requires.order body.ensures.thread body.ensures.order count)

@@ -1,6 +1,6 @@
 use Rattle.std.proofs.Common.{◌≤◌, ◌-◌, length, take}
 use Rattle.egl_flow.specs.Flow.{Took}
-use Rattle.egl_flow.proofs.writing.write_all.Given as goal
+use Rattle.egl_flow.proofs.writing.write_slice.Given as goal
 
 abbrev pub invariant-pieces : goal.invariant-pieces
 invariant-pieces g l = record {

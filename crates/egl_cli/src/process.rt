@@ -1,0 +1,34 @@
+//! The program's edge: the words of the process, standard input and standard output.
+use crate::respond::plain;
+use crate::statuses::Status;
+use egl_calls::Text;
+use egl_flow::{StdSink, StdSource};
+use std::alloc::Global;
+use std::{env, io};
+
+/// The words behind the program's own name. A word that isn't UTF-8 makes them no command.
+fn words(rt: &HostRuntime, alloc: Global) -> io::Result<Vec<Text>> {
+    let mut words = Vec::new(alloc);
+    for word in env::args(rt)?.skip(1) {
+        let text = Text::from_vec(word.into_bytes());
+        words.push(text)?;
+    }
+    Ok(words)
+}
+
+/// Does the command that the process's words name, from standard input to standard output.
+pub fn run(rt: &HostRuntime) -> Status {
+    let alloc = rt.alloc();
+    let words = match words(rt, alloc) {
+        Ok(words) => words,
+        Err(error) => {
+            if error.kind() == io::ErrorKind::OutOfMemory {
+                return Status::NoMemory;
+            }
+            Vec::new(alloc)
+        }
+    };
+    let mut source = StdSource::new(rt.stdin());
+    let mut sink = StdSink::new(rt.stdout());
+    plain(alloc, &words, &mut source, &mut sink)
+}
