@@ -9,7 +9,7 @@ use Rattle.egl_calls.specs.Calls.{CallValue}
 use Rattle.egl_calls.specs.declared.kinds.Kind.{Kind}
 use Rattle.egl_calls.specs.declared.kinds.Kind.TheVariants.{Egl}
 use Rattle.egl_calls.specs.declared.kinds.EglKind.{EglKind}
-use Rattle.egl_calls.specs.declared.kinds.EglKind.TheVariants.{Initialize, Terminate, GetConfigs, ChooseConfig, GetConfigAttrib, CreatePbufferSurface, CreateContext, MakeCurrent}
+use Rattle.egl_calls.specs.declared.kinds.EglKind.TheVariants.{CreateWindowSurface, Initialize, Terminate, GetConfigs, ChooseConfig, GetConfigAttrib, CreatePbufferSurface, CreateContext, MakeCurrent}
 use Rattle.egl_calls.specs.declared.errors.EglError.{EglError}
 use Rattle.egl_calls.specs.declared.errors.EglError.TheVariants.{BadAlloc, BadAttribute, BadConfig, BadContext, BadMatch, BadParameter}
 use Rattle.call_rules.specs.declared.egl_facts.EglFacts.{EglFacts}
@@ -194,6 +194,26 @@ unfolding wanting_rows
 pbuffer_passes c f h a =
     pbuffer_is c f h ∙ past_off (asking_rows f) (wanting_rows f) (asked_off f a.asked)
     ∙ none_on (wanting_rows f) (fit_off f a.sides, (is_limit_off f a.room, (a.handles, tt)))
+
+-- eglCreateWindowSurface goes through: the config is one of the configs, the window is declared, and nothing wants
+pub record WindowAllowed (f : EglFacts) : Type 0 where
+  pub display : f.is_display ≡ true
+  pub config : f.is_config ≡ true
+  pub window : f.is_window ≡ true
+  pub room : f.live_bytes + f.new_bytes ≤ f.video_limit
+  pub handles : f.are_handles_used_up ≡ false
+
+pub window_allowed : (c : CallValue) (f : EglFacts) → c.kind ≡ Egl CreateWindowSurface → egl_refusal c f ≡ None → WindowAllowed f
+unfolding past_limit
+window_allowed c f h n =
+    let a = rows_off c f CreateWindowSurface h n in
+    record {
+      display = not-false _ a.0;
+      config = not-false _ a.1.1.0;
+      window = not-false _ a.1.1.1.1.1.0;
+      room = limit_off f a.1.1.1.1.1.1.1.0;
+      handles = a.1.1.1.1.1.1.1.1.0;
+    }
 
 abbrev is_bad_alloc : EglError → Bool
 is_bad_alloc BadAlloc = true
@@ -405,14 +425,15 @@ no_alloc_current : (b : Bool) (c : CallValue) (f : EglFacts) → some_says is_ba
 no_alloc_current true c f = refl
 no_alloc_current false c f = refl
 
-only_two : (k : EglKind) (c : CallValue) (f : EglFacts) → first_error (egl_rows k c f) ≡ Some BadAlloc → (k ≡ CreatePbufferSurface) ⊎ (k ≡ CreateContext)
-only_two CreatePbufferSurface c f h = inl refl
-only_two CreateContext c f h = inr refl
-only_two MakeCurrent c f h = absurd (is_not_said is_bad_alloc BadAlloc (egl_rows MakeCurrent c f) refl (no_alloc_current (is_release c) c f) h)
-only_two k c f h = absurd (is_not_said is_bad_alloc BadAlloc (egl_rows k c f) refl refl h)
+only_three : (k : EglKind) (c : CallValue) (f : EglFacts) → first_error (egl_rows k c f) ≡ Some BadAlloc → (k ≡ CreatePbufferSurface) ⊎ ((k ≡ CreateWindowSurface) ⊎ (k ≡ CreateContext))
+only_three CreatePbufferSurface c f h = inl refl
+only_three CreateWindowSurface c f h = inr (inl refl)
+only_three CreateContext c f h = inr (inr refl)
+only_three MakeCurrent c f h = absurd (is_not_said is_bad_alloc BadAlloc (egl_rows MakeCurrent c f) refl (no_alloc_current (is_release c) c f) h)
+only_three k c f h = absurd (is_not_said is_bad_alloc BadAlloc (egl_rows k c f) refl refl h)
 
-pub two_want : (c : CallValue) (f : EglFacts) (k : EglKind) → c.kind ≡ Egl k → egl_refusal c f ≡ Some BadAlloc → (k ≡ CreatePbufferSurface) ⊎ (k ≡ CreateContext)
-two_want c f k h n = only_two k c f (sym (of_kind c f k h) ∙ n)
+pub three_want : (c : CallValue) (f : EglFacts) (k : EglKind) → c.kind ≡ Egl k → egl_refusal c f ≡ Some BadAlloc → (k ≡ CreatePbufferSurface) ⊎ ((k ≡ CreateWindowSurface) ⊎ (k ≡ CreateContext))
+three_want c f k h n = only_three k c f (sym (of_kind c f k h) ∙ n)
 
 -- ---- Any call, by its rows.
 pub refused_first : (c : CallValue) (f : EglFacts) (k : EglKind) (e : EglError) → c.kind ≡ Egl k → egl_refusal c f ≡ Some e → IsFirst e (egl_rows k c f)

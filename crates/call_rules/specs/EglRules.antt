@@ -7,11 +7,11 @@ use Rattle.egl_calls.specs.Calls.{CallValue}
 use Rattle.egl_calls.specs.declared.kinds.Kind.{Kind}
 use Rattle.egl_calls.specs.declared.kinds.Kind.TheVariants.{Egl}
 use Rattle.egl_calls.specs.declared.kinds.EglKind.{EglKind}
-use Rattle.egl_calls.specs.declared.kinds.EglKind.TheVariants.{GetError, GetDisplay, Initialize, Terminate, GetConfigs, ChooseConfig, GetConfigAttrib, CreatePbufferSurface, DestroySurface, QuerySurface, SurfaceAttrib, BindApi, QueryApi, CreateContext, DestroyContext, MakeCurrent, GetCurrentContext, GetCurrentSurface, GetCurrentDisplay, QueryContext, WaitClient, ReleaseThread}
+use Rattle.egl_calls.specs.declared.kinds.EglKind.TheVariants.{GetError, GetDisplay, Initialize, Terminate, GetConfigs, ChooseConfig, GetConfigAttrib, CreateWindowSurface, CreatePbufferSurface, DestroySurface, QuerySurface, SurfaceAttrib, BindApi, QueryApi, CreateContext, DestroyContext, MakeCurrent, GetCurrentContext, GetCurrentSurface, GetCurrentDisplay, QueryContext, SwapBuffers, WaitClient, ReleaseThread}
 use Rattle.egl_calls.specs.declared.errors.EglError.{EglError}
 use Rattle.egl_calls.specs.Ranges.{unsigned}
 use Rattle.egl_names.specs.declared.codes.TheConstants.{EGL_SWAP_BEHAVIOR, EGL_BUFFER_PRESERVED, EGL_BUFFER_DESTROYED, EGL_OPENGL_ES_API, EGL_DRAW, EGL_READ}
-use Rattle.egl_calls.specs.declared.errors.EglError.TheVariants.{NotInitialized, BadAccess, BadAlloc, BadAttribute, BadConfig, BadContext, BadDisplay, BadMatch, BadParameter, BadSurface}
+use Rattle.egl_calls.specs.declared.errors.EglError.TheVariants.{NotInitialized, BadAccess, BadAlloc, BadAttribute, BadConfig, BadContext, BadDisplay, BadMatch, BadNativeWindow, BadParameter, BadSurface}
 use Rattle.call_rules.specs.declared.egl_facts.EglFacts.{EglFacts}
 use Rattle.call_rules.specs.Rows.{Row, ◌⇒◌, first_error, unbuilt}
 use Rattle.call_rules.specs.Arguments.{is_zero, signed}
@@ -42,6 +42,10 @@ no_facts = record {
   is_context_elsewhere = false;
   is_surface_elsewhere = false;
   is_surface = false;
+  is_window_config = false;
+  is_window = false;
+  is_window_used = false;
+  is_drawn_to = false;
 }
 
 -- the row of a call that works on any display (section 3.2)
@@ -102,6 +106,16 @@ fact_rows GetConfigAttrib f = display_rows f ++
     (not f.is_config ⇒ BadConfig) ∷
     (not f.is_attribute ⇒ BadAttribute) ∷
     []
+-- section 3.5.1; the last three: the window has a surface, no memory for its pixels, no number for its handle
+fact_rows CreateWindowSurface f = display_rows f ++
+    (not f.is_config ⇒ BadConfig) ∷
+    (not f.is_list_allowed ⇒ BadAttribute) ∷
+    (not f.is_window_config ⇒ BadMatch) ∷
+    (not f.is_window ⇒ BadNativeWindow) ∷
+    (f.is_window_used ⇒ BadAlloc) ∷
+    (nat_lt f.video_limit (f.live_bytes + f.new_bytes) ⇒ BadAlloc) ∷
+    (f.are_handles_used_up ⇒ BadAlloc) ∷
+    []
 -- section 3.5.2; the last three: no pbuffer of this size, no memory for its pixels, no number for its handle
 fact_rows CreatePbufferSurface f = display_rows f ++
     (not f.is_config ⇒ BadConfig) ∷
@@ -136,6 +150,10 @@ fact_rows GetCurrentContext f = []
 fact_rows GetCurrentDisplay f = []
 fact_rows QueryContext f = context_rows f ++
     (not f.is_attribute ⇒ BadAttribute) ∷
+    []
+-- section 3.10.1
+fact_rows SwapBuffers f = surface_rows f ++
+    (not f.is_drawn_to ⇒ BadSurface) ∷
     []
 -- section 3.8: never refused
 fact_rows WaitClient f = []

@@ -51,6 +51,14 @@ pub struct EglFacts {
     pub is_surface_elsewhere: bool,
     /// The call's surface argument is a valid surface of the display.
     pub is_surface: bool,
+    /// eglCreateWindowSurface: the config's EGL_SURFACE_TYPE has EGL_WINDOW_BIT.
+    pub is_window_config: bool,
+    /// eglCreateWindowSurface: the window is declared.
+    pub is_window: bool,
+    /// eglCreateWindowSurface: a surface of the window exists.
+    pub is_window_used: bool,
+    /// eglSwapBuffers: the surface is the thread's draw surface.
+    pub is_drawn_to: bool,
 }
 
 impl EglFacts {
@@ -82,6 +90,10 @@ impl EglFacts {
             is_context_elsewhere: false,
             is_surface_elsewhere: false,
             is_surface: false,
+            is_window_config: false,
+            is_window: false,
+            is_window_used: false,
+            is_drawn_to: false,
         }
     }
 }

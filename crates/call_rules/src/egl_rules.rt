@@ -2,7 +2,7 @@
 ghost use Rattle.std.specs.Prelude.{◌≡◌, ◌+◌, nat_lt, true, not, ◌<◌};
 ghost use Rattle.call_rules.specs.Arguments.{is_zero};
 ghost use Rattle.egl_calls.specs.Kinds.{is_built};
-ghost use Rattle.egl_calls.specs.declared.kinds.EglKind.TheVariants.{CreatePbufferSurface, SurfaceAttrib, CreateContext, MakeCurrent};
+ghost use Rattle.egl_calls.specs.declared.kinds.EglKind.TheVariants.{CreateWindowSurface, CreatePbufferSurface, SurfaceAttrib, CreateContext, MakeCurrent};
 ghost use Rattle.egl_calls.specs.declared.errors.EglError.TheVariants.{NotInitialized, BadSurface, BadContext};
 ghost use Rattle.call_rules.specs.Rows.{first_error, ◌⇒◌};
 ghost use Rattle.call_rules.specs.EglRules.{egl_refusal, egl_rows, fact_rows, display_row, current_rows, has_code, is_wrong, is_long, is_later_version, is_supported_version};
@@ -88,6 +88,26 @@ fn no_context(facts: &EglFacts) -> (bool, EglError)
     ensures { result ≡ (not facts.now.is_context ⇒ BadContext) }
 {
     (!facts.is_context, EglError::BadContext)
+}
+
+/// Section 3.5.1.
+fn create_window_surface(facts: &EglFacts) -> Option<EglError>
+    ensures { result ≡ first_error (fact_rows CreateWindowSurface facts.now) }
+{
+    first_error(&[
+        no_display(facts),
+        uninitialized(facts),
+        (!facts.is_config, EglError::BadConfig),
+        (!facts.is_list_allowed, EglError::BadAttribute),
+        (!facts.is_window_config, EglError::BadMatch),
+        (!facts.is_window, EglError::BadNativeWindow),
+        (facts.is_window_used, EglError::BadAlloc),
+        (
+            exceeds(facts.video_limit, facts.live_bytes, facts.new_bytes),
+            EglError::BadAlloc,
+        ),
+        (facts.are_handles_used_up, EglError::BadAlloc),
+    ])
 }
 
 /// Section 3.5.2.
@@ -200,6 +220,7 @@ pub fn egl_refusal(call: &Call, facts: &EglFacts) -> Option<EglError>
             (!facts.is_config, EglError::BadConfig),
             (!facts.is_attribute, EglError::BadAttribute),
         ]),
+        Kind::Egl(EglKind::CreateWindowSurface) => create_window_surface(facts),
         Kind::Egl(EglKind::CreatePbufferSurface) => create_pbuffer_surface(facts),
         Kind::Egl(EglKind::DestroySurface) => {
             first_error(&[no_display(facts), uninitialized(facts), no_surface(facts)])
@@ -232,6 +253,12 @@ pub fn egl_refusal(call: &Call, facts: &EglFacts) -> Option<EglError>
             uninitialized(facts),
             no_context(facts),
             (!facts.is_attribute, EglError::BadAttribute),
+        ]),
+        Kind::Egl(EglKind::SwapBuffers) => first_error(&[
+            no_display(facts),
+            uninitialized(facts),
+            no_surface(facts),
+            (!facts.is_drawn_to, EglError::BadSurface),
         ]),
         Kind::Egl(EglKind::WaitClient) => None,
         Kind::Egl(EglKind::ReleaseThread) => None,

@@ -3,7 +3,7 @@ ghost use Rattle.std.specs.Prelude.{◌≡◌, ◌↔◌, ◌⊎◌, true, false
 ghost use Rattle.egl_calls.specs.Calls.{CallValue};
 ghost use Rattle.egl_calls.specs.declared.kinds.Kind.TheVariants.{Egl, Gl};
 ghost use Rattle.egl_calls.specs.declared.kinds.EglKind.{EglKind as Kinds};
-ghost use Rattle.egl_calls.specs.declared.kinds.EglKind.TheVariants.{Initialize, Terminate, GetConfigs, ChooseConfig, GetConfigAttrib, CreatePbufferSurface, CreateContext, MakeCurrent};
+ghost use Rattle.egl_calls.specs.declared.kinds.EglKind.TheVariants.{Initialize, Terminate, GetConfigs, ChooseConfig, GetConfigAttrib, CreatePbufferSurface, CreateContext, MakeCurrent, CreateWindowSurface};
 ghost use Rattle.egl_calls.specs.declared.kinds.GlKind.{GlKind as GlKinds};
 ghost use Rattle.egl_calls.specs.declared.kinds.GlKind.TheVariants.{Clear, ReadPixels};
 ghost use Rattle.egl_calls.specs.declared.errors.EglError.{EglError as AnEglError};
@@ -63,8 +63,8 @@ pub fn context_wants_handles()
 {}
 
 /// No other call answers EGL_BAD_ALLOC.
-pub fn two_calls_want()
-    ensures { (c : CallValue) (f : Facts) (k : Kinds) → c.kind ≡ Egl k → egl_refusal c f ≡ Some BadAlloc → (k ≡ CreatePbufferSurface) ⊎ (k ≡ CreateContext) }
+pub fn three_calls_want()
+    ensures { (c : CallValue) (f : Facts) (k : Kinds) → c.kind ≡ Egl k → egl_refusal c f ≡ Some BadAlloc → (k ≡ CreatePbufferSurface) ⊎ ((k ≡ CreateWindowSurface) ⊎ (k ≡ CreateContext)) }
 {}
 
 /// eglMakeCurrent with 0 three times asks for a display alone; else it goes through exactly where all three fit and are free (section 3.7.3).

@@ -32,6 +32,10 @@ const VALID: EglFacts = EglFacts {
     is_context_elsewhere: false,
     is_surface_elsewhere: false,
     is_surface: true,
+    is_window_config: true,
+    is_window: true,
+    is_window_used: false,
+    is_drawn_to: true,
 };
 
 /// What differs from those facts.
@@ -57,12 +61,16 @@ enum But {
     Incompatible,
     ContextElsewhere,
     SurfaceElsewhere,
+    NoWindowConfig,
+    NoWindow,
+    WindowUsed,
+    NotDrawnTo,
 }
 
 use But::{
     BadList, ContextElsewhere, Height, Incompatible, Largest, LastHandle, NewBytes, NoAttribute,
-    NoConfig, NoContext, NoDisplay, NoDraw, NoRead, NoShare, NoSurface, NotInitialized,
-    ShareElsewhere, SurfaceElsewhere, Version, Width,
+    NoConfig, NoContext, NoDisplay, NoDraw, NoRead, NoShare, NoSurface, NoWindow, NoWindowConfig,
+    NotDrawnTo, NotInitialized, ShareElsewhere, SurfaceElsewhere, Version, Width, WindowUsed,
 };
 
 fn change(facts: &mut EglFacts, but: But) {
@@ -90,6 +98,10 @@ fn change(facts: &mut EglFacts, but: But) {
         Incompatible => facts.is_compatible = false,
         ContextElsewhere => facts.is_context_elsewhere = true,
         SurfaceElsewhere => facts.is_surface_elsewhere = true,
+        NoWindowConfig => facts.is_window_config = false,
+        NoWindow => facts.is_window = false,
+        WindowUsed => facts.is_window_used = true,
+        NotDrawnTo => facts.is_drawn_to = false,
     }
 }
 
@@ -131,6 +143,29 @@ static GET_CONFIG_ATTRIB: [EglRow; 6] = [
     (&[NoConfig], Some(EglError::BadConfig)),
     (&[NoConfig, NoAttribute], Some(EglError::BadConfig)),
     (&[NoAttribute], Some(EglError::BadAttribute)),
+];
+
+static CREATE_WINDOW: [EglRow; 12] = [
+    (&[Width(-1), NoAttribute], None),
+    (&[NoDisplay, NotInitialized], Some(EglError::BadDisplay)),
+    (&[NotInitialized, NoConfig], Some(EglError::NotInitialized)),
+    (&[NoConfig, BadList], Some(EglError::BadConfig)),
+    (&[BadList, NoWindowConfig], Some(EglError::BadAttribute)),
+    (&[NoWindowConfig, NoWindow], Some(EglError::BadMatch)),
+    (&[NoWindow, WindowUsed], Some(EglError::BadNativeWindow)),
+    (&[NoWindow, NewBytes(33)], Some(EglError::BadNativeWindow)),
+    (&[NoWindow, LastHandle], Some(EglError::BadNativeWindow)),
+    (&[WindowUsed], Some(EglError::BadAlloc)),
+    (&[NewBytes(33)], Some(EglError::BadAlloc)),
+    (&[LastHandle], Some(EglError::BadAlloc)),
+];
+
+static SWAP_BUFFERS: [EglRow; 5] = [
+    (&[WindowUsed, NoWindow, LastHandle], None),
+    (&[NoDisplay, NotInitialized], Some(EglError::BadDisplay)),
+    (&[NotInitialized, NoSurface], Some(EglError::NotInitialized)),
+    (&[NoSurface], Some(EglError::BadSurface)),
+    (&[NotDrawnTo], Some(EglError::BadSurface)),
 ];
 
 static CREATE_PBUFFER: [EglRow; 22] = [
@@ -314,13 +349,14 @@ fn expect_egl(rt: &impl Abort, call: &Call, rows: &[EglRow]) {
 #[test]
 fn first_egl_error_is_answered(rt: HostRuntime) {
     let alloc = rt.alloc();
-    let table: [(EglKind, [i32; 4], &[EglRow]); 23] = [
+    let table: [(EglKind, [i32; 4], &[EglRow]); 25] = [
         (EglKind::GetError, [0; 4], &NO_ROW),
         (EglKind::Initialize, [1, 0, 0, 0], &ANY_DISPLAY),
         (EglKind::Terminate, [1, 0, 0, 0], &ANY_DISPLAY),
         (EglKind::GetConfigs, [1, 1, 8, 0], &GET_CONFIGS),
         (EglKind::ChooseConfig, [1, 8, 0, 0], &CHOOSE_CONFIG),
         (EglKind::GetConfigAttrib, [1, 1, 0, 0], &GET_CONFIG_ATTRIB),
+        (EglKind::CreateWindowSurface, [1, 1, 1, 0], &CREATE_WINDOW),
         (EglKind::CreatePbufferSurface, [1, 1, 0, 0], &CREATE_PBUFFER),
         (EglKind::CreateContext, [1, 1, 0, 0], &CREATE_CONTEXT),
         (EglKind::MakeCurrent, [1, 3, 3, 4], &MAKE_CURRENT),
@@ -336,6 +372,7 @@ fn first_egl_error_is_answered(rt: HostRuntime) {
         (EglKind::QueryContext, [1, 4, 0, 0], &QUERY_CONTEXT),
         (EglKind::QueryApi, [0; 4], &NO_ROW),
         (EglKind::GetCurrentDisplay, [0; 4], &NO_ROW),
+        (EglKind::SwapBuffers, [1, 3, 0, 0], &SWAP_BUFFERS),
         (EglKind::WaitClient, [0; 4], &NO_ROW),
         (EglKind::ReleaseThread, [0; 4], &NO_ROW),
     ];

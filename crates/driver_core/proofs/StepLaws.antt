@@ -1,6 +1,6 @@
 -- A step whose effect is tidied already.
 use Rattle.std.proofs.Common.{◌≡◌, ℕ, zero, suc, true, false, List, [], ◌∷◌, map, get_or, is_some, refl, ap, ◌∙◌, Option, None, Some}
-use Rattle.egl_calls.specs.declared.kinds.OwnKind.TheVariants.{Census}
+use Rattle.egl_calls.specs.declared.kinds.OwnKind.TheVariants.{Census, ReadFront}
 use Rattle.egl_calls.specs.Calls.{CallValue}
 use Rattle.egl_calls.specs.Kinds.{is_built}
 use Rattle.egl_calls.specs.declared.kinds.Kind.{Kind}
@@ -54,6 +54,7 @@ gl_done_as s t n k c i r e = gl_done s t n k c i r ∙ ap (λ x. let z : Stepped
 
 is_own_end : (k : Kind) → is_built k ≡ true → is_wait_end k ≡ false
 is_own_end (Own Census) h = refl
+is_own_end (Own ReadFront) h = refl
 is_own_end (Own k) h = absurd (let e : false ≡ true = h in cc)
 is_own_end k h = refl
 

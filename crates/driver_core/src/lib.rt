@@ -19,6 +19,7 @@ mod replies;
 mod stepping;
 mod surfaces;
 mod threads;
+mod windows;
 
 pub use machine::{Driver, Run};
 pub use parts::a_part_fits_after_local_calls;

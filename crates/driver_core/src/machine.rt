@@ -1,5 +1,8 @@
 //! The driver and what it stands for.
-ghost use Rattle.std.specs.Prelude.{◌≡◌, ◌≢◌, AllPairs, ◌+◌, ◌<◌, ◌≤◌, ◌∷◌, ◌++◌, [], true, false, Bool, Some, IsSome, find, IfOk, OnErr, OnOk};
+ghost use Rattle.std.specs.Prelude.{◌≡◌, ◌≢◌, AllPairs, ◌+◌, ◌<◌, ◌≤◌, ◌∷◌, ◌++◌, [], true, false, Bool, Some, IsSome, find, IfOk, OnErr, OnOk, option_copied};
+ghost use Rattle.egl_calls.specs.Ranges.{unsigned};
+ghost use Rattle.surface_store.specs.Windows.{windows_ok};
+ghost use Rattle.egl_model.specs.Windows.{front_of};
 ghost use Rattle.egl_model.specs.State.{opening, set_error, record_of, object_at};
 ghost use Rattle.display_table.specs.declared.handles.Handle.{Handle};
 ghost use Rattle.egl_model.specs.Sweep.{census, roots, settled, sweep, tidied};
@@ -9,18 +12,21 @@ ghost use Rattle.driver_core.specs.Machine.{Machine};
 
 use crate::threads::ThreadTable;
 use display_table::Displays;
-use egl_calls::{EglError, Journal, NoMemory};
+use egl_calls::{EglError, Journal, NoMemory, unsigned};
 use egl_model::ThreadRecord;
 use object_table::ObjectTable;
+use pixel_rows::Image;
 use std::alloc::Global;
 use std::marker::Model;
+use surface_store::{Window, WindowSpec, WindowTable};
 
-/// An EGL driver: two displays with their handles, the objects, and what is kept for each of its threads. It is made with thread 0.
+/// An EGL driver: two displays with their handles, the objects, the windows with their fronts, and what is kept for each of its threads. It is made with thread 0.
 #[derive(Drop)]
 pub struct Driver {
     pub(crate) displays: Displays,
     pub(crate) objects: ObjectTable,
     pub(crate) threads: ThreadTable,
+    pub(crate) windows: WindowTable,
     pub(crate) video: u64,
 }
 
@@ -29,7 +35,7 @@ impl Model for Driver {
 
     ghost Value = { Machine };
 
-    ghost view = { λ d. record { made = d.threads.made; state = state_of d.displays d.objects.objects d.threads.records d.video; away = d.threads.away } };
+    ghost view = { λ d. record { made = d.threads.made; state = state_of d.displays d.objects.objects d.threads.records d.windows d.video; away = d.threads.away } };
 
     ghost invariant = { λ d. KnowsRoots d.displays d.objects d.threads.records };
 }
@@ -42,10 +48,11 @@ pub struct Run {
 }
 
 impl Driver {
-    /// A driver with thread 0, and room for `video` bytes of pixels and buffers.
-    pub fn new(alloc: Global, video: u64) -> Result<Driver, NoMemory>
-        requires { video ≤ 1073741824 }
-        ensures state { IfOk result (λ d. d.state ≡ opening video) }
+    /// A driver with thread 0, the windows that are declared, each with a front that is all 0, and room for `video` bytes of pixels and buffers.
+    pub fn new(alloc: Global, windows: &[WindowSpec], video: u64) -> Result<Driver, NoMemory>
+        requires windows { windows_ok windows.now ≡ true }
+        requires video { video ≤ 1073741824 }
+        ensures state { IfOk result (λ d. d.state ≡ opening windows.now video) }
         ensures made { IfOk result (λ d. d.made ≡ 1) }
         ensures away { IfOk result (λ d. d.away ≡ false ∷ []) }
     {
@@ -53,6 +60,7 @@ impl Driver {
             displays: Displays::new(alloc),
             objects: ObjectTable::new(alloc),
             threads: ThreadTable::new(alloc)?,
+            windows: WindowTable::new(alloc, windows)?,
             video,
         })
     }
@@ -82,6 +90,20 @@ impl Driver {
         ensures { result ≡ census self.now.state }
     {
         self.objects.census()
+    }
+
+    /// The windows in the order in which they were declared, each with the pixels that it shows.
+    pub fn windows(&self) -> &[Window]
+        ensures { result.now ≡ self.now.state.windows }
+    {
+        self.windows.as_slice()
+    }
+
+    /// The pixels that the window of an id shows; none where no such window is declared.
+    pub fn front(&self, window: i64) -> Option<&Image>
+        ensures { option_copied result ≡ front_of (unsigned window) self.now.state }
+    {
+        self.windows.front(unsigned(window))
     }
 
     /// How many references lead to an object: from objects, valid handles and threads.

@@ -6,7 +6,7 @@ ghost use Rattle.egl_calls.specs.declared.kinds.Kind.TheVariants.{Own as OwnCall
 ghost use Rattle.egl_model.specs.Step.{own_step};
 
 use crate::machine::Driver;
-use crate::replies::answered;
+use crate::replies::{answered, read};
 use egl_calls::{Call, NoMemory, Numbers, OwnKind, ReplyPair};
 use std::alloc::Global;
 
@@ -39,6 +39,7 @@ impl Driver {
         ensures state { (own_step self.now.state thread kind call.now).state ≡ self.now.state }
     {
         match kind {
+            OwnKind::ReadFront => read(alloc, self.read_front(alloc, call)?),
             OwnKind::Census => answered(alloc, 0, numbers_of(alloc, &self.census())?),
             _ => unreachable!(),
         }

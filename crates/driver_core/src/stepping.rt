@@ -79,6 +79,7 @@ impl Driver {
             EglKind::GetConfigs => listed(alloc, Configs::standard().all(alloc)?),
             EglKind::ChooseConfig => listed(alloc, chosen(alloc, call)?),
             EglKind::GetConfigAttrib => Ok(valued(alloc, attribute_value(call))),
+            EglKind::CreateWindowSurface => Ok(valued(alloc, self.create_window(alloc, call)?)),
             EglKind::CreatePbufferSurface => Ok(valued(alloc, self.create_pbuffer(alloc, call)?)),
             EglKind::QuerySurface => Ok(valued(alloc, self.surface_value(call).unwrap_or(0))),
             EglKind::SurfaceAttrib => {
@@ -92,6 +93,10 @@ impl Driver {
             EglKind::GetCurrentSurface => Ok(valued(alloc, self.surface_number(thread, call))),
             EglKind::GetCurrentDisplay => Ok(valued(alloc, self.current_display(thread))),
             EglKind::QueryContext => Ok(valued(alloc, self.context_value(call).unwrap_or(0))),
+            EglKind::SwapBuffers => {
+                self.swap(thread)?;
+                Ok(valued(alloc, 1))
+            }
             EglKind::WaitClient => Ok(valued(alloc, 1)),
             _ => unreachable!(),
         }

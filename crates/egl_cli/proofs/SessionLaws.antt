@@ -1,6 +1,6 @@
 -- Playing the lines of a trace with the variables' values at hand.
 use Rattle.std.proofs.Common.{◌≡◌, ◌≢◌, ℕ, zero, suc, ◌+◌, ◌<◌, ◌≤◌, Bool, true, false, not, ◌&&◌, ℤ, pos, List, [], ◌∷◌, ◌++◌, length, take, drop, set, get_or, add-one, refl, sym, ap, ◌∙◌, arith, subst, Option, None, Some, inl, inr, length-append}
-use Rattle.egl_calls.specs.declared.kinds.OwnKind.TheVariants.{Census}
+use Rattle.egl_calls.specs.declared.kinds.OwnKind.TheVariants.{Census, ReadFront}
 use Rattle.std.proofs.lemmas.Bool.{eq-eqb, cases_lt, cond-true, cond-false}
 use Rattle.std.proofs.lemmas.Bool.Decides.{nat_tests}
 use Rattle.std.proofs.lemmas.List.{append-nil, take_more, take-append-drop, get_or_append_left}
@@ -67,12 +67,14 @@ unfolding egl_step gl_step
 step_goes_on s t (Egl k) c h = after_egl_goes_on s t (egl_refusal s t k c) (egl_effect s t k c) (egl_goes_on s t k c)
 step_goes_on s t (Gl k) c h = gl_on_goes_on s t (current_context s t) k c
 step_goes_on s t (Own Census) c h = refl
+step_goes_on s t (Own ReadFront) c h = refl
 step_goes_on s t (Own k) c h = absurd (let f : false ≡ true = h in cc)
 
 ends_no_wait : (k : Kind) → is_built k ≡ true → is_wait_end k ≡ false
 ends_no_wait (Egl k) h = refl
 ends_no_wait (Gl k) h = refl
 ends_no_wait (Own Census) h = refl
+ends_no_wait (Own ReadFront) h = refl
 ends_no_wait (Own k) h = absurd (let f : false ≡ true = h in cc)
 
 in_goes_on : (s : State) (t : ℕ) (w : Option ℕ) (c : CallValue) → is_built c.kind ≡ true → is_waiting (step_in w s t c).reply.outcome ≡ false

@@ -82,7 +82,7 @@ IsUnread (Some Configs) left rest faults_before faults = (rest ≡ left) × (fau
 -- the bytes spell a trace, and what was written is the recording of a journal with an entry for each line, once, in order, each with the reply that the one-thread specification gives there
 abbrev pub IsRecorded : List ℕ → Option (List ℕ) → Option (List ℕ) → Type 0
 IsRecorded b before after =
-    (t : TraceValue) × (trace b ≡ Spelt t) × ((journal : List Entry) × IsLegalFrom (opening t.video) journal × Follows t journal × Took before (recording t journal) after)
+    (t : TraceValue) × (trace b ≡ Spelt t) × ((journal : List Entry) × IsLegalFrom (opening t.windows t.video) journal × Follows t journal × Took before (recording t journal) after)
 
 -- what status Ok is worth, by the command: of `serial` a legal journal that follows the trace, of `configs` the table
 abbrev pub IsHeadline : Option Command → Option (List ℕ) → Option (List ℕ) → Option (List ℕ) → Option (List ℕ) → Type 0

@@ -123,9 +123,9 @@ fn play_lines(
 /// Plays a trace: its serial journal, and the driver behind it.
 pub fn run_serial(alloc: Global, trace: &Trace) -> Result<Run, NoMemory>
     ensures journal { IfOk result (λ r. r.journal.entries ≡ serial trace.now) }
-    ensures driver { IfOk result (λ r. r.driver.state ≡ replay_from (opening trace.now.video) r.journal.entries) }
+    ensures driver { IfOk result (λ r. r.driver.state ≡ replay_from (opening trace.now.windows trace.now.video) r.journal.entries) }
 {
-    let mut driver = Driver::new(alloc, trace.video())?;
+    let mut driver = Driver::new(alloc, trace.windows(), trace.video())?;
     let mut journal = Journal::new(alloc);
     play_lines(alloc, &mut driver, &mut journal, trace.lines())?;
     Ok(Run { journal, driver })

@@ -1,5 +1,6 @@
 //! Pieces of text behind bytes.
 ghost use Rattle.std.specs.Prelude.{◌≡◌, ◌++◌, decimal, OnOk};
+ghost use Rattle.std.specs.Fmt.{signed_decimal};
 ghost use Rattle.trace_model.specs.Recording.{number_text};
 
 use egl_calls::{Bytes, NoMemory};
@@ -18,6 +19,12 @@ pub fn put_decimal(out: &mut Bytes, n: u64) -> Result<(), NoMemory>
     put_text(out, Buffer::new().format(n))
 }
 
+pub fn put_signed(out: &mut Bytes, z: i64) -> Result<(), NoMemory>
+    ensures { OnOk result (out.new ≡ out.old ++ signed_decimal z) }
+{
+    put_text(out, Buffer::new().format(z))
+}
+
 /// A number that is a name's code by that name, another in decimal.
 #[tactic(auto, unfolding(trace_model::specs::Recording::number_text))]
 pub fn put_number(out: &mut Bytes, z: i64) -> Result<(), NoMemory>
@@ -25,6 +32,6 @@ pub fn put_number(out: &mut Bytes, z: i64) -> Result<(), NoMemory>
 {
     match name_of(z) {
         Some(name) => put_text(out, name),
-        None => put_text(out, Buffer::new().format(z)),
+        None => put_signed(out, z),
     }
 }

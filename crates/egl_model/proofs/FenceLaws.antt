@@ -1,11 +1,13 @@
 -- Fences are signalled where their contexts go.
-use Rattle.std.proofs.Common.{◌≡◌, ℕ, false, cond, not, ◌||◌, List, refl, sym, ap, subst, ◌∙◌, get_or, is_some, Option, None, Some}
+use Rattle.std.proofs.Common.{true, ◌≡◌, ℕ, false, cond, not, ◌||◌, List, refl, sym, ap, subst, ◌∙◌, get_or, is_some, Option, None, Some}
 use Rattle.std.proofs.Math.ListN.{get_or-map}
 use Rattle.egl_calls.specs.declared.entries.Entry.{Entry}
 use Rattle.driver_objects.specs.declared.fences.Fence.{Fence}
 use Rattle.driver_objects.specs.declared.kinds.ObjectKind.TheVariants.{Context as a_context}
 use Rattle.driver_objects.specs.declared.objects.Object.{Object}
 use Rattle.driver_objects.specs.declared.objects.Object.TheVariants.{Context, Group, Texture, Surface, Storage, Sync}
+use Rattle.surface_store.specs.Windows.{windows_ok}
+use Rattle.surface_store.specs.declared.windows.WindowSpec.{WindowSpec}
 use Rattle.egl_model.specs.State.{State, object_at, opening}
 use Rattle.egl_model.specs.History.{replay_from}
 use Rattle.egl_model.specs.Kinds.{IsA}
@@ -53,8 +55,8 @@ watched (Some (Surface y)) x e u = absurd (let f : None ≡ Some x = e in cc)
 watched (Some (Storage y)) x e u = absurd (let f : None ≡ Some x = e in cc)
 
 -- an unsignalled fence's context exists
-pub watched-history : (video : ℕ) (es : List Entry) (n : ℕ) (x : Fence) → fence_in (replay_from (opening video) es).objects n ≡ Some x → x.signalled ≡ false → IsA a_context (replay_from (opening video) es) x.context
-watched-history video es n x e u =
-    let s = replay_from (opening video) es in
-    let g : Goes (shapes s.objects) a_context (Some x.context) = subst (Goes (shapes s.objects) a_context) (watched (object_at s n) x e u) ((sound-history video es).whole.watches.each n) in
+pub watched-history : (windows : List WindowSpec) → windows_ok windows ≡ true → (video : ℕ) (es : List Entry) (n : ℕ) (x : Fence) → fence_in (replay_from (opening windows video) es).objects n ≡ Some x → x.signalled ≡ false → IsA a_context (replay_from (opening windows video) es) x.context
+watched-history windows ok video es n x e u =
+    let s = replay_from (opening windows video) es in
+    let g : Goes (shapes s.objects) a_context (Some x.context) = subst (Goes (shapes s.objects) a_context) (watched (object_at s n) x e u) ((sound-history windows ok video es).whole.watches.each n) in
     sym (kind_at-shapes s.objects x.context) ∙ g.is

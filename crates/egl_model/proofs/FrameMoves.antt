@@ -17,7 +17,7 @@ use Rattle.egl_model.specs.Objects.{change}
 use Rattle.egl_model.specs.Laws.{HandlesAreNew, IsKnownOrNew, ObjectsAreNew, has_object, StayValid}
 use Rattle.egl_model.specs.Shapes.{Shape, shape_in}
 use Rattle.egl_model.specs.Sweep.{bytes_in, edges_at, live_bytes, swept, sweep}
-use Rattle.egl_model.proofs.Moves.{extent, extent_of, joined, Await, Each, Body, Resize, Add, AllHold, Bind, Change, Flags, Holds, Keep, Move, Name, Note, apply, bytes_made, play}
+use Rattle.egl_model.proofs.Moves.{extent, extent_of, joined, Await, Each, Body, Resize, Add, AllHold, Bind, Change, Flags, Holds, Keep, Move, Name, Note, Post, apply, bytes_made, play}
 use Rattle.egl_model.proofs.Places.{at_map, length-map', at_old, below, same_at_set}
 use Rattle.egl_model.proofs.SweepLaws.{left_as_it_was, length-swept, object_at-swept}
 
@@ -166,6 +166,7 @@ frame-change t n f s h = record {
 }
 
 pub frame-apply : (t : ℕ) (m : Move) (s : State) → Holds m → Frame (extent_of m) t s (apply t m s)
+frame-apply t (Post id i) s h = record { flags = λ q. (refl, refl); next = omega arith; others = λ u ne. refl; count = refl; handles = handles_stay s _ refl refl; kept = λ q h c. c; objects = objects_same s _ refl; video = refl }
 frame-apply t (Flags a b) s h = record { flags = λ q. absurd (let f : true ≡ false = q in cc); next = omega arith; others = λ u ne. refl; count = refl; handles = handles_stay s _ refl refl; kept = λ q h c. c; objects = objects_same s _ refl; video = refl }
 frame-apply t (Note e) s h = record {
   flags = λ q. (refl, refl);
@@ -272,6 +273,7 @@ bytes-add xs ys = sum_by-append bytes_in xs ys
 pub bytes-play : (t : ℕ) (ms : List Move) (s : State) → AllHold ms → live_bytes (play t ms s).objects ≤ live_bytes s.objects + bytes_made ms
 bytes-play t [] s h = omega arith
 bytes-play t (Flags a b ∷ ms) s h = bytes-play t ms (apply t (Flags a b) s) h.1
+bytes-play t (Post id i ∷ ms) s h = bytes-play t ms (apply t (Post id i) s) h.1
 bytes-play t (Note e ∷ ms) s h = bytes-play t ms (apply t (Note e) s) h.1
 bytes-play t (Await x ∷ ms) s h = bytes-play t ms (apply t (Await x) s) h.1
 bytes-play t (Each f ∷ ms) s h = let a = bytes-play t ms (apply t (Each f) s) h.1 in let b = bytes-each f (λ o. ap (λ (b : Body). b.bytes) (h.0 o)) s.objects in omega (arith, a, b)

@@ -12,6 +12,8 @@ use Rattle.display_table.specs.declared.handles.Handle.{Handle}
 use Rattle.egl_model.specs.declared.records.Bound.{Bound}
 use Rattle.egl_model.specs.declared.records.ThreadRecord.{ThreadRecord}
 use Rattle.egl_model.specs.Graph.{is_in, marked}
+use Rattle.surface_store.specs.Windows.{windows_ok}
+use Rattle.surface_store.specs.declared.windows.WindowSpec.{WindowSpec}
 use Rattle.egl_model.specs.State.{State, initial, opening, record_of}
 use Rattle.egl_model.specs.Objects.{as_context, as_surface}
 use Rattle.egl_model.specs.Sweep.{bound_object, edges_at, edges_in, held_by, is_reached, roots}
@@ -117,6 +119,6 @@ holder s l n h = elim (root_or_next s n (l.each n h)) [
   | inr e ↦ inr (inr (e.0, used_by (get_or s.objects e.0 None) n e.1))
 ]
 
-pub holder-replay : (video : ℕ) (entries : List Entry) (n : ℕ) → Exists (replay_from (opening video) entries) n →
-    IsHandled (replay_from (opening video) entries) n ⊎ (IsHeldByThread (replay_from (opening video) entries) n ⊎ IsUsed (replay_from (opening video) entries) n)
-holder-replay video entries n h = holder (replay_from (opening video) entries) (no_litter-replay (opening video) entries (no_litter-opening video)) n h
+pub holder-replay : (windows : List WindowSpec) → windows_ok windows ≡ true → (video : ℕ) (entries : List Entry) (n : ℕ) → Exists (replay_from (opening windows video) entries) n →
+    IsHandled (replay_from (opening windows video) entries) n ⊎ (IsHeldByThread (replay_from (opening windows video) entries) n ⊎ IsUsed (replay_from (opening windows video) entries) n)
+holder-replay windows ok video entries n h = holder (replay_from (opening windows video) entries) (no_litter-replay (opening windows video) entries (no_litter-opening windows ok video)) n h

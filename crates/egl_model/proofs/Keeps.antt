@@ -135,6 +135,10 @@ acts_within e t s f x = record { moved = moved_within e t s f x.moved; full = x.
 pub by_moves : (t : ℕ) (s : State) (ms : List Move) → AllSet ms → (PixelsFit s → live_bytes s.objects + bytes_made ms ≤ s.video) → AllFit t (shapes s.objects) s ms → Acts (extent ms) t s (play t ms)
 by_moves t s ms h p f = record { moved = moved_by t s ms (holds_of ms h) p f; full = full-play t ms s h }
 
+-- a row whose new objects are whole where the state is
+pub by_full_moves : (t : ℕ) (s : State) (ms : List Move) → AllHold ms → (IsFull s → AllSet ms) → (PixelsFit s → live_bytes s.objects + bytes_made ms ≤ s.video) → AllFit t (shapes s.objects) s ms → Acts (extent ms) t s (play t ms)
+by_full_moves t s ms a h p f = record { moved = moved_by t s ms a p f; full = λ u. full-play t ms s (h u) u }
+
 -- a row that makes no pixels
 pub by_quiet_moves : (t : ℕ) (s : State) (ms : List Move) → bytes_made ms ≡ 0 → AllSet ms → AllFit t (shapes s.objects) s ms → Acts (extent ms) t s (play t ms)
 by_quiet_moves t s ms e h f = by_moves t s ms h (λ p. omega (arith, e, p)) f

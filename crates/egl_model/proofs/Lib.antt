@@ -36,6 +36,7 @@ pub mod GlCalls
 pub mod Named
 pub mod NewObjects
 pub mod EglCalls
+pub mod WindowCalls
 pub mod StepKeeps
 pub mod PutWhole
 pub mod StepPut

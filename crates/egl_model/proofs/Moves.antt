@@ -5,6 +5,7 @@ use Rattle.egl_calls.specs.declared.errors.EglError.{EglError}
 use Rattle.driver_objects.specs.declared.kinds.ObjectKind.TheVariants.{Context, Surface, Sync as a_sync}
 use Rattle.context_state.specs.Parts.{PartValue}
 use Rattle.pixel_rows.specs.Images.{ImageValue}
+use Rattle.surface_store.specs.WindowTables.{swapped_windows}
 use Rattle.driver_objects.specs.declared.objects.Object.{Object}
 use Rattle.egl_model.specs.Slots.{own_of, slot}
 use Rattle.display_table.specs.declared.handles.Handle.{Handle}
@@ -28,6 +29,8 @@ use Rattle.egl_model.specs.Sweep.{bytes_in, live_bytes}
 pub data Move : Type 0 where
   -- the flags of the displays
   Flags : Bool → Bool → Move
+  -- an image posted to the window of an id, where that has its sides
+  Post : ℕ → ImageValue → Move
   -- the thread's error, and its context, draw surface and read surface
   Note : EglError → Move
   Bind : Option Bound → Option Bound → Option Bound → Move
@@ -46,6 +49,7 @@ pub data Move : Type 0 where
 
 abbrev pub apply : ℕ → Move → State → State
 apply t (Flags a b) s = record s { first = a; second = b }
+apply t (Post id i) s = record s { windows = swapped_windows id i s.windows }
 apply t (Note e) s = set_error s t e
 apply t (Bind c d r) s = bind s t c d r
 apply t (Await x) s = waiting s t x

@@ -1,5 +1,5 @@
 -- A new handle names a new object of its kind.
-use Rattle.std.proofs.Common.{◌≡◌, ◌≢◌, ℕ, ℤ, true, List, [], ◌∷◌, ◌++◌, refl, sym, ap, ◌∙◌, subst, arith, inl, inr, length, Bool, false, cond, Option, None, Some, get_or, map}
+use Rattle.std.proofs.Common.{◌≡◌, ◌≢◌, ℕ, true, List, [], ◌∷◌, ◌++◌, refl, sym, ap, ◌∙◌, subst, arith, inl, inr, length, Bool, false, cond, Option, None, Some, get_or, map}
 use Rattle.std.proofs.Math.ListN.{get_or-map}
 use Rattle.driver_objects.specs.declared.objects.Object.TheVariants.{Sync}
 use Rattle.std.specs.Prelude.{pos}
@@ -9,7 +9,7 @@ use Rattle.egl_calls.specs.Calls.{CallValue}
 use Rattle.egl_calls.specs.declared.kinds.Kind.{Kind}
 use Rattle.egl_calls.specs.declared.kinds.Kind.TheVariants.{Egl, Gl, Own}
 use Rattle.egl_calls.specs.declared.kinds.EglKind.{EglKind}
-use Rattle.egl_calls.specs.declared.kinds.EglKind.TheVariants.{CreatePbufferSurface, CreateContext}
+use Rattle.egl_calls.specs.declared.kinds.EglKind.TheVariants.{CreateWindowSurface, CreatePbufferSurface, CreateContext}
 use Rattle.egl_calls.specs.declared.errors.EglError.{EglError}
 use Rattle.egl_calls.specs.declared.errors.EglError.TheVariants.{Success}
 use Rattle.egl_calls.specs.declared.errors.Outcome.TheVariants.{Done, Waiting}
@@ -24,6 +24,7 @@ use Rattle.egl_model.specs.State.{State, object_at, record_of, set_error}
 use Rattle.egl_model.specs.Arguments.{number}
 use Rattle.egl_model.specs.Handles.{with_handle}
 use Rattle.egl_model.specs.Surfaces.{asked_height, asked_width, asks_for_largest, pbuffer_objects, side_of}
+use Rattle.egl_model.specs.Windows.{asks_for_single, named_place, named_spec, window_objects}
 use Rattle.egl_model.specs.Contexts.{context_objects, shared_group}
 use Rattle.egl_model.specs.Sweep.{edges_at, is_reached, roots, settle, settled, sweep, tidied}
 use Rattle.egl_model.specs.Effects.{Effect}
@@ -86,6 +87,12 @@ pbuffer_gets_handle s t c h =
     subst (λ (a : State). HasNewHandle s a (number c 0) a_surface) (sym (allowed_egl_state s t CreatePbufferSurface c h))
     (has_new s t (number c 0) a_surface (pbuffer_objects (length s.objects) (signed c 1) (side_of (asked_width c)) (side_of (asked_height c)) (asks_for_largest c)) refl)
 
+pub window_gets_handle : (s : State) (t : ℕ) (c : CallValue) → IsAllowedEgl s t CreateWindowSurface c → HasNewHandle s (step s t c).state (number c 0) a_surface
+unfolding made
+window_gets_handle s t c h =
+    subst (λ (a : State). HasNewHandle s a (number c 0) a_surface) (sym (allowed_egl_state s t CreateWindowSurface c h))
+    (has_new s t (number c 0) a_surface (window_objects (length s.objects) (signed c 1) (named_spec s c) (asks_for_single c) (named_place s c)) refl)
+
 context_first : (n : ℕ) (config d : ℕ) (group : Option ℕ) → option_map kind_of (get_or (context_objects n config d group) 0 None) ≡ Some (named_kind a_context)
 context_first n config d None = refl
 context_first n config d (Some g) = refl
@@ -99,12 +106,15 @@ context_gets_handle s t c h =
 pub pbuffer_answers_number : (s : State) (t : ℕ) (c : CallValue) → IsAllowedEgl s t CreatePbufferSurface c → (step s t c).reply.value ≡ pos s.next_handle
 pbuffer_answers_number s t c h = ap (λ (x : Stepped). x.reply.value) (allowed_egl s t CreatePbufferSurface c h)
 
+pub window_answers_number : (s : State) (t : ℕ) (c : CallValue) → IsAllowedEgl s t CreateWindowSurface c → (step s t c).reply.value ≡ pos s.next_handle
+window_answers_number s t c h = ap (λ (x : Stepped). x.reply.value) (allowed_egl s t CreateWindowSurface c h)
+
 pub context_answers_number : (s : State) (t : ℕ) (c : CallValue) → IsAllowedEgl s t CreateContext c → (step s t c).reply.value ≡ pos s.next_handle
 context_answers_number s t c h = ap (λ (x : Stepped). x.reply.value) (allowed_egl s t CreateContext c h)
 
 -- ---- The number of the next handle stays at each other call.
-pub next_stays : (s : State) (t : ℕ) (c : CallValue) → c.kind ≢ Egl CreatePbufferSurface → c.kind ≢ Egl CreateContext → (step s t c).state.next_handle ≡ s.next_handle
-next_stays s t c p x = next-step s t c (makes_no_handle c.kind p x)
+pub next_stays : (s : State) (t : ℕ) (c : CallValue) → c.kind ≢ Egl CreateWindowSurface → c.kind ≢ Egl CreatePbufferSurface → c.kind ≢ Egl CreateContext → (step s t c).state.next_handle ≡ s.next_handle
+next_stays s t c w p x = next-step s t c (makes_no_handle c.kind w p x)
 
 -- ---- And at each that isn't done.
 undone_egl : (s : State) (t : ℕ) (o : Option EglError) (f : Effect) → f.waits ≡ false → (after_egl_rules s t o f).reply.outcome ≢ Done → (after_egl_rules s t o f).state.next_handle ≡ s.next_handle

@@ -23,7 +23,7 @@ use Rattle.egl_model.specs.Slots.{ends, held_slots}
 use Rattle.egl_model.proofs.FrameMoves.{frame-apply}
 use Rattle.egl_model.proofs.LinkLaws.{same_object}
 use Rattle.egl_model.proofs.LitterLaws.{roots-set_error}
-use Rattle.egl_model.proofs.Moves.{Add, AllFit, AllHold, Await, Bind, Body, Change, Each, Fits, Flags, Holds, Keep, Move, Name, Note, Past, PastImage, PastPart, Resize, Suits, apply, draws, link, own_in, play, shapes_after}
+use Rattle.egl_model.proofs.Moves.{Add, AllFit, AllHold, Await, Bind, Body, Change, Each, Fits, Flags, Holds, Keep, Move, Name, Note, Post, Past, PastImage, PastPart, Resize, Suits, apply, draws, link, own_in, play, shapes_after}
 use Rattle.egl_model.proofs.Places.{at_map, at_old, length-shapes, same_at_set, within_shapes}
 use Rattle.egl_model.proofs.Slots.{in_left, in_right}
 use Rattle.egl_model.proofs.WholeMoves.{after_shapes, from_shapes}
@@ -174,6 +174,7 @@ held_is_there sh s v n w h = let a = by_slots sh (held_slots (record_of s v)) n 
 
 held-apply : (t v : ℕ) (m : Move) (sh : List (Option Shape)) (s : State) → shapes s.objects ≡ sh → Holds m → IsWhole sh s → (n : ℕ) → is_in n (ends (held_slots (record_of s v))) ≡ true → shape_in (object_at (apply t m s) n) ≡ shape_in (object_at s n)
 held-apply t v (Flags a b) sh s e h w n i = refl
+held-apply t v (Post id i) sh s e h w n l = refl
 held-apply t v (Note x) sh s e h w n i = refl
 held-apply t v (Await x) sh s e h w n i = refl
 held-apply t v (Bind c d r) sh s e h w n i = refl
@@ -249,6 +250,7 @@ change-put t v n f x sh s ne z u = objects-put (places s v) v x s (change f n s.
 pub move-put : (t v : ℕ) (m : Move) (x : Own) (sh : List (Option Shape)) (s : State) → v ≢ t → shapes s.objects ≡ sh → Holds m → Fits t sh s m → IsWhole sh s →
     apply t m (put_own s v x) ≡ put_at (places s v) v x (apply t m s)
 move-put t v (Flags a b) x sh s ne e h f w = refl
+move-put t v (Post id i) x sh s ne e h f w = refl
 move-put t v (Note y) x sh s ne e h f w = record-past (places s v) v t x s (λ r. record r { error = y }) ne
 move-put t v (Await y) x sh s ne e h f w = record-past (places s v) v t x s (λ r. record r { wait = y }) ne
 move-put t v (Bind c d r) x sh s ne e h f w = record-past (places s v) v t x s (λ q. record q { context = c; draw = d; read = r }) ne

@@ -7,7 +7,7 @@ use Rattle.egl_calls.specs.Calls.{CallValue}
 use Rattle.egl_calls.specs.declared.entries.Entry.{Entry}
 use Rattle.egl_calls.specs.declared.kinds.Kind.TheVariants.{Egl}
 use Rattle.egl_calls.specs.declared.kinds.EglKind.{EglKind}
-use Rattle.egl_calls.specs.declared.kinds.EglKind.TheVariants.{Initialize, Terminate, CreatePbufferSurface, CreateContext, MakeCurrent, DestroySurface, SurfaceAttrib, DestroyContext, ReleaseThread}
+use Rattle.egl_calls.specs.declared.kinds.EglKind.TheVariants.{Initialize, Terminate, CreateWindowSurface, CreatePbufferSurface, CreateContext, MakeCurrent, DestroySurface, SurfaceAttrib, DestroyContext, SwapBuffers, ReleaseThread}
 use Rattle.egl_calls.specs.declared.kinds.GlKind.{GlKind}
 use Rattle.egl_calls.specs.declared.kinds.GlKind.TheVariants.{GetError, ClearColorx, Clear}
 use Rattle.egl_calls.specs.declared.errors.EglError.TheVariants.{Success}
@@ -16,6 +16,8 @@ use Rattle.context_state.specs.Local.{apply}
 use Rattle.egl_model.specs.Extents.{SameFlags, egl_extent, extent_of_kind, quiet}
 use Rattle.display_table.specs.declared.handles.Handle.{Handle}
 use Rattle.egl_model.specs.declared.records.ThreadRecord.{ThreadRecord}
+use Rattle.surface_store.specs.Windows.{windows_ok}
+use Rattle.surface_store.specs.declared.windows.WindowSpec.{WindowSpec}
 use Rattle.egl_model.specs.State.{State, capacity, initial, opening, record_of, set_error}
 use Rattle.egl_model.specs.Full.{IsFull}
 use Rattle.egl_model.specs.Kinds.{NamesItsKind}
@@ -35,12 +37,14 @@ use Rattle.egl_model.specs.GlEffects.{gl_effect}
 use Rattle.egl_model.specs.History.{replay_from}
 use Rattle.egl_model.specs.Step.{note_error, step}
 use Rattle.egl_model.proofs.EglCalls.{acts-context, acts-error, acts-initialize, acts-make_current, acts-pbuffer, acts-terminate, acts-wait_end, acts-attribute, acts-destroyed, acts-released}
+use Rattle.egl_model.proofs.WindowCalls.{acts-swap, acts-window}
 use Rattle.egl_model.proofs.GlCalls.{acts-clear, acts-own_part}
 use Rattle.egl_model.proofs.FrameMoves.{frame_self, handles_then, objects_then}
 use Rattle.egl_model.proofs.LinkLaws.{exists_marked}
 use Rattle.egl_model.proofs.LitterLaws.{no_litter-opening, no_litter-step}
 use Rattle.egl_model.proofs.Places.{initial_at}
 use Rattle.egl_model.proofs.Slots.{no_edge}
+use Rattle.surface_store.proofs.WindowLaws.{opened_sides}
 use Rattle.egl_model.proofs.Ways.{each_way}
 use Rattle.egl_model.proofs.WholeSweep.{linked_from}
 use Rattle.egl_model.proofs.Keeps.{Acts, Keeps, acts_self, acts_swept, acts_then, acts_within}
@@ -49,12 +53,14 @@ use Rattle.egl_model.proofs.Keeps.{Acts, Keeps, acts_self, acts_swept, acts_then
 egl_acts : (s : State) (t : ℕ) (c : CallValue) (k : EglKind) → c.kind ≡ Egl k → egl_refusal s t k c ≡ None → Acts (egl_extent k) t s (λ a. (egl_effect a t k c).state)
 egl_acts s t c Initialize h r = acts-initialize s t (number c 0) true
 egl_acts s t c Terminate h r = acts-terminate s t (number c 0)
+egl_acts s t c CreateWindowSurface h r = acts-window s t c h r
 egl_acts s t c CreatePbufferSurface h r = acts-pbuffer s t c h r
 egl_acts s t c DestroySurface h r = acts-destroyed s t c a_surface
 egl_acts s t c SurfaceAttrib h r = acts-attribute s t c
 egl_acts s t c CreateContext h r = acts-context s t c
 egl_acts s t c DestroyContext h r = acts-destroyed s t c a_context
 egl_acts s t c MakeCurrent h r = acts-make_current s t c h r
+egl_acts s t c SwapBuffers h r = acts-swap s t
 egl_acts s t c ReleaseThread h r = acts-released s t
 egl_acts s t c k h r = acts_self t s
 
@@ -133,56 +139,56 @@ sound-replay s (e ∷ es) h = sound-replay (step s e.thread e.call).state es (so
 at_first : {A : Type 0} (P : A → Type 0) (f : ThreadRecord → A) → P (f initial) → (t : ℕ) → P (f (get_or (replicate capacity initial) t initial))
 at_first P f p t = subst P (sym (initial_at f capacity t)) p
 
-unbound : (video t n : ℕ) {A : Type 0} → has_context n (record_of (opening video) t) ≡ true → A
-unbound video t n h = absurd (let e : false ≡ true = sym (initial_at (has_context n) capacity t) ∙ h in cc)
+unbound : (windows : List WindowSpec) → windows_ok windows ≡ true → (video t n : ℕ) {A : Type 0} → has_context n (record_of (opening windows video) t) ≡ true → A
+unbound windows ok video t n h = absurd (let e : false ≡ true = sym (initial_at (has_context n) capacity t) ∙ h in cc)
 
-undrawn : (video t n : ℕ) {A : Type 0} → has_surface n (record_of (opening video) t) ≡ true → A
-undrawn video t n h = absurd (let e : false ≡ true = sym (initial_at (has_surface n) capacity t) ∙ h in cc)
+undrawn : (windows : List WindowSpec) → windows_ok windows ≡ true → (video t n : ℕ) {A : Type 0} → has_surface n (record_of (opening windows video) t) ≡ true → A
+undrawn windows ok video t n h = absurd (let e : false ≡ true = sym (initial_at (has_surface n) capacity t) ∙ h in cc)
 
-firm-opening : (video : ℕ) → IsFirm (shapes []) (opening video)
-firm-opening video = record {
+firm-opening : (windows : List WindowSpec) → windows_ok windows ≡ true → (video : ℕ) → IsFirm (shapes []) (opening windows video)
+firm-opening windows ok video = record {
   kinds = record {
     handles = All-nil (NamesItsKind (shapes []));
     threads = at_first (Leads (shapes [])) held_slots (tt, (tt, (tt, (tt, tt))));
     objects = λ n. tt;
   };
   storages = record { each = λ m n k e h. no_edge k h };
-  alone = record { contexts = λ t u n h k. unbound video t n h; surfaces = λ t u n h k. undrawn video t n h };
+  alone = record { contexts = λ t u n h k. unbound windows ok video t n h; surfaces = λ t u n h k. undrawn windows ok video t n h };
   both = record { draw = at_first (λ (r : ThreadRecord). is_some r.draw ≡ is_some r.context) (λ r. r) refl; read = at_first (λ (r : ThreadRecord). is_some r.read ≡ is_some r.context) (λ r. r) refl };
   numbers = record {
-    handles = All-nil (λ (h : Handle). IsBelowNext (opening video) h.number);
+    handles = All-nil (λ (h : Handle). IsBelowNext (opening windows video) h.number);
     apart = λ i j d lt within. absurd (omega arith);
-    context = at_first (λ (r : ThreadRecord). IsBoundBelowNext (opening video) r.context) (λ r. r) tt;
-    draw = at_first (λ (r : ThreadRecord). IsBoundBelowNext (opening video) r.draw) (λ r. r) tt;
-    read = at_first (λ (r : ThreadRecord). IsBoundBelowNext (opening video) r.read) (λ r. r) tt;
+    context = at_first (λ (r : ThreadRecord). IsBoundBelowNext (opening windows video) r.context) (λ r. r) tt;
+    draw = at_first (λ (r : ThreadRecord). IsBoundBelowNext (opening windows video) r.draw) (λ r. r) tt;
+    read = at_first (λ (r : ThreadRecord). IsBoundBelowNext (opening windows video) r.read) (λ r. r) tt;
   };
 }
 
-pub whole-opening : (video : ℕ) → IsWhole (shapes []) (opening video)
-whole-opening video = record { firm = firm-opening video; watches = record { each = λ n. tt } }
+pub whole-opening : (windows : List WindowSpec) → windows_ok windows ≡ true → (video : ℕ) → IsWhole (shapes []) (opening windows video)
+whole-opening windows ok video = record { firm = firm-opening windows ok video; watches = record { each = λ n. tt } }
 
-pixels-opening : (video : ℕ) → PixelsFit (opening video)
+pixels-opening : (windows : List WindowSpec) → windows_ok windows ≡ true → (video : ℕ) → PixelsFit (opening windows video)
 unfolding live_bytes
-pixels-opening video = omega arith
+pixels-opening windows ok video = omega arith
 
-pub sound-opening : (video : ℕ) → IsSound (opening video)
-sound-opening video = record {
-  litter = no_litter-opening video;
-  linked = linked_from (opening video) (whole-opening video);
-  whole = whole-opening video;
-  full = record { each = λ n. tt };
-  pixels = pixels-opening video;
+pub sound-opening : (windows : List WindowSpec) → windows_ok windows ≡ true → (video : ℕ) → IsSound (opening windows video)
+sound-opening windows ok video = record {
+  litter = no_litter-opening windows ok video;
+  linked = linked_from (opening windows video) (whole-opening windows ok video);
+  whole = whole-opening windows ok video;
+  full = record { each = λ n. tt; windows = opened_sides windows ok };
+  pixels = pixels-opening windows ok video;
 }
 
 -- ---- What each history leaves.
-pub sound-history : (video : ℕ) (es : List Entry) → IsSound (replay_from (opening video) es)
-sound-history video es = sound-replay (opening video) es (sound-opening video)
+pub sound-history : (windows : List WindowSpec) → windows_ok windows ≡ true → (video : ℕ) (es : List Entry) → IsSound (replay_from (opening windows video) es)
+sound-history windows ok video es = sound-replay (opening windows video) es (sound-opening windows ok video)
 
-pub held_if_exists : (video : ℕ) (es : List Entry) (n : ℕ) → has_object (replay_from (opening video) es) n ≡ true → IsHeld (replay_from (opening video) es) n
-held_if_exists video es n h = (4, (sound-history video es).litter.each n h)
+pub held_if_exists : (windows : List WindowSpec) → windows_ok windows ≡ true → (video : ℕ) (es : List Entry) (n : ℕ) → has_object (replay_from (opening windows video) es) n ≡ true → IsHeld (replay_from (opening windows video) es) n
+held_if_exists windows ok video es n h = (4, (sound-history windows ok video es).litter.each n h)
 
-pub exists_if_held : (video : ℕ) (es : List Entry) (n : ℕ) → IsHeld (replay_from (opening video) es) n → has_object (replay_from (opening video) es) n ≡ true
-exists_if_held video es n h = exists_marked (replay_from (opening video) es) (sound-history video es).linked h.0 n h.1
+pub exists_if_held : (windows : List WindowSpec) → windows_ok windows ≡ true → (video : ℕ) (es : List Entry) (n : ℕ) → IsHeld (replay_from (opening windows video) es) n → has_object (replay_from (opening windows video) es) n ≡ true
+exists_if_held windows ok video es n h = exists_marked (replay_from (opening windows video) es) (sound-history windows ok video es).linked h.0 n h.1
 
 pub handles-replay : (s : State) (es : List Entry) → HandlesAreNew s (replay_from s es)
 handles-replay s [] = (frame_self 0 s).handles

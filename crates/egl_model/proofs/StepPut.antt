@@ -15,7 +15,7 @@ use Rattle.egl_calls.specs.Errors.{egl_code}
 use Rattle.egl_calls.specs.declared.kinds.Kind.{Kind}
 use Rattle.egl_calls.specs.declared.kinds.Kind.TheVariants.{Egl, Gl, Own as OwnCall}
 use Rattle.egl_calls.specs.declared.kinds.EglKind.{EglKind}
-use Rattle.egl_calls.specs.declared.kinds.EglKind.TheVariants.{GetError as EglGetError, CreatePbufferSurface, MakeCurrent, GetCurrentContext, GetCurrentSurface, GetCurrentDisplay, QueryApi, QuerySurface, QueryContext}
+use Rattle.egl_calls.specs.declared.kinds.EglKind.TheVariants.{CreateWindowSurface, SwapBuffers, GetError as EglGetError, CreatePbufferSurface, MakeCurrent, GetCurrentContext, GetCurrentSurface, GetCurrentDisplay, QueryApi, QuerySurface, QueryContext}
 use Rattle.egl_calls.specs.declared.kinds.GlKind.{GlKind}
 use Rattle.egl_calls.specs.declared.kinds.GlKind.TheVariants.{GetError, ClearColorx, ReadPixels}
 use Rattle.egl_calls.specs.declared.errors.EglError.{EglError}
@@ -46,6 +46,7 @@ use Rattle.egl_model.specs.Waits.{is_signalled, is_wait_end}
 use Rattle.egl_model.specs.Effects.{valued}
 use Rattle.egl_calls.specs.declared.kinds.OwnKind.{OwnKind}
 use Rattle.egl_calls.specs.declared.kinds.OwnKind.TheVariants.{ReadBuffer, Census}
+use Rattle.egl_model.proofs.WindowCalls.{blind-swap_facts, blind-window_facts}
 use Rattle.egl_model.proofs.Blinds.{blind-context_elsewhere, blind-context_of, blind-current, blind-live_bytes, blind-own_part, blind-own_storage, blind-read, blind-record, blind-surface_elsewhere, blind-surface_of, read_alone, blind-signalled, blind-any, blind-context, blind-display}
 use Rattle.egl_model.proofs.EglCalls.{acts-error}
 use Rattle.egl_model.proofs.GlCalls.{acts-own_part}
@@ -90,6 +91,8 @@ blind-context_value : (t : ℕ) (c : CallValue) (s : State) → Blind t s (λ a.
 blind-context_value t c s w v x ne = blind-value_of_context t (number c 2) (handle_at s c 1 a_context) s w v x ne
 
 blind-facts : (t : ℕ) (c : CallValue) (s : State) (k : EglKind) → Blind t s (λ a. egl_facts a t k c)
+blind-facts t c s CreateWindowSurface w v x ne = blind-window_facts t c s w v x ne
+blind-facts t c s SwapBuffers w v x ne = blind-swap_facts t c s w v x ne
 blind-facts t c s CreatePbufferSurface w v x ne = ap (λ n. record (pbuffer_facts s c) { live_bytes = n }) (blind-live_bytes t s w v x ne)
 blind-facts t c s MakeCurrent w v x ne = blind-current_facts t c s w v x ne
 blind-facts t c s QuerySurface w v x ne = ap (λ y. record (surface_facts s c) { is_attribute = is_some y }) (blind-surface_value t c s w v x ne)

@@ -11,7 +11,7 @@ use Rattle.egl_model.specs.Kinds.{KindsFit, NamesItsKind, named_kind}
 use Rattle.egl_model.specs.Shapes.{Goes, watch_in, Leads, Shape, own_at, pixels_in, shapes, slots_in}
 use Rattle.egl_model.specs.Slots.{held_slots}
 use Rattle.egl_model.specs.Sound.{HasBothOrNone, IsAlone, IsFirm, IsWhole, NumbersAreBelow, StoragesAreOwn, Watches}
-use Rattle.egl_model.proofs.Moves.{Await, Each, SuitsEach, Body, Resize, Add, AllFit, AllHold, Bind, Change, Fits, Flags, Holds, IsStored, Keep, Move, Name, Note, Stands, Suits, apply, own_in, play, shapes_after}
+use Rattle.egl_model.proofs.Moves.{Await, Each, SuitsEach, Body, Resize, Add, AllFit, AllHold, Bind, Change, Fits, Flags, Holds, IsStored, Keep, Move, Name, Note, Post, Stands, Suits, apply, own_in, play, shapes_after}
 use Rattle.egl_model.proofs.Places.{at_map, shapes-map, at_new, at_old, each_at_set, each_place_at_set, length-shapes, old_kind, own_at-shapes, shapes-append, shapes-set, within_shapes}
 use Rattle.egl_model.proofs.CurrentMoves.{SameBound, alone-bind, alone-record, below-bind, below-keep, below-name, below-record, both-bind, both-record, held-bind, held-record}
 use Rattle.egl_model.proofs.Slots.{goes_more, leads_more, no_edge, own_is_storage, pixels_are_storages}
@@ -187,6 +187,8 @@ whole-record t s r e l w = record {
 whole-apply : (t : ℕ) (m : Move) (s : State) → Fits t (shapes s.objects) s m → IsWhole (shapes s.objects) s → IsWhole (shapes_after (shapes s.objects) m) (apply t m s)
 whole-apply t (Flags a b) s f w = objects_whole (shapes s.objects) (shapes s.objects) s _ refl refl refl
     (record { handles = w.firm.kinds.handles; threads = w.firm.kinds.threads; objects = w.firm.kinds.objects }) (record { each = w.firm.storages.each }) (record { each = w.watches.each }) w
+whole-apply t (Post id i) s f w = objects_whole (shapes s.objects) (shapes s.objects) s _ refl refl refl
+    (record { handles = w.firm.kinds.handles; threads = w.firm.kinds.threads; objects = w.firm.kinds.objects }) (record { each = w.firm.storages.each }) (record { each = w.watches.each }) w
 whole-apply t (Note e) s f w = whole-record t s (record (record_of s t) { error = e }) (record { context = refl; draw = refl; read = refl }) (w.firm.kinds.threads t) w
 whole-apply t (Await x) s f w =
     let h = w.firm.kinds.threads t in
@@ -229,6 +231,7 @@ whole-apply t (Keep p) s f w = record {
 -- the shapes behind a move are those that it leaves
 shapes-apply : (t : ℕ) (m : Move) (s : State) → Holds m → shapes_after (shapes s.objects) m ≡ shapes (apply t m s).objects
 shapes-apply t (Flags a b) s h = refl
+shapes-apply t (Post id i) s h = refl
 shapes-apply t (Note e) s h = refl
 shapes-apply t (Bind c d r) s h = refl
 shapes-apply t (Await x) s h = refl

@@ -3,7 +3,7 @@ use Rattle.std.specs.Prelude.{◌≡◌, ℕ, Bool, true, false}
 use Rattle.egl_calls.specs.declared.kinds.Kind.{Kind}
 use Rattle.egl_calls.specs.declared.kinds.Kind.TheVariants.{Egl}
 use Rattle.egl_calls.specs.declared.kinds.EglKind.{EglKind}
-use Rattle.egl_calls.specs.declared.kinds.EglKind.TheVariants.{Initialize, Terminate, CreatePbufferSurface, CreateContext, DestroySurface, DestroyContext}
+use Rattle.egl_calls.specs.declared.kinds.EglKind.TheVariants.{Initialize, Terminate, CreateWindowSurface, CreatePbufferSurface, CreateContext, DestroySurface, DestroyContext}
 use Rattle.egl_model.specs.State.{State}
 
 pub record Extent : Type 0 where
@@ -34,6 +34,7 @@ SameFlags s a = (a.first ≡ s.first) × (a.second ≡ s.second)
 abbrev pub egl_extent : EglKind → Extent
 egl_extent Initialize = flagging
 egl_extent Terminate = ending
+egl_extent CreateWindowSurface = naming
 egl_extent CreatePbufferSurface = naming
 egl_extent CreateContext = naming
 egl_extent DestroySurface = dropping

@@ -11,6 +11,7 @@ pub mod Effects
 pub mod Displays
 pub mod Configs
 pub mod Surfaces
+pub mod Windows
 pub mod Contexts
 pub mod MakeCurrent
 pub mod Drawing

@@ -6,7 +6,7 @@ ghost use Rattle.egl_calls.specs.Calls.{CallValue};
 ghost use Rattle.egl_calls.specs.declared.entries.Entry.{Entry};
 ghost use Rattle.egl_calls.specs.declared.kinds.Kind.TheVariants.{Egl, Own};
 ghost use Rattle.egl_calls.specs.declared.kinds.EglKind.{EglKind};
-ghost use Rattle.egl_calls.specs.declared.kinds.EglKind.TheVariants.{Initialize, Terminate, CreatePbufferSurface, CreateContext, DestroySurface, DestroyContext, ReleaseThread};
+ghost use Rattle.egl_calls.specs.declared.kinds.EglKind.TheVariants.{Initialize, Terminate, CreatePbufferSurface, CreateContext, DestroySurface, DestroyContext, ReleaseThread, CreateWindowSurface};
 ghost use Rattle.egl_calls.specs.declared.kinds.GlKind.{GlKind};
 ghost use Rattle.egl_calls.specs.declared.kinds.OwnKind.{OwnKind};
 ghost use Rattle.egl_calls.specs.declared.kinds.OwnKind.TheVariants.{ReadBuffer, WaitEnd};
@@ -18,6 +18,8 @@ ghost use Rattle.egl_calls.specs.declared.errors.Outcome.TheVariants.{Done, InWa
 ghost use Rattle.context_state.specs.Parts.{PartValue};
 ghost use Rattle.call_rules.specs.EglRules.{is_release};
 ghost use Rattle.display_table.specs.declared.handles.HandleKind.TheVariants.{Context, Surface};
+ghost use Rattle.surface_store.specs.Windows.{windows_ok};
+ghost use Rattle.surface_store.specs.declared.windows.WindowSpec.{WindowSpec};
 ghost use Rattle.egl_model.specs.State.{State, object_at, opening, record_of, set_error, initial};
 ghost use Rattle.egl_model.specs.Currents.{current_context, part_of_context};
 ghost use Rattle.egl_model.specs.Sweep.{is_reached, live_bytes, sweep, tidied};
@@ -61,33 +63,33 @@ pub fn a_sweep_is_done_at_once()
 /// Each object is reached: after a sweep, before the first call, and after a step wherever it was so before. So it's so in each history.
 pub fn no_litter_is_left()
     ensures sweep { (s : State) → HasNoLitter (sweep s) }
-    ensures opening { (video : ℕ) → HasNoLitter (opening video) }
+    ensures opening { (windows : List WindowSpec) → windows_ok windows ≡ true → (video : ℕ) → HasNoLitter (opening windows video) }
     ensures step { (s : State) (t : ℕ) (c : CallValue) → HasNoLitter s → HasNoLitter (step s t c).state }
-    ensures history { (video : ℕ) (entries : List Entry) → HasNoLitter (replay_from (opening video) entries) }
+    ensures history { (windows : List WindowSpec) → windows_ok windows ≡ true → (video : ℕ) (entries : List Entry) → HasNoLitter (replay_from (opening windows video) entries) }
 {}
 
 /// Each root and each reference leads to an object, before the first call and after a step wherever it was so before; then no chain is longer than those that a sweep follows.
 pub fn references_lead_to_objects()
-    ensures opening { (video : ℕ) → IsLinked (opening video) }
+    ensures opening { (windows : List WindowSpec) → windows_ok windows ≡ true → (video : ℕ) → IsLinked (opening windows video) }
     ensures step { (s : State) (t : ℕ) (c : CallValue) → IsSound s → IsLinked (step s t c).state }
     ensures chains { (s : State) (n : ℕ) → IsLinked s → IsHeld s n → is_reached s n ≡ true }
 {}
 
 /// In each history an object exists exactly where a chain of references leads to it.
 pub fn an_object_exists_exactly_where_it_is_held()
-    ensures { (video : ℕ) (entries : List Entry) (n : ℕ) → (has_object (replay_from (opening video) entries) n ≡ true) ↔ IsHeld (replay_from (opening video) entries) n }
+    ensures { (windows : List WindowSpec) → windows_ok windows ≡ true → (video : ℕ) (entries : List Entry) (n : ℕ) → (has_object (replay_from (opening windows video) entries) n ≡ true) ↔ IsHeld (replay_from (opening windows video) entries) n }
 {}
 
 /// Handles name objects of their kind; a context and surfaces are current to threads; a context has a group and a texture, and a surface a storage. So it's before the first call, and after a step wherever it was so before.
 pub fn names_lead_to_objects_of_their_kind()
-    ensures opening { (video : ℕ) → let s = opening video in KindsFit (shapes s.objects) s }
+    ensures opening { (windows : List WindowSpec) → windows_ok windows ≡ true → (video : ℕ) → let s = opening windows video in KindsFit (shapes s.objects) s }
     ensures step { (s : State) (t : ℕ) (c : CallValue) → IsSound s → let a = (step s t c).state in KindsFit (shapes a.objects) a }
-    ensures history { (video : ℕ) (entries : List Entry) → let s = replay_from (opening video) entries in KindsFit (shapes s.objects) s }
+    ensures history { (windows : List WindowSpec) → windows_ok windows ≡ true → (video : ℕ) (entries : List Entry) → let s = replay_from (opening windows video) entries in KindsFit (shapes s.objects) s }
 {}
 
 /// In each history what exists has a handle, or is current to a thread, or is used by a context or a surface.
 pub fn what_exists_is_named()
-    ensures { (video : ℕ) (entries : List Entry) (n : ℕ) → let s = replay_from (opening video) entries in Exists s n → IsHandled s n ⊎ (IsHeldByThread s n ⊎ IsUsed s n) }
+    ensures { (windows : List WindowSpec) → windows_ok windows ≡ true → (video : ℕ) (entries : List Entry) (n : ℕ) → let s = replay_from (opening windows video) entries in Exists s n → IsHandled s n ⊎ (IsHeldByThread s n ⊎ IsUsed s n) }
 {}
 
 /// A refused call of EGL answers its error, and changes its thread's error and nothing else (EGL 1.5, section 3.1).
@@ -131,7 +133,7 @@ pub fn own_calls_change_nothing()
 pub fn fences_are_signalled_with_their_contexts()
     ensures fence { (s : State) (n : ℕ) (x : AFence) → fence_in (sweep s).objects n ≡ Some x → fence_in (tidied s).objects n ≡ Some (record x { signalled = x.signalled || not (has_object (sweep s) x.context) }) }
     ensures rest { (s : State) (n : ℕ) → fence_in (sweep s).objects n ≡ None → object_at (tidied s) n ≡ object_at (sweep s) n }
-    ensures history { (video : ℕ) (entries : List Entry) (n : ℕ) (x : AFence) → let s = replay_from (opening video) entries in fence_in s.objects n ≡ Some x → x.signalled ≡ false → IsA ContextKind s x.context }
+    ensures history { (windows : List WindowSpec) → windows_ok windows ≡ true → (video : ℕ) (entries : List Entry) (n : ℕ) (x : AFence) → let s = replay_from (opening windows video) entries in fence_in s.objects n ≡ Some x → x.signalled ≡ false → IsA ContextKind s x.context }
 {}
 
 /// A call of one thread leaves what is kept for another, and there are as many records as before.
@@ -187,13 +189,15 @@ pub fn make_current_binds_what_it_is_given()
     ensures wait { (s : State) (t : ℕ) (c : CallValue) → IsMadeCurrent s t c → (record_of (step s t c).state t).wait ≡ None }
 {}
 
-/// Where no rule refuses an eglCreatePbufferSurface or an eglCreateContext, it answers the number of a new handle, which names a new object of its kind, and the next number rises by one (EGL 1.5, sections 3.5.2 and 3.7.1). It rises at no other call, and at none that isn't done.
+/// Where no rule refuses an eglCreateWindowSurface, an eglCreatePbufferSurface or an eglCreateContext, it answers the number of a new handle, which names a new object of its kind, and the next number rises by one (EGL 1.5, sections 3.5.1, 3.5.2 and 3.7.1). It rises at no other call, and at none that isn't done.
 pub fn a_new_handle_names_its_object()
+    ensures window { (s : State) (t : ℕ) (c : CallValue) → IsAllowedEgl s t CreateWindowSurface c → HasNewHandle s (step s t c).state (number c 0) Surface }
+    ensures window_reply { (s : State) (t : ℕ) (c : CallValue) → IsAllowedEgl s t CreateWindowSurface c → (step s t c).reply.value ≡ pos s.next_handle }
     ensures pbuffer { (s : State) (t : ℕ) (c : CallValue) → IsAllowedEgl s t CreatePbufferSurface c → HasNewHandle s (step s t c).state (number c 0) Surface }
     ensures pbuffer_reply { (s : State) (t : ℕ) (c : CallValue) → IsAllowedEgl s t CreatePbufferSurface c → (step s t c).reply.value ≡ pos s.next_handle }
     ensures context { (s : State) (t : ℕ) (c : CallValue) → IsAllowedEgl s t CreateContext c → HasNewHandle s (step s t c).state (number c 0) Context }
     ensures context_reply { (s : State) (t : ℕ) (c : CallValue) → IsAllowedEgl s t CreateContext c → (step s t c).reply.value ≡ pos s.next_handle }
-    ensures others { (s : State) (t : ℕ) (c : CallValue) → c.kind ≢ Egl CreatePbufferSurface → c.kind ≢ Egl CreateContext → (step s t c).state.next_handle ≡ s.next_handle }
+    ensures others { (s : State) (t : ℕ) (c : CallValue) → c.kind ≢ Egl CreateWindowSurface → c.kind ≢ Egl CreatePbufferSurface → c.kind ≢ Egl CreateContext → (step s t c).state.next_handle ≡ s.next_handle }
     ensures undone { (s : State) (t : ℕ) (c : CallValue) → (step s t c).reply.outcome ≢ Done → (step s t c).state.next_handle ≡ s.next_handle }
 {}
 
@@ -236,8 +240,8 @@ pub fn a_context_wants_a_number()
 {}
 
 /// No other call answers EGL_BAD_ALLOC.
-pub fn two_calls_want()
-    ensures { (s : State) (t : ℕ) (k : EglKind) (c : CallValue) → IsEglCall s t k c → Answers s t c BadAlloc → (k ≡ CreatePbufferSurface) ⊎ (k ≡ CreateContext) }
+pub fn three_calls_want()
+    ensures { (s : State) (t : ℕ) (k : EglKind) (c : CallValue) → IsEglCall s t k c → Answers s t c BadAlloc → (k ≡ CreatePbufferSurface) ⊎ ((k ≡ CreateWindowSurface) ⊎ (k ≡ CreateContext)) }
 {}
 
 /// A new pbuffer takes the bytes that its refusal counts, and a new context none; so in each history all pixels that live fit.
@@ -245,14 +249,14 @@ pub fn all_pixels_fit()
     ensures pbuffer { (s : State) (c : CallValue) → live_bytes (created_pbuffer s c).objects ≡ live_bytes s.objects + asked_bytes c }
     ensures context { (s : State) (c : CallValue) → live_bytes (created_context s c).objects ≡ live_bytes s.objects }
     ensures step { (s : State) (t : ℕ) (c : CallValue) → PixelsFit s → PixelsFit (step s t c).state }
-    ensures history { (video : ℕ) (entries : List Entry) → PixelsFit (replay_from (opening video) entries) }
+    ensures history { (windows : List WindowSpec) → windows_ok windows ≡ true → (video : ℕ) (entries : List Entry) → PixelsFit (replay_from (opening windows video) entries) }
 {}
 
 /// The state is sound before the first call, after a step wherever it was so before, and so in each history: no object is litter and no reference leads nowhere; a context or a surface is current to at most one thread, and a thread has both surfaces and a context or none (EGL 1.5, section 3.7.3); each valid or bound handle's number is below the next one, and no two valid handles have one; each surface has a storage of its own; and all pixels fit.
 pub fn the_state_is_sound()
-    ensures opening { (video : ℕ) → IsSound (opening video) }
+    ensures opening { (windows : List WindowSpec) → windows_ok windows ≡ true → (video : ℕ) → IsSound (opening windows video) }
     ensures step { (s : State) (t : ℕ) (c : CallValue) → IsSound s → IsSound (step s t c).state }
-    ensures history { (video : ℕ) (entries : List Entry) → IsSound (replay_from (opening video) entries) }
+    ensures history { (windows : List WindowSpec) → windows_ok windows ≡ true → (video : ℕ) (entries : List Entry) → IsSound (replay_from (opening windows video) entries) }
 {}
 
 /// What goes by any change of a state whose handles have numbers of their own bounds by how much the state shrinks.

@@ -54,7 +54,7 @@ fn assert_answers(
 fn opened(alloc: Global) -> Result<Driver, NoMemory>
     ensures { IfOk result (λ d. d.made ≡ 1) }
 {
-    Driver::new(alloc, 67_108_864)
+    Driver::new(alloc, &[], 67_108_864)
 }
 
 fn has_nothing(driver: &Driver) -> bool {

@@ -1,10 +1,13 @@
 //! Objects as nodes of a counted store.
-ghost use Rattle.std.specs.Prelude.{◌≡◌, ◌<◌, false};
+ghost use Rattle.std.specs.Prelude.{◌≡◌, ◌<◌, ◌≤◌, false};
 ghost use Rattle.object_table.specs.Fences.{is_fence};
-ghost use Rattle.object_table.specs.Amounts.{kind_number};
+ghost use Rattle.object_table.specs.Amounts.{kind_number, mark_of};
 
-use driver_objects::{Object, ObjectKind};
+use driver_objects::{BackedSurface, Object, ObjectKind};
 use ref_store::{NoMemory, Node};
+
+/// The mark of what is no surface of a window. Windows have places below it.
+const NO_WINDOW: u32 = 64;
 
 /// The number of a kind.
 pub(crate) fn number_of(kind: ObjectKind) -> u32
@@ -25,6 +28,28 @@ pub(crate) fn number_of(kind: ObjectKind) -> u32
     }
 }
 
+/// The mark of a surface is the place of its window; all else has the one that no window has.
+fn mark_of(object: &Object) -> u32
+    ensures value { result ≡ mark_of object.now }
+    ensures few { result ≤ 64 }
+{
+    match object {
+        Object::Surface(
+            BackedSurface {
+                window: Some(place),
+                ..
+            },
+        ) => {
+            if *place < NO_WINDOW {
+                *place
+            } else {
+                NO_WINDOW
+            }
+        }
+        _ => NO_WINDOW,
+    }
+}
+
 /// An object in the store, under its number. It is no fence: no call makes one yet.
 #[derive(Drop)]
 pub struct Stored {
@@ -37,13 +62,19 @@ impl Node for Stored {
     ghost use Rattle.driver_objects.specs.Objects.{edges_of, rank_of};
     ghost use Rattle.object_table.specs.Slots.{has_slot, after, no_slot, no_edge, slot_moves};
     ghost use Rattle.driver_objects.specs.Objects.{bytes_of, kind_of};
-    ghost use Rattle.object_table.specs.Amounts.{kind_number, few_kinds};
+    ghost use Rattle.object_table.specs.Amounts.{kind_number, few_kinds, mark_of, few_marks};
 
     ghost size = { λ s. bytes_of s.object };
 
     ghost kind = { λ s. kind_number (kind_of s.object) };
 
     ghost kinds = { λ s. few_kinds (kind_of s.object) };
+
+    ghost mark = { λ s. mark_of s.object };
+
+    ghost marks = { λ s. few_marks s.object };
+
+    ghost same_mark = { λ s slot note target. refl };
 
     ghost same_size = { λ s slot note target. refl };
 
@@ -77,6 +108,10 @@ impl Node for Stored {
 
     fn kind(&self) -> u32 {
         number_of(self.object.kind())
+    }
+
+    fn mark(&self) -> u32 {
+        mark_of(&self.object)
     }
 
     fn rank(&self) -> u32 {

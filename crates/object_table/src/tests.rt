@@ -53,7 +53,11 @@ fn add_surface(alloc: Global, table: &mut ObjectTable) -> Result<(), Fail>
     table.reserve(2)?;
     let storage = table.len() + 1;
     table.make_two(
-        Object::Surface(BackedSurface { surface, storage }),
+        Object::Surface(BackedSurface {
+            surface,
+            storage,
+            window: None,
+        }),
         Object::Storage(Storage::new(image)),
     );
     Ok(())

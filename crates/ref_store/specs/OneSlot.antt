@@ -26,3 +26,7 @@ no_slot h = absurd (false≢true h)
 -- three kinds are among those that a store counts
 pub few_kinds : (0 < 16) × ((1 < 16) × (2 < 16))
 few_kinds = (omega arith, (omega arith, omega arith))
+
+-- and its two marks
+pub few_marks : (0 < 65) × (64 < 65)
+few_marks = (omega arith, omega arith)

@@ -23,6 +23,9 @@ use std::marker::Model;
 // Kinds are numbered below this.
 const KINDS: usize = 16;
 
+// And marks.
+const MARKS: usize = 65;
+
 // The cells by number, with the sums over their nodes, which a node that is out isn't part of. Contracts see the cells and
 // the room alone. Each call does its work on the cells by the function of that name, and keeps the sums.
 #[derive(Drop)]
@@ -30,6 +33,7 @@ pub(crate) struct Counted<K: Node> {
     cells: Numbered<Cell<K>>,
     bytes: u64,
     counts: [u64; KINDS],
+    marked: [u64; MARKS],
 }
 
 impl<K: Node> Model for Counted<K> {
@@ -42,7 +46,7 @@ impl<K: Node> Model for Counted<K> {
 
     ghost view = { λ s. s.cells };
 
-    ghost invariant = { λ s. IsSummed K.size K.kind s.bytes s.counts s.cells.items };
+    ghost invariant = { λ s. IsSummed K.size K.kind K.mark s.bytes s.counts s.marked s.cells.items };
 }
 
 impl<K: Node> Counted<K> {
@@ -54,6 +58,7 @@ impl<K: Node> Counted<K> {
             cells: Numbered::new(alloc),
             bytes: 0,
             counts: [0; KINDS],
+            marked: [0; MARKS],
         }
     }
 
@@ -86,6 +91,14 @@ impl<K: Node> Counted<K> {
         ensures { result ≡ total (λ x. one_of kind (K.kind x)) self.now.items }
     {
         self.counts[kind as usize]
+    }
+
+    // How many nodes have a mark.
+    pub(crate) fn count_marked(&self, mark: u32) -> u64
+        requires { mark < 65 }
+        ensures { result ≡ total (λ x. one_of mark (K.mark x)) self.now.items }
+    {
+        self.marked[mark as usize]
     }
 
     pub(crate) fn reach(&mut self, id: u64)
@@ -144,9 +157,11 @@ impl<K: Node> Counted<K> {
         match take_away(&mut self.cells, id) {
             Some(node) => {
                 let kind = node.kind() as usize;
+                let mark = node.mark() as usize;
                 let size = node.size();
                 self.bytes -= size;
                 self.counts[kind] -= 1;
+                self.marked[mark] -= 1;
                 Some(node)
             }
             None => None,
@@ -164,8 +179,10 @@ impl<K: Node> Counted<K> {
     {
         self.cells.few();
         let kind = node.kind() as usize;
+        let mark = node.mark() as usize;
         self.bytes += node.size();
         self.counts[kind] += 1;
+        self.marked[mark] += 1;
         fill_at(&mut self.cells, id, node);
     }
 
@@ -179,8 +196,10 @@ impl<K: Node> Counted<K> {
     {
         let node = take_at(&mut self.cells, id);
         let kind = node.kind() as usize;
+        let mark = node.mark() as usize;
         self.bytes -= node.size();
         self.counts[kind] -= 1;
+        self.marked[mark] -= 1;
         node
     }
 
@@ -191,8 +210,10 @@ impl<K: Node> Counted<K> {
     {
         self.cells.few();
         let kind = node.kind() as usize;
+        let mark = node.mark() as usize;
         self.bytes += node.size();
         self.counts[kind] += 1;
+        self.marked[mark] += 1;
         put_at(&mut self.cells, id, node);
     }
 

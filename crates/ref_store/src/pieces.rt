@@ -23,7 +23,7 @@ impl Node for Piece {
     ghost use Rattle.std.specs.Prelude.{ℕ, ◌==◌, ◌++◌, nat_lt, true, false, refl, if◌then◌else◌, [], None};
     ghost use Rattle.ref_store.specs.Counts.{as_list};
     ghost use Rattle.ref_store.specs.TwoSlots.{is_edge_of, moves_of, new_edge_of, other_edges_of};
-    ghost use Rattle.ref_store.specs.OneSlot.{one_edge, one_moves, no_other, no_edge, no_slot, few_kinds};
+    ghost use Rattle.ref_store.specs.OneSlot.{one_edge, one_moves, no_other, no_edge, no_slot, few_kinds, few_marks};
     ghost use Rattle.ref_store.specs.declared.pieces.Piece.TheVariants.{Frame, Texture, Storage};
 
     ghost rank = { elim [ Frame a b ↦ 2 | Texture a f ↦ 1 | Storage n ↦ 0 ] };
@@ -45,6 +45,8 @@ impl Node for Piece {
     ghost size = { elim [ Frame a b ↦ 0 | Texture a f ↦ 0 | Storage n ↦ n ] };
 
     ghost kind = { elim [ Frame a b ↦ 0 | Texture a f ↦ 1 | Storage n ↦ 2 ] };
+
+    ghost mark = { elim [ Frame a b ↦ 0 | Texture a f ↦ 64 | Storage n ↦ 64 ] };
 
     ghost same_rank = { elim [ Frame a b ↦ λ _ _ _. refl | Texture a f ↦ λ _ _ _. refl | Storage n ↦ λ _ _ _. refl ] };
 
@@ -74,9 +76,13 @@ impl Node for Piece {
 
     ghost kinds = { elim [ Frame a b ↦ few_kinds.0 | Texture a f ↦ few_kinds.1.0 | Storage n ↦ few_kinds.1.1 ] };
 
+    ghost marks = { elim [ Frame a b ↦ few_marks.0 | Texture a f ↦ few_marks.1 | Storage n ↦ few_marks.1 ] };
+
     ghost same_size = { elim [ Frame a b ↦ λ _ _ _. refl | Texture a f ↦ λ _ _ _. refl | Storage n ↦ λ _ _ _. refl ] };
 
     ghost same_kind = { elim [ Frame a b ↦ λ _ _ _. refl | Texture a f ↦ λ _ _ _. refl | Storage n ↦ λ _ _ _. refl ] };
+
+    ghost same_mark = { elim [ Frame a b ↦ λ _ _ _. refl | Texture a f ↦ λ _ _ _. refl | Storage n ↦ λ _ _ _. refl ] };
 
     fn size(&self) -> u64 {
         match self {
@@ -90,6 +96,13 @@ impl Node for Piece {
             Piece::Frame(_, _) => 0,
             Piece::Texture(_, _) => 1,
             Piece::Storage(_) => 2,
+        }
+    }
+
+    fn mark(&self) -> u32 {
+        match self {
+            Piece::Frame(_, _) => 0,
+            Piece::Texture(_, _) | Piece::Storage(_) => 64,
         }
     }
 

@@ -15,7 +15,9 @@ use crate::holds::{hold_in, release_in};
 use crate::linking::link_in;
 use crate::memory::NoMemory;
 use crate::nodes::Node;
-use crate::reads::{bytes_in, count_in, count_of_in, get_in, linked_in, outside_in};
+use crate::reads::{
+    bytes_in, count_in, count_marked_in, count_of_in, get_in, linked_in, outside_in,
+};
 use crate::steps::Steps;
 use crate::taking::{put_in, take_in};
 use std::alloc::Global;
@@ -221,6 +223,14 @@ impl<K: Node> Store<K> {
         ensures { result ≡ sum_of (λ x. one_of kind (K.kind x)) self.now.nodes }
     {
         count_of_in(&self.cells, kind)
+    }
+
+    /// How many nodes have a mark, but for one that is out. It walks nothing.
+    pub fn count_marked(&self, mark: u32) -> u64
+        requires { mark < 65 }
+        ensures { result ≡ sum_of (λ x. one_of mark (K.mark x)) self.now.nodes }
+    {
+        count_marked_in(&self.cells, mark)
     }
 
     /// Each edge leads to a stored node of lower rank. This is a law: there is nothing to run.

@@ -1,12 +1,14 @@
 //! Pbuffers of each config, which hand out their pixels once; windows, swaps and queries.
 
 use super::*;
+use egl_calls::{Bytes, NoMemory};
 use egl_names::codes::{
     EGL_BACK_BUFFER, EGL_BUFFER_DESTROYED, EGL_BUFFER_PRESERVED, EGL_CONFIG_ID, EGL_HEIGHT,
     EGL_LARGEST_PBUFFER, EGL_RENDER_BUFFER, EGL_SINGLE_BUFFER, EGL_SWAP_BEHAVIOR, EGL_WIDTH,
 };
 use pixel_formats::{Format, Pixel};
-use pixel_rows::{Image, Mask};
+use pixel_rows::{Image, Mask, Rect};
+use std::alloc::Global;
 use std::test::Fail;
 
 // by the ids 1 to 8: the format of the config's surfaces, and the alpha that a stored 0 reads as there
@@ -183,4 +185,54 @@ fn windows_have_distinct_ids_and_sides_within_bounds(rt: HostRuntime) {
         many[k] = spec(k as i64 + 1, 1, 1);
     }
     assert!(rt; !windows_ok(&many));
+}
+
+/// The lowest two rows of what a window shows, two pixels each.
+fn shown(alloc: Global, windows: &WindowTable, id: u64) -> Result<Bytes, NoMemory> {
+    let rows = Rect {
+        x: 0,
+        y: 0,
+        w: 2,
+        h: 2,
+    };
+    match windows.front(id) {
+        Some(front) => front.row_bytes(alloc, rows, Format::Rgba8888, 1),
+        None => Ok(Bytes::new(alloc)),
+    }
+}
+
+/// Each window is found by its id, and shows what is posted to it alone.
+#[test]
+fn windows_show_what_is_posted_to_them(rt: HostRuntime) -> Result<(), Fail> {
+    let alloc = rt.alloc();
+    let specs = [spec(7, 2, 1), spec(9, 1, 2)];
+    assert!(rt; windows_ok(&specs));
+    let mut windows = WindowTable::new(alloc, &specs)?;
+    assert_eq!(rt; windows.as_slice().len(), 2);
+    let places = [windows.place(7), windows.place(9), windows.place(8)];
+    assert_eq!(rt; places, [Some(0), Some(1), None]);
+    assert_eq!(rt; windows.spec(9), Some(spec(9, 1, 2)));
+    let mut back = Image::new(alloc, Format::Rgba8888, 1, 2)?;
+    let red = Pixel {
+        r: 255,
+        g: 0,
+        b: 0,
+        a: 255,
+    };
+    let all = Mask {
+        r: true,
+        g: true,
+        b: true,
+        a: true,
+    };
+    back.put(0, 1, red, all)?;
+    assert_eq!(rt; windows.swap(9, &mut back, true), Ok(()));
+    // The other window has other sides, and a third isn't declared.
+    assert_eq!(rt; windows.swap(7, &mut back, true), Ok(()));
+    assert_eq!(rt; windows.swap(8, &mut back, true), Ok(()));
+    let posted = [0, 0, 0, 0, 0, 0, 0, 0, 255, 0, 0, 255, 0, 0, 0, 0];
+    assert_eq!(rt; shown(alloc, &windows, 9)?.as_slice(), posted.as_slice());
+    assert_eq!(rt; shown(alloc, &windows, 7)?.as_slice(), [0; 16].as_slice());
+    assert_eq!(rt; shown(alloc, &windows, 8)?.len(), 0);
+    Ok(())
 }

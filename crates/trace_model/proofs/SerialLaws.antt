@@ -29,12 +29,12 @@ played_adds start lines journal (l ∷ ls) =
       follows = (refl, refl, refl, more.follows);
     }
 
-pub serial_legal : (t : TraceValue) → IsLegalFrom (opening t.video) (serial t)
+pub serial_legal : (t : TraceValue) → IsLegalFrom (opening t.windows t.video) (serial t)
 serial_legal t =
-    let a = played_adds (opening t.video) t.lines [] t.lines in
-    let P : List Entry → Type 0 = λ es. IsLegalFrom (opening t.video) es in subst P (sym a.all_are) a.legal
+    let a = played_adds (opening t.windows t.video) t.lines [] t.lines in
+    let P : List Entry → Type 0 = λ es. IsLegalFrom (opening t.windows t.video) es in subst P (sym a.all_are) a.legal
 
 pub serial_follows : (t : TraceValue) → Follows t (serial t)
 serial_follows t =
-    let a = played_adds (opening t.video) t.lines [] t.lines in
+    let a = played_adds (opening t.windows t.video) t.lines [] t.lines in
     let P : List Entry → Type 0 = λ es. FollowsFrom t.lines [] t.lines es in subst P (sym a.all_are) a.follows

@@ -23,4 +23,4 @@ played start lines journal [] = journal
 played start lines journal (l ∷ ls) = played start lines (journal ++ entry_of start lines journal l ∷ []) ls
 
 abbrev pub serial : TraceValue → List Entry
-serial t = played (opening t.video) t.lines [] t.lines
+serial t = played (opening t.windows t.video) t.lines [] t.lines

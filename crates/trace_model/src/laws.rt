@@ -7,7 +7,7 @@ ghost use Rattle.trace_model.specs.Follows.{Follows};
 
 /// Each reply of the serial journal is the one that the one-thread specification gives at its place.
 pub fn serial_is_legal()
-    ensures { (t : TraceValue) → IsLegalFrom (opening t.video) (serial t) }
+    ensures { (t : TraceValue) → IsLegalFrom (opening t.windows t.video) (serial t) }
 {}
 
 /// The serial journal has an entry for each line, once, in their order.

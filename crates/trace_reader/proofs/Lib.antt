@@ -6,6 +6,8 @@ pub mod ArgumentLaws
 pub mod BodyLaws
 pub mod OrderLaws
 pub mod StepLaws
+pub mod HeadLaws
+pub mod WindowLaws
 pub mod DefectLaws
 pub mod FrontLaws
 pub mod NumeralLaws

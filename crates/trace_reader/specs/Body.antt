@@ -1,5 +1,5 @@
 -- Body lines.
-use Rattle.std.specs.Prelude.{ℕ, ◌+◌, ◌-◌, Bool, true, ◌&&◌, ◌||◌, ◌==◌, nat_le, nat_lt, List, [], ◌∷◌, ◌++◌, if◌then◌else◌, length, drop, codes, is_none, option_to_list, Option, Result, Ok, Err, None, Some}
+use Rattle.std.specs.Prelude.{ℕ, ◌+◌, ◌-◌, Bool, true, ◌&&◌, nat_le, nat_lt, List, [], ◌∷◌, ◌++◌, if◌then◌else◌, length, drop, codes, is_none, option_to_list, Option, Result, Ok, Err, None, Some}
 use Rattle.std.specs.List.{list_any, list_all}
 use Rattle.std.specs.Str.{bytes_eq}
 use Rattle.egl_calls.specs.Calls.{CallValue}
@@ -8,25 +8,15 @@ use Rattle.trace_reader.specs.declared.traces.Reason.{Reason}
 use Rattle.trace_reader.specs.declared.traces.Reason.TheVariants.{Thread, Name, Argument, Variable, Limit}
 use Rattle.trace_reader.specs.declared.traces.Defect.{Defect}
 use Rattle.trace_reader.specs.declared.traces.Line.{Line}
-use Rattle.trace_reader.specs.Words.{words, word_at, begins_with}
+use Rattle.trace_reader.specs.Reasons.{◌>>=◌, or_reason, provided}
+use Rattle.trace_reader.specs.Words.{words, word_at, begins_with, is_skipped}
 use Rattle.trace_reader.specs.Numerals.{numeral}
 use Rattle.trace_reader.specs.CallNames.{Signature, call_named}
 use Rattle.trace_reader.specs.Variables.{is_variable, variable_in}
 use Rattle.trace_reader.specs.Arguments.{has_unknown_name, is_known, call_of, references}
+use Rattle.trace_reader.specs.Heads.{HeadValue}
 use Rattle.trace_reader.specs.Pixels.{most_pixel_bytes, pixel_bytes}
-
-infixl 10 ◌>>=◌
-abbrev pub ◌>>=◌ : {A B : Type 0} → Result A Reason → (A → Result B Reason) → Result B Reason
-(Ok x) >>= f = f x
-(Err e) >>= f = Err e
-
-abbrev pub or_reason : {A : Type 0} → Option A → Reason → Result A Reason
-or_reason None r = Err r
-or_reason (Some x) r = Ok x
-
--- where the test fails, the reason; else what follows
-abbrev pub provided : {A : Type 0} → Bool → Reason → Result A Reason → Result A Reason
-provided b r more = if b then more else Err r
+use Rattle.surface_store.specs.declared.windows.WindowSpec.{WindowSpec}
 
 -- THREAD $VARIABLE = CALL .., or else THREAD CALL ..
 abbrev pub is_assignment : List (List ℕ) → Bool
@@ -83,27 +73,23 @@ body_of threads variables number ws = do
   line_in variables number thread signature (target_of ws) (argument_words ws)
 
 -- a trace has at most 100,000 body lines, which ask for at most 134,217,728 bytes of pixels; count lines that ask for so many bytes stand before this one
-abbrev pub is_within : ℕ → ℕ → Line → Bool
-is_within count pixels l = nat_lt count 100000 && nat_le (pixels + pixel_bytes l.call) most_pixel_bytes
+abbrev pub is_within : List WindowSpec → ℕ → ℕ → Line → Bool
+is_within windows count pixels l = nat_lt count 100000 && nat_le (pixels + pixel_bytes windows l.call) most_pixel_bytes
 
 -- a line without a defect that passes a limit has this one
-abbrev pub within_limits : ℕ → ℕ → Result Line Reason → Result Line Reason
-within_limits count pixels (Ok l) = if is_within count pixels l then Ok l else Err Limit
-within_limits count pixels (Err r) = Err r
-
--- a line that says nothing: no words, or a comment
-abbrev pub is_skipped : List ℕ → Bool
-is_skipped line = (length (words line) == 0) || begins_with 35 line
+abbrev pub within_limits : List WindowSpec → ℕ → ℕ → Result Line Reason → Result Line Reason
+within_limits windows count pixels (Ok l) = if is_within windows count pixels l then Ok l else Err Limit
+within_limits windows count pixels (Err r) = Err r
 
 -- what follows a body line with this number
 abbrev pub body_then : ℕ → Result Line Reason → (Line → Result (List Line) Defect) → Result (List Line) Defect
 body_then n (Ok l) more = more l
 body_then n (Err r) more = Err (record { line = n; reason = r })
 
--- the body lines of the lines from this number on, behind those that were read, the variables that those assigned and the bytes of pixels that those ask for; or the first defect
-abbrev pub read_body : ℕ → ℕ → List (List ℕ) → ℕ → List Line → List (List ℕ) → Result (List Line) Defect
-read_body threads n variables pixels read [] = Ok read
-read_body threads n variables pixels read (line ∷ rest) =
-    if is_skipped line then read_body threads (n + 1) variables pixels read rest
-    else body_then n (within_limits (length read) pixels (body_of threads variables n (words line)))
-    (λ l. read_body threads (n + 1) (variables ++ option_to_list (target_of (words line))) (pixels + pixel_bytes l.call) (read ++ l ∷ []) rest)
+-- the body lines of the lines from this number on, behind a head, the lines that were read, the variables that those assigned and the bytes of pixels that those ask for; or the first defect
+abbrev pub read_body : HeadValue → ℕ → List (List ℕ) → ℕ → List Line → List (List ℕ) → Result (List Line) Defect
+read_body head n variables pixels read [] = Ok read
+read_body head n variables pixels read (line ∷ rest) =
+    if is_skipped line then read_body head (n + 1) variables pixels read rest
+    else body_then n (within_limits head.windows (length read) pixels (body_of head.threads variables n (words line)))
+    (λ l. read_body head (n + 1) (variables ++ option_to_list (target_of (words line))) (pixels + pixel_bytes head.windows l.call) (read ++ l ∷ []) rest)

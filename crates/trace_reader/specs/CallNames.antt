@@ -1,10 +1,10 @@
 -- The calls: the words that name them, their kinds, and the forms of their arguments.
 use Rattle.std.specs.Prelude.{ℕ, List, [], ◌∷◌, codes, Option}
-use Rattle.egl_calls.specs.declared.kinds.OwnKind.TheVariants.{Census}
+use Rattle.egl_calls.specs.declared.kinds.OwnKind.TheVariants.{Census, ReadFront}
 use Rattle.egl_names.specs.Names.{value_in}
 use Rattle.egl_calls.specs.declared.kinds.Kind.{Kind}
 use Rattle.egl_calls.specs.declared.kinds.Kind.TheVariants.{Egl, Gl, Own}
-use Rattle.egl_calls.specs.declared.kinds.EglKind.TheVariants.{GetError, GetDisplay, Initialize, Terminate, GetConfigs, ChooseConfig, GetConfigAttrib, CreatePbufferSurface, CreateContext, MakeCurrent, GetCurrentContext, DestroySurface, QuerySurface, SurfaceAttrib, BindApi, QueryApi, DestroyContext, GetCurrentSurface, GetCurrentDisplay, QueryContext, WaitClient, ReleaseThread}
+use Rattle.egl_calls.specs.declared.kinds.EglKind.TheVariants.{GetError, GetDisplay, Initialize, Terminate, GetConfigs, ChooseConfig, GetConfigAttrib, CreateWindowSurface, CreatePbufferSurface, CreateContext, MakeCurrent, GetCurrentContext, DestroySurface, QuerySurface, SurfaceAttrib, BindApi, QueryApi, DestroyContext, GetCurrentSurface, GetCurrentDisplay, QueryContext, SwapBuffers, WaitClient, ReleaseThread}
 use Rattle.egl_calls.specs.declared.kinds.GlKind.TheVariants.{GetError as GlGetError, ClearColorx, Clear, ReadPixels}
 use Rattle.trace_reader.specs.declared.call_names.Form.{Form}
 use Rattle.trace_reader.specs.declared.call_names.Form.TheVariants.{Number, NumberOrVariable, NoShare, AttributeList}
@@ -40,9 +40,12 @@ calls =
     ∷ (codes "eglGetCurrentSurface", signature (Egl GetCurrentSurface) (Number ∷ []))
     ∷ (codes "eglGetCurrentDisplay", signature (Egl GetCurrentDisplay) [])
     ∷ (codes "eglQueryContext", signature (Egl QueryContext) (NumberOrVariable ∷ NumberOrVariable ∷ Number ∷ []))
+    ∷ (codes "eglCreateWindowSurface", signature (Egl CreateWindowSurface) (NumberOrVariable ∷ Number ∷ Number ∷ AttributeList ∷ []))
+    ∷ (codes "eglSwapBuffers", signature (Egl SwapBuffers) (NumberOrVariable ∷ NumberOrVariable ∷ []))
     ∷ (codes "eglWaitClient", signature (Egl WaitClient) [])
     ∷ (codes "eglReleaseThread", signature (Egl ReleaseThread) [])
     ∷ (codes "census", signature (Own Census) [])
+    ∷ (codes "readFront", signature (Own ReadFront) (Number ∷ []))
     ∷ (codes "glGetError", signature (Gl GlGetError) [])
     ∷ (codes "glClearColorx", signature (Gl ClearColorx) (Number ∷ Number ∷ Number ∷ Number ∷ []))
     ∷ (codes "glClear", signature (Gl Clear) (Number ∷ []))

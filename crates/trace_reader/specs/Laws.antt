@@ -1,9 +1,9 @@
 -- What is true of all lines, numbers and lists.
-use Rattle.std.specs.Prelude.{◌≡◌, ◌≢◌, ℕ, Bool, ◌<◌, ◌≤◌, ℤ, pos, List, [], ◌∷◌, ◌++◌, length, take, filter, nat_le, IsOk, Err}
+use Rattle.std.specs.Prelude.{◌≡◌, ◌≢◌, ◌⊎◌, ℕ, Bool, ◌<◌, ◌≤◌, ℤ, pos, List, [], ◌∷◌, ◌++◌, length, take, filter, nat_le, IsOk, Err}
 use Rattle.egl_names.specs.declared.codes.TheConstants.{EGL_NONE}
 use Rattle.trace_reader.specs.declared.traces.Line.{Line}
 use Rattle.trace_reader.specs.declared.traces.Defect.{Defect}
-use Rattle.trace_reader.specs.Grammar.{trace_of_lines}
+use Rattle.trace_reader.specs.Grammar.{default_video, trace_of_lines}
 use Rattle.trace_reader.specs.Traces.{TraceValue}
 
 -- a front of the lines is a trace where it ends before the defective line, and has the same defect where it ends there, whatever follows; where there is no line, the first is the defective one
@@ -17,10 +17,18 @@ pub record IsFirstDefect (ls : List (List ℕ)) (d : Defect) : Type 0 where
 abbrev pub is_up_to : ℕ → Line → Bool
 is_up_to n l = nat_le l.number n
 
--- the trace of the first n lines, where all of them are a trace: its lines are those with numbers up to n, which are the first
+-- behind the header there is nothing yet
+pub record IsBare (t : TraceValue) : Type 0 where
+  pub video : t.video ≡ default_video
+  pub windows : t.windows ≡ []
+  pub lines : t.lines ≡ []
+
+-- the trace of the first n lines, where all of them are a trace: its lines are those with numbers up to n, which are the first, and its windows are the first, all of them where it has lines. It has the other's limit of bytes, or nothing yet
 pub record IsFrontOf (t : TraceValue) (n : ℕ) (front : TraceValue) : Type 0 where
   pub threads : front.threads ≡ t.threads
-  pub video : front.video ≡ t.video
+  pub video : (front.video ≡ t.video) ⊎ IsBare front
+  pub windows : front.windows ≡ take (length front.windows) t.windows
+  pub all_windows : 0 < length front.lines → front.windows ≡ t.windows
   pub lines : front.lines ≡ filter (is_up_to n) t.lines
   pub first : front.lines ≡ take (length front.lines) t.lines
 

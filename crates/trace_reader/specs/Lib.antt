@@ -8,8 +8,10 @@ pub mod CallNames
 pub mod CallRows
 pub mod Variables
 pub mod Arguments
-pub mod Pixels
+pub mod Reasons
 pub mod Header
+pub mod Heads
+pub mod Pixels
 pub mod Body
 pub mod Reading
 pub mod Grammar

@@ -3,7 +3,9 @@ use Rattle.std.specs.Prelude.{◌≡◌, ℕ, ◌+◌, ◌<◌, ◌≤◌, true,
 use Rattle.egl_calls.specs.Kinds.{is_built}
 use Rattle.trace_reader.specs.declared.traces.Line.{Line}
 use Rattle.trace_reader.specs.declared.traces.Reference.{Reference}
+use Rattle.surface_store.specs.Windows.{windows_ok}
 use Rattle.trace_reader.specs.Header.{most_threads}
+use Rattle.trace_reader.specs.Heads.{most_video, most_area, area_of}
 use Rattle.trace_reader.specs.Traces.{TraceValue}
 
 -- a variable is the next behind so many, where one is assigned
@@ -47,7 +49,9 @@ variables_after_lines v (l ∷ ls) = variables_after_lines (more_variables v l.a
 -- what each trace is
 pub record IsTrace (t : TraceValue) : Type 0 where
   pub threads : t.threads ≤ most_threads
-  pub video : t.video ≤ 1073741824
+  pub video : t.video ≤ most_video
+  pub windows : windows_ok t.windows ≡ true
+  pub area : area_of t.windows ≤ most_area
   pub lines : AreInOrder t.threads 2 0 t.lines
 
 -- these lines stand before a line with number n, and v variables are assigned in them

@@ -32,7 +32,7 @@ macro_rules! rows {
 }
 
 /// The calls that a trace may make.
-static CALLS: [Row; 27] = rows![
+static CALLS: [Row; 30] = rows![
     "eglGetError": Kind::Egl(EglKind::GetError) [];
     "eglGetDisplay": Kind::Egl(EglKind::GetDisplay) [Number];
     "eglInitialize": Kind::Egl(EglKind::Initialize) [NumberOrVariable];
@@ -53,9 +53,12 @@ static CALLS: [Row; 27] = rows![
     "eglGetCurrentSurface": Kind::Egl(EglKind::GetCurrentSurface) [Number];
     "eglGetCurrentDisplay": Kind::Egl(EglKind::GetCurrentDisplay) [];
     "eglQueryContext": Kind::Egl(EglKind::QueryContext) [NumberOrVariable, NumberOrVariable, Number];
+    "eglCreateWindowSurface": Kind::Egl(EglKind::CreateWindowSurface) [NumberOrVariable, Number, Number, AttributeList];
+    "eglSwapBuffers": Kind::Egl(EglKind::SwapBuffers) [NumberOrVariable, NumberOrVariable];
     "eglWaitClient": Kind::Egl(EglKind::WaitClient) [];
     "eglReleaseThread": Kind::Egl(EglKind::ReleaseThread) [];
     "census": Kind::Own(OwnKind::Census) [];
+    "readFront": Kind::Own(OwnKind::ReadFront) [Number];
     "glGetError": Kind::Gl(GlKind::GetError) [];
     "glClearColorx": Kind::Gl(GlKind::ClearColorx) [Number, Number, Number, Number];
     "glClear": Kind::Gl(GlKind::Clear) [Number];

@@ -17,7 +17,7 @@ pub fn a_defect_is_the_first()
     ensures bytes { (b : List ℕ) (d : Defect) → trace b ≡ Err d → IsFirstDefect (lines b) d }
 {}
 
-/// Where all lines spell a trace, those in front do so too, with the header among them: the trace of the same threads and memory, with the lines whose numbers go so far, which are the first.
+/// Where all lines spell a trace, those in front do so too, with the header among them: the trace of the same threads, with the windows and the lines that stand so far, which are the first. Where it has a window or a line, it has the same limit of bytes, and where it has a line, all windows.
 pub fn a_longer_trace_begins_alike()
     ensures { (ls more : List (List ℕ)) (t : TraceValue) → 0 < length ls → trace_of_lines (ls ++ more) ≡ Ok t → IsOkAnd (trace_of_lines ls) (IsFrontOf t (length ls)) }
 {}

@@ -6,6 +6,7 @@ mod body;
 mod body_words;
 mod call_names;
 mod header;
+mod heads;
 mod hexadecimals;
 pub mod laws;
 mod line_cuts;
@@ -16,7 +17,11 @@ mod pixels;
 mod reading;
 mod traces;
 mod variables;
+mod windows;
 mod word_cuts;
 
 pub use call_names::Form;
 pub use traces::{Defect, Line, Reason, Reference, Trace, TraceError, Uses};
+
+#[cfg(test)]
+mod tests;

@@ -1,8 +1,11 @@
 //! The bytes of pixels that calls ask for.
 ghost use Rattle.std.specs.Prelude.{◌≡◌, ℕ, ◌<◌, ◌^◌};
-ghost use Rattle.trace_reader.specs.Pixels.{rows_of_bytes, rectangle_bytes, pixel_bytes};
+ghost use Rattle.trace_reader.specs.Heads.{window_with};
+ghost use Rattle.trace_reader.specs.Pixels.{rows_of_bytes, rectangle_bytes, shown_bytes, pixel_bytes};
 
-use egl_calls::{Call, GlKind, Kind, unsigned};
+use crate::windows::{area, window_with};
+use egl_calls::{Call, GlKind, Kind, OwnKind, unsigned};
+use surface_store::WindowSpec;
 
 fn rows_of_bytes(width: u64, height: u64) -> u128
     requires width { width < 2 ^ 63 }
@@ -22,13 +25,24 @@ fn rectangle_bytes(width: i64, height: i64) -> u128
     }
 }
 
-/// How many bytes of pixels a call asks for: glReadPixels asks for four bytes a pixel and eight more a row, and every other call for none.
+/// Four bytes a pixel of the window with an id, and none where no window has it.
+fn shown_bytes(windows: &[WindowSpec], id: i64) -> u128
+    ensures { result ≡ shown_bytes (window_with windows.now id) }
+{
+    match window_with(windows, id) {
+        Some(window) => 4 * area(window) as u128,
+        None => 0,
+    }
+}
+
+/// How many bytes of pixels a call asks for: glReadPixels for four bytes a pixel and eight more a row, readFront for four bytes a pixel of its window, and every other call for none.
 #[tactic(auto, unfolding(crate::specs::Pixels::pixel_bytes))]
-pub fn pixel_bytes(call: &Call) -> u128
-    ensures { result ≡ pixel_bytes call.now }
+pub fn pixel_bytes(windows: &[WindowSpec], call: &Call) -> u128
+    ensures { result ≡ pixel_bytes windows.now call.now }
 {
     match call.kind {
         Kind::Gl(GlKind::ReadPixels) => rectangle_bytes(call.args[2], call.args[3]),
+        Kind::Own(OwnKind::ReadFront) => shown_bytes(windows, call.args[0]),
         _ => 0,
     }
 }

@@ -1,9 +1,8 @@
 //! Whole traces.
-ghost use Rattle.std.specs.Prelude.{◌≡◌, ℕ, ◌+◌, ◌<◌, ◌≤◌, [], ◌∷◌, ◌++◌, length, map, true, IfOk, OnOk, option_to_list};
+ghost use Rattle.std.specs.Prelude.{◌≡◌, ℕ, ◌+◌, ◌<◌, ◌≤◌, ◌^◌, [], ◌∷◌, ◌++◌, length, true, IfOk, OnOk, option_to_list};
 ghost use Rattle.std.specs.Option.{option_map};
 ghost use Rattle.std.specs.Str.Lines.{lines};
-ghost use Rattle.trace_reader.specs.Words.{words as words_in};
-ghost use Rattle.trace_reader.specs.Body.{is_assignable, is_skipped, read_body};
+ghost use Rattle.trace_reader.specs.Body.{is_assignable, read_body};
 ghost use Rattle.trace_reader.specs.Grammar.{trace};
 ghost use Rattle.trace_reader.specs.Pixels.{most_pixel_bytes};
 ghost use Rattle.trace_reader.specs.Reading.{Gives, GivesNext};
@@ -12,29 +11,20 @@ ghost use Rattle.trace_reader.specs.Order.{AreInOrder, AreBefore};
 use crate::body::{LineError, body_of};
 use crate::body_words::BodyWords;
 use crate::header::header_of;
+use crate::heads::{Head, read_head};
 use crate::line_cuts::cut_line;
 use crate::pixels::pixel_bytes;
 use crate::traces::{Line, Reason, Trace, TraceError};
 use crate::variables::Variables;
-use crate::word_cuts::words;
+use crate::word_cuts::{is_skipped, words};
 use egl_calls::{Bytes, NoMemory};
 use std::alloc::Global;
-
-/// How many bytes of pixels and buffers there may be where the trace doesn't say.
-const VIDEO: u64 = 67_108_864;
 
 /// How many body lines a trace may have.
 const MOST_BODY_LINES: usize = 100_000;
 
 /// How many bytes of pixels all lines may ask for.
 const MOST_PIXEL_BYTES: u64 = 134_217_728;
-
-fn is_skipped(line: &[u8], words: &[&[u8]]) -> bool
-    requires { map (λ w. w.now) words.now ≡ words_in line.now }
-    ensures { result ≡ is_skipped line.now }
-{
-    words.is_empty() || (!line.is_empty() && line[0] == b'#')
-}
 
 /// Adds the variable that a line assigns.
 fn add_target<'a>(variables: &mut Variables<'a>, target: Option<&'a [u8]>) -> Result<(), NoMemory>
@@ -52,21 +42,20 @@ fn add_target<'a>(variables: &mut Variables<'a>, target: Option<&'a [u8]>) -> Re
 #[tactic(auto, using(crate::proofs::BodyLaws::next_skipped, crate::proofs::BodyLaws::next_taken, crate::proofs::BodyLaws::next_defective, crate::proofs::BodyLaws::next_past_lines, crate::proofs::BodyLaws::next_past_pixels, crate::proofs::OrderLaws::before_more, crate::proofs::OrderLaws::before_skipped))]
 fn next_line<'a>(
     alloc: Global,
-    threads: u32,
+    head: &Head,
     number: u64,
     line: &'a [u8],
     variables: &mut Variables<'a>,
     pixels: &mut u64,
     read: &mut Vec<Line>,
 ) -> Result<(), TraceError>
-    requires some { 0 < threads }
     requires pixels { pixels.old ≤ most_pixel_bytes }
     requires few { length variables.old ≤ length read.old.items }
-    requires order { AreBefore threads number (length variables.old) read.old.items }
-    ensures next { GivesNext threads number line.now variables.old pixels.old read.old.items variables.new pixels.new read.new.items result }
+    requires order { AreBefore head.now.threads number (length variables.old) read.old.items }
+    ensures next { GivesNext head.now number line.now variables.old pixels.old read.old.items variables.new pixels.new read.new.items result }
     ensures pixels { OnOk result (pixels.new ≤ most_pixel_bytes) }
     ensures few { OnOk result (length variables.new ≤ length read.new.items) }
-    ensures order { OnOk result (AreBefore threads (number + 1) (length variables.new) read.new.items) }
+    ensures order { OnOk result (AreBefore head.now.threads (number + 1) (length variables.new) read.new.items) }
 {
     let Ok(parts) = words(alloc, line) else {
         return Err(TraceError::NoMemory);
@@ -75,9 +64,9 @@ fn next_line<'a>(
         return Ok(());
     }
     let body_words = BodyWords::new(&parts);
-    match body_of(alloc, threads, variables, number, &body_words) {
+    match body_of(alloc, head.threads(), variables, number, &body_words) {
         Ok(body) => {
-            let asked = pixel_bytes(&body.call);
+            let asked = pixel_bytes(head.windows(), &body.call);
             if read.len() >= MOST_BODY_LINES || asked > (MOST_PIXEL_BYTES - *pixels) as u128 {
                 return Err(TraceError::Malformed {
                     line: number,
@@ -101,21 +90,22 @@ fn next_line<'a>(
     }
 }
 
-/// Reads the lines behind the header, each as it is cut off.
-fn read_lines(alloc: Global, threads: u32, bytes: &[u8]) -> Result<Vec<Line>, TraceError>
-    requires { 0 < threads }
-    ensures value { Gives (λ v. v.items) result (read_body threads 2 [] 0 [] (lines bytes.now)) }
-    ensures order { IfOk result (λ v. AreInOrder threads 2 0 v.items) }
+/// Reads the body, each line as it is cut off.
+fn read_lines(alloc: Global, head: &Head, first: u64, bytes: &[u8]) -> Result<Vec<Line>, TraceError>
+    requires first { 2 ≤ first }
+    requires fits { first + length bytes.now < 2 ^ 64 }
+    ensures value { Gives (λ v. v.items) result (read_body head.now first [] 0 [] (lines bytes.now)) }
+    ensures order { IfOk result (λ v. AreInOrder head.now.threads 2 0 v.items) }
 {
     let mut variables = Variables::new(alloc);
     let mut read = Vec::new(alloc);
     let mut pixels = 0u64;
-    let mut number = 2u64;
+    let mut number = first;
     let mut rest = bytes;
     'each: while let Some((line, more)) = cut_line(rest) {
         next_line(
             alloc,
-            threads,
+            head,
             number,
             line,
             &mut variables,
@@ -145,12 +135,9 @@ impl Trace {
         };
         match header_of(&words) {
             Ok(threads) => {
-                let lines = read_lines(alloc, threads, rest)?;
-                Ok(Trace {
-                    threads,
-                    video: VIDEO,
-                    lines,
-                })
+                let start = read_head(alloc, threads, rest)?;
+                let lines = read_lines(alloc, &start.head, start.number, start.rest)?;
+                Ok(start.head.into_trace(lines))
             }
             Err(reason) => Err(TraceError::Malformed { line: 1, reason }),
         }

@@ -1,10 +1,14 @@
 //! Traces, their lines, and what is wrong with bytes that spell none.
-ghost use Rattle.std.specs.Prelude.{◌≡◌, ◌≤◌, [], ◌∷◌, ◌++◌, length, slice_get, option_copied, OnOk, OnErr};
+ghost use Rattle.std.specs.Prelude.{◌≡◌, ◌≤◌, [], ◌∷◌, ◌++◌, length, slice_get, option_copied, true, OnOk, OnErr};
+ghost use Rattle.std.specs.Option.{option_map};
+ghost use Rattle.surface_store.specs.Windows.{windows_ok};
+ghost use Rattle.trace_reader.specs.Heads.{area_of, most_area, numbers_of};
 ghost use Rattle.trace_reader.specs.Order.{IsTrace};
 
 use egl_calls::{Call, NoMemory};
 use std::alloc::Global;
 use std::marker::Model;
+use surface_store::WindowSpec;
 use thiserror::Error;
 
 /// Why a line is defective.
@@ -108,11 +112,12 @@ pub struct Line {
     pub uses: Uses,
 }
 
-/// A trace: how many threads it has, how many bytes of pixels and buffers there may be, and its body lines.
+/// A trace: how many threads it has, how many bytes of pixels and buffers there may be, its windows and its body lines.
 #[derive(Drop)]
 pub struct Trace {
     pub(crate) threads: u32,
     pub(crate) video: u64,
+    pub(crate) windows: Vec<WindowSpec>,
     pub(crate) lines: Vec<Line>,
 }
 
@@ -121,11 +126,11 @@ impl Model for Trace {
 
     ghost Value = { TraceValue };
 
-    ghost view = { λ t. record { threads = t.threads; video = t.video; lines = t.lines.items } };
+    ghost view = { λ t. record { threads = t.threads; video = t.video; windows = t.windows.items; lines = t.lines.items } };
 
     ghost use Rattle.trace_reader.specs.Order.{IsTrace};
 
-    ghost invariant = { λ t. IsTrace (record { threads = t.threads; video = t.video; lines = t.lines.items }) };
+    ghost invariant = { λ t. IsTrace (record { threads = t.threads; video = t.video; windows = t.windows.items; lines = t.lines.items }) };
 }
 
 impl Trace {
@@ -140,6 +145,23 @@ impl Trace {
         ensures fits { result ≤ 1073741824 }
     {
         self.video
+    }
+
+    /// The id, the width and the height of the window at a place, counted from 0.
+    pub fn window(&self, k: u64) -> Option<[i64; 3]>
+        ensures { result ≡ option_map numbers_of (slice_get self.now.windows k) }
+    {
+        let window = self.windows.get(k as usize)?;
+        Some([window.id, i64::from(window.w), i64::from(window.h)])
+    }
+
+    /// The windows, in the order of their lines.
+    pub fn windows(&self) -> &[WindowSpec]
+        ensures windows { result.now ≡ self.now.windows }
+        ensures distinct { windows_ok result.now ≡ true }
+        ensures area { area_of result.now ≤ most_area }
+    {
+        self.windows.as_slice()
     }
 
     /// The body line at a place, counted from 0.

@@ -1,6 +1,6 @@
 //! The words of a line.
 ghost use Rattle.std.specs.Prelude.{◌≡◌, [], slice_index_or, IfOk, map};
-ghost use Rattle.trace_reader.specs.Words.{words, begins_with};
+ghost use Rattle.trace_reader.specs.Words.{words, words as words_in, begins_with, is_skipped};
 
 use std::alloc::{AllocError, Global};
 
@@ -28,4 +28,12 @@ pub fn begins_with(word: &[u8], byte: u8) -> bool
     ensures { result ≡ begins_with byte word.now }
 {
     !word.is_empty() && word[0] == byte
+}
+
+/// Whether a line of these words says nothing: it has none, or is a comment.
+pub fn is_skipped(line: &[u8], words: &[&[u8]]) -> bool
+    requires { map (λ w. w.now) words.now ≡ words_in line.now }
+    ensures { result ≡ is_skipped line.now }
+{
+    words.is_empty() || begins_with(line, b'#')
 }

@@ -1,4 +1,4 @@
-use Rattle.std.proofs.Common.{◌≡◌, length}
+use Rattle.std.proofs.Common.{◌≡◌, ◌<◌, length, arith}
 use Rattle.trace_reader.specs.Order.{more_variables}
 use Rattle.trace_reader.proofs.OrderLaws.{before_more}
 use Rattle.trace_reader.proofs.reading.next_line.Goals as goal
@@ -13,5 +13,6 @@ returns-in-Ok-body_of-clause-order c =
     let taken = c.new-body_words.ensures in
     let first = c.deref-2.ensures.value in
     cc in
+    let within : body.body.thread < c.args.head.now.threads = omega (arith, body.ensures.thread, c.threads.ensures.threads) in
     rw c.in-Ok-push.ensures.items
-    (before_more c.args.threads c.args.number (length c.args.variables.now) (length c.add_target.new.variables) c.args.read.now.items body.body c.requires.order body.ensures.thread body.ensures.order count)
+    (before_more c.args.head.now.threads c.args.number (length c.args.variables.now) (length c.add_target.new.variables) c.args.read.now.items body.body c.requires.order within body.ensures.order count)

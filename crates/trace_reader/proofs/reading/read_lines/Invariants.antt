@@ -7,9 +7,9 @@ use Rattle.trace_reader.proofs.reading.read_lines.Given as goal
 
 abbrev pub invariant-each : goal.invariant-each
 invariant-each l = record {
-  read : read_body l.threads l.number l.variables l.pixels l.read.items (lines l.rest) ≡ read_body l.threads 2 [] 0 [] (lines l.bytes);
-  number : l.number + length l.rest ≤ length l.bytes + 2;
-  order : AreBefore l.threads l.number (length l.variables) l.read.items;
+  read : read_body l.head l.number l.variables l.pixels l.read.items (lines l.rest) ≡ read_body l.head l.first [] 0 [] (lines l.bytes);
+  number : l.number + length l.rest ≤ l.first + length l.bytes;
+  order : AreBefore l.head.threads l.number (length l.variables) l.read.items;
   pixels : l.pixels ≤ most_pixel_bytes;
   few : length l.variables ≤ length l.read.items;
 }

@@ -41,7 +41,7 @@ returns-clause-state g c =
 pub returns-clause-steps : goal.returns-clause-steps
 returns-clause-steps g c =
     let gone = (bound_object c.record-was.result.context ++ bound_object c.record-was.result.draw) ++ bound_object c.record-was.result.read in
-    let s : State = state_of c.self.inside.displays c.self.inside.objects.objects c.self.inside.threads.records c.self.inside.video in
-    let a : State = state_of c.self.inside.displays c.release_three.new.objects.objects c.self.inside.threads.records c.self.inside.video in
+    let s : State = state_of c.self.inside.displays c.self.inside.objects.objects c.self.inside.threads.records c.self.inside.windows c.self.inside.video in
+    let a : State = state_of c.self.inside.displays c.release_three.new.objects.objects c.self.inside.threads.records c.self.inside.windows c.self.inside.video in
     rw (← c.self.view_is) (cheap_three s a c.args.steps.now c.release_three.new.steps (length gone) (three_few c.record-was.result.context c.record-was.result.draw c.record-was.result.read) refl
     (c.release_three.ensures.steps ∙ ap (λ os. c.args.steps.now + length gone + weight_of os) c.hold_three.ensures.objects))

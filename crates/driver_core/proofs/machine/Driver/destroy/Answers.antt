@@ -34,6 +34,6 @@ returns-clause-state g c =
 
 pub returns-clause-steps : goal.returns-clause-steps
 returns-clause-steps g c =
-    let s : State = state_of c.self.inside.displays c.self.inside.objects.objects c.self.inside.threads.records c.self.inside.video in
-    let a : State = state_of c.remove_number.new.self c.release.new.self.objects c.self.inside.threads.records c.self.inside.video in
+    let s : State = state_of c.self.inside.displays c.self.inside.objects.objects c.self.inside.threads.records c.self.inside.windows c.self.inside.video in
+    let a : State = state_of c.remove_number.new.self c.release.new.self.objects c.self.inside.threads.records c.self.inside.windows c.self.inside.video in
     rw (← c.self.view_is) (cheap_one s a c.args.steps.now c.release.new.steps c.in-Some.handle.number (ap (λ (v : DisplaysValue). v.handles) c.remove_number.ensures ∙ ap (λ n. without n c.self.inside.displays.handles) c.from.ensures) c.release.ensures.steps)

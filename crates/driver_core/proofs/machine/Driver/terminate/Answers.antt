@@ -28,7 +28,7 @@ returns-clause-state g c =
 pub returns-clause-steps : goal.returns-clause-steps
 returns-clause-steps g c =
     let hs = c.self.inside.displays.handles in let d = c.number-display.result in
-    let s : State = state_of c.self.inside.displays c.self.inside.objects.objects c.self.inside.threads.records c.self.inside.video in
-    let a : State = state_of c.end.new.self c.release_display.new.objects.objects c.self.inside.threads.records c.self.inside.video in
+    let s : State = state_of c.self.inside.displays c.self.inside.objects.objects c.self.inside.threads.records c.self.inside.windows c.self.inside.video in
+    let a : State = state_of c.end.new.self c.release_display.new.objects.objects c.self.inside.threads.records c.self.inside.windows c.self.inside.video in
     rw (← c.self.view_is) (cheap_without s a c.args.steps.now c.release_display.new.steps (is_on d) (ap (λ (v : DisplaysValue). v.handles) c.end.ensures ∙ ap (λ (v : DisplaysValue). v.handles) c.release_display.ensures.handles)
     (c.release_display.ensures.objects.steps ∙ ap (λ n. c.args.steps.now + n + weight_of c.self.inside.objects.objects) (gone_count (is_on d) hs)))
