@@ -1,8 +1,18 @@
 -- What is known where a call of EGL isn't refused, and where memory or numbers run out.
-use Rattle.std.specs.Prelude.{◌≡◌, ◌+◌, ◌<◌, ◌≤◌, pos, ◌≤ℤ◌, ◌<ℤ◌, true, false, ◌⊎◌}
+use Rattle.std.specs.Prelude.{◌≡◌, ◌+◌, ◌<◌, ◌≤◌, pos, ◌≤ℤ◌, ◌<ℤ◌, Bool, true, false, ◌⊎◌}
 use Rattle.egl_calls.specs.Calls.{CallValue}
+use Rattle.egl_calls.specs.declared.kinds.EglKind.{EglKind}
+use Rattle.egl_calls.specs.declared.kinds.EglKind.TheVariants.{CreateWindowSurface, CreatePbufferSurface, CreateContext, CreateSync}
 use Rattle.call_rules.specs.declared.egl_facts.EglFacts.{EglFacts}
 use Rattle.call_rules.specs.Arguments.{is_zero}
+
+-- the calls that make a handle
+abbrev pub makes_handle : EglKind → Bool
+makes_handle CreateWindowSurface = true
+makes_handle CreatePbufferSurface = true
+makes_handle CreateContext = true
+makes_handle CreateSync = true
+makes_handle k = false
 
 -- EGL 1.5, section 3.1: the call names an initialised display
 pub record HasDisplay (f : EglFacts) : Type 0 where

@@ -1,5 +1,5 @@
 -- When each EGL call is refused, and with which error: the first row that holds.
-use Rattle.std.specs.Prelude.{ℕ, ◌+◌, ℤ, pos, Bool, false, not, ◌&&◌, ◌||◌, ◌==◌, List, [], ◌∷◌, ◌++◌, if◌then◌else◌, nat_lt, int_lt}
+use Rattle.std.specs.Prelude.{ℕ, ◌+◌, ℤ, pos, Bool, false, not, ◌&&◌, ◌||◌, ◌==◌, List, [], ◌∷◌, ◌++◌, if◌then◌else◌, length, nat_lt, int_lt}
 use Rattle.std.specs.Ordering.{int_eq}
 use Rattle.std.specs.declared.option.Option.{Option}
 use Rattle.std.specs.declared.option.Option.TheVariants.{None}
@@ -7,10 +7,10 @@ use Rattle.egl_calls.specs.Calls.{CallValue}
 use Rattle.egl_calls.specs.declared.kinds.Kind.{Kind}
 use Rattle.egl_calls.specs.declared.kinds.Kind.TheVariants.{Egl}
 use Rattle.egl_calls.specs.declared.kinds.EglKind.{EglKind}
-use Rattle.egl_calls.specs.declared.kinds.EglKind.TheVariants.{GetError, GetDisplay, Initialize, Terminate, GetConfigs, ChooseConfig, GetConfigAttrib, CreateWindowSurface, CreatePbufferSurface, DestroySurface, QuerySurface, SurfaceAttrib, BindApi, QueryApi, CreateContext, DestroyContext, MakeCurrent, GetCurrentContext, GetCurrentSurface, GetCurrentDisplay, QueryContext, SwapBuffers, WaitClient, ReleaseThread}
+use Rattle.egl_calls.specs.declared.kinds.EglKind.TheVariants.{GetError, GetDisplay, Initialize, Terminate, GetConfigs, ChooseConfig, GetConfigAttrib, CreateWindowSurface, CreatePbufferSurface, DestroySurface, QuerySurface, SurfaceAttrib, BindApi, QueryApi, CreateContext, DestroyContext, MakeCurrent, GetCurrentContext, GetCurrentSurface, GetCurrentDisplay, QueryContext, SwapBuffers, WaitClient, ReleaseThread, CreateSync, DestroySync, ClientWaitSync, WaitSync, GetSyncAttrib}
 use Rattle.egl_calls.specs.declared.errors.EglError.{EglError}
 use Rattle.egl_calls.specs.Ranges.{unsigned}
-use Rattle.egl_names.specs.declared.codes.TheConstants.{EGL_SWAP_BEHAVIOR, EGL_BUFFER_PRESERVED, EGL_BUFFER_DESTROYED, EGL_OPENGL_ES_API, EGL_DRAW, EGL_READ}
+use Rattle.egl_names.specs.declared.codes.TheConstants.{EGL_SWAP_BEHAVIOR, EGL_BUFFER_PRESERVED, EGL_BUFFER_DESTROYED, EGL_OPENGL_ES_API, EGL_DRAW, EGL_READ, EGL_SYNC_FENCE}
 use Rattle.egl_calls.specs.declared.errors.EglError.TheVariants.{NotInitialized, BadAccess, BadAlloc, BadAttribute, BadConfig, BadContext, BadDisplay, BadMatch, BadNativeWindow, BadParameter, BadSurface}
 use Rattle.call_rules.specs.declared.egl_facts.EglFacts.{EglFacts}
 use Rattle.call_rules.specs.Rows.{Row, ◌⇒◌, first_error, unbuilt}
@@ -46,6 +46,9 @@ no_facts = record {
   is_window = false;
   is_window_used = false;
   is_drawn_to = false;
+  is_sync = false;
+  is_current = false;
+  is_current_here = false;
 }
 
 -- the row of a call that works on any display (section 3.2)
@@ -69,6 +72,12 @@ surface_rows f = display_rows f ++
 abbrev pub context_rows : EglFacts → List (Row EglError)
 context_rows f = display_rows f ++
     (not f.is_context ⇒ BadContext) ∷
+    []
+
+-- the same of a sync
+abbrev pub sync_rows : EglFacts → List (Row EglError)
+sync_rows f = display_rows f ++
+    (not f.is_sync ⇒ BadParameter) ∷
     []
 
 -- a side of a pbuffer above 2,048, the configs' EGL_MAX_PBUFFER_WIDTH and EGL_MAX_PBUFFER_HEIGHT (section 3.4)
@@ -157,6 +166,12 @@ fact_rows SwapBuffers f = surface_rows f ++
     []
 -- section 3.8: never refused
 fact_rows WaitClient f = []
+-- section 3.8.1
+fact_rows DestroySync f = sync_rows f
+fact_rows ClientWaitSync f = sync_rows f
+fact_rows GetSyncAttrib f = sync_rows f ++
+    (not f.is_attribute ⇒ BadAttribute) ∷
+    []
 -- section 3.12: never refused
 fact_rows ReleaseThread f = []
 -- a call that isn't built
@@ -185,6 +200,10 @@ current_rows c f = display_rows f ++
 abbrev pub has_code : CallValue → ℕ → ℕ → Bool
 has_code c k code = unsigned (signed c k) == code
 
+-- whether an attribute list has anything
+abbrev pub has_attributes : CallValue → Bool
+has_attributes c = nat_lt 0 (length c.list)
+
 -- the rows of each call
 abbrev pub egl_rows : EglKind → CallValue → EglFacts → List (Row EglError)
 egl_rows MakeCurrent c f = if is_release c then display_row f ∷ [] else current_rows c f
@@ -200,6 +219,17 @@ egl_rows BindApi c f =
 -- section 3.7.4
 egl_rows GetCurrentSurface c f =
     (not (has_code c 0 EGL_DRAW || has_code c 0 EGL_READ) ⇒ BadParameter) ∷
+    []
+-- section 3.8.1; the fence's attribute list is empty
+egl_rows CreateSync c f = display_rows f ++
+    (not (has_code c 1 EGL_SYNC_FENCE) ⇒ BadAttribute) ∷
+    (has_attributes c ⇒ BadAttribute) ∷
+    (not f.is_current_here ⇒ BadMatch) ∷
+    (f.are_handles_used_up ⇒ BadAlloc) ∷
+    []
+egl_rows WaitSync c f = sync_rows f ++
+    (not (is_zero c 2) ⇒ BadParameter) ∷
+    (not f.is_current ⇒ BadMatch) ∷
     []
 egl_rows k c f = fact_rows k f
 

@@ -6,7 +6,7 @@ use Rattle.egl_calls.specs.Calls.{CallValue}
 use Rattle.egl_calls.specs.declared.kinds.Kind.{Kind}
 use Rattle.egl_calls.specs.declared.kinds.Kind.TheVariants.{Gl}
 use Rattle.egl_calls.specs.declared.kinds.GlKind.{GlKind}
-use Rattle.egl_calls.specs.declared.kinds.GlKind.TheVariants.{GetError, ClearColorx, Clear, ReadPixels}
+use Rattle.egl_calls.specs.declared.kinds.GlKind.TheVariants.{GetError, Flush, Finish, ClearColorx, Clear, ReadPixels}
 use Rattle.egl_calls.specs.declared.errors.GlError.{GlError}
 use Rattle.egl_calls.specs.declared.errors.GlError.TheVariants.{InvalidEnum, InvalidValue, InvalidOperation, InvalidFramebufferOperation}
 use Rattle.egl_calls.specs.Ranges.{unsigned}
@@ -56,6 +56,9 @@ framebuffer_row f = not f.is_framebuffer_complete ⇒ InvalidFramebufferOperatio
 abbrev pub gl_rows : GlKind → CallValue → GlFacts → List (Row GlError)
 -- OpenGL ES 1.1, section 2.5: never refused
 gl_rows GetError c f = []
+-- chapter 5: never refused
+gl_rows Flush c f = []
+gl_rows Finish c f = []
 -- section 4.2.3
 gl_rows ClearColorx c f = []
 gl_rows Clear c f =

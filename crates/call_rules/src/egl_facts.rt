@@ -59,6 +59,12 @@ pub struct EglFacts {
     pub is_window_used: bool,
     /// eglSwapBuffers: the surface is the thread's draw surface.
     pub is_drawn_to: bool,
+    /// The call's sync argument is a valid sync of the display.
+    pub is_sync: bool,
+    /// eglWaitSync: a context is current to the thread.
+    pub is_current: bool,
+    /// eglCreateSync: a context of the call's display is current to the thread.
+    pub is_current_here: bool,
 }
 
 impl EglFacts {
@@ -94,6 +100,9 @@ impl EglFacts {
             is_window: false,
             is_window_used: false,
             is_drawn_to: false,
+            is_sync: false,
+            is_current: false,
+            is_current_here: false,
         }
     }
 }

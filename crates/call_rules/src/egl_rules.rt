@@ -2,17 +2,17 @@
 ghost use Rattle.std.specs.Prelude.{◌≡◌, ◌+◌, nat_lt, true, not, ◌<◌};
 ghost use Rattle.call_rules.specs.Arguments.{is_zero};
 ghost use Rattle.egl_calls.specs.Kinds.{is_built};
-ghost use Rattle.egl_calls.specs.declared.kinds.EglKind.TheVariants.{CreateWindowSurface, CreatePbufferSurface, SurfaceAttrib, CreateContext, MakeCurrent};
-ghost use Rattle.egl_calls.specs.declared.errors.EglError.TheVariants.{NotInitialized, BadSurface, BadContext};
+ghost use Rattle.egl_calls.specs.declared.kinds.EglKind.TheVariants.{CreateWindowSurface, CreatePbufferSurface, SurfaceAttrib, CreateContext, MakeCurrent, CreateSync, WaitSync};
+ghost use Rattle.egl_calls.specs.declared.errors.EglError.TheVariants.{NotInitialized, BadSurface, BadContext, BadParameter};
 ghost use Rattle.call_rules.specs.Rows.{first_error, ◌⇒◌};
-ghost use Rattle.call_rules.specs.EglRules.{egl_refusal, egl_rows, fact_rows, display_row, current_rows, has_code, is_wrong, is_long, is_later_version, is_supported_version};
+ghost use Rattle.call_rules.specs.EglRules.{egl_refusal, egl_rows, fact_rows, display_row, current_rows, has_attributes, has_code, is_wrong, is_long, is_later_version, is_supported_version};
 
 use crate::egl_facts::EglFacts;
 use crate::rows::first_error;
 use egl_calls::{Call, EglError, EglKind, Kind, unsigned};
 use egl_names::codes::{
     EGL_BUFFER_DESTROYED, EGL_BUFFER_PRESERVED, EGL_DRAW, EGL_OPENGL_ES_API, EGL_READ,
-    EGL_SWAP_BEHAVIOR,
+    EGL_SWAP_BEHAVIOR, EGL_SYNC_FENCE,
 };
 
 fn is_long(side: i64) -> bool
@@ -56,6 +56,13 @@ fn is_zero(call: &Call, place: usize) -> bool
     call.args[place] == 0
 }
 
+/// Whether an attribute list has anything.
+fn has_attributes(call: &Call) -> bool
+    ensures { result ≡ has_attributes call.now }
+{
+    call.list.len() > 0
+}
+
 /// Whether a number is given at a place that isn't what it has to be.
 fn is_wrong(call: &Call, place: usize, is_valid: bool) -> bool
     requires { place < 8 }
@@ -88,6 +95,12 @@ fn no_context(facts: &EglFacts) -> (bool, EglError)
     ensures { result ≡ (not facts.now.is_context ⇒ BadContext) }
 {
     (!facts.is_context, EglError::BadContext)
+}
+
+fn no_sync(facts: &EglFacts) -> (bool, EglError)
+    ensures { result ≡ (not facts.now.is_sync ⇒ BadParameter) }
+{
+    (!facts.is_sync, EglError::BadParameter)
 }
 
 /// Section 3.5.1.
@@ -195,6 +208,33 @@ fn make_current(call: &Call, facts: &EglFacts) -> Option<EglError>
     make_some_current(call, facts)
 }
 
+/// Section 3.8.1.
+fn create_sync(call: &Call, facts: &EglFacts) -> Option<EglError>
+    ensures { result ≡ first_error (egl_rows CreateSync call.now facts.now) }
+{
+    first_error(&[
+        no_display(facts),
+        uninitialized(facts),
+        (!has_code(call, 1, EGL_SYNC_FENCE), EglError::BadAttribute),
+        (has_attributes(call), EglError::BadAttribute),
+        (!facts.is_current_here, EglError::BadMatch),
+        (facts.are_handles_used_up, EglError::BadAlloc),
+    ])
+}
+
+/// Section 3.8.1.2.
+fn wait_sync(call: &Call, facts: &EglFacts) -> Option<EglError>
+    ensures { result ≡ first_error (egl_rows WaitSync call.now facts.now) }
+{
+    first_error(&[
+        no_display(facts),
+        uninitialized(facts),
+        no_sync(facts),
+        (!is_zero(call, 2), EglError::BadParameter),
+        (!facts.is_current, EglError::BadMatch),
+    ])
+}
+
 /// The error that a call of EGL answers, and None where it isn't refused: a table of the rows of each call, in the order of the tests. A call of another interface has no row.
 #[tactic(auto, unfolding(crate::specs::EglRules::egl_refusal))]
 pub fn egl_refusal(call: &Call, facts: &EglFacts) -> Option<EglError>
@@ -262,6 +302,20 @@ pub fn egl_refusal(call: &Call, facts: &EglFacts) -> Option<EglError>
         ]),
         Kind::Egl(EglKind::WaitClient) => None,
         Kind::Egl(EglKind::ReleaseThread) => None,
+        Kind::Egl(EglKind::CreateSync) => create_sync(call, facts),
+        Kind::Egl(EglKind::DestroySync) => {
+            first_error(&[no_display(facts), uninitialized(facts), no_sync(facts)])
+        }
+        Kind::Egl(EglKind::ClientWaitSync) => {
+            first_error(&[no_display(facts), uninitialized(facts), no_sync(facts)])
+        }
+        Kind::Egl(EglKind::WaitSync) => wait_sync(call, facts),
+        Kind::Egl(EglKind::GetSyncAttrib) => first_error(&[
+            no_display(facts),
+            uninitialized(facts),
+            no_sync(facts),
+            (!facts.is_attribute, EglError::BadAttribute),
+        ]),
         Kind::Egl(_) => unreachable!(),
         Kind::Gl(_) | Kind::Own(_) => None,
     }

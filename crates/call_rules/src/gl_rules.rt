@@ -82,6 +82,8 @@ pub fn gl_refusal(call: &Call, facts: &GlFacts) -> Option<GlError>
 {
     match call.kind {
         Kind::Gl(GlKind::GetError) => None,
+        Kind::Gl(GlKind::Flush) => None,
+        Kind::Gl(GlKind::Finish) => None,
         Kind::Gl(GlKind::ClearColorx) => None,
         Kind::Gl(GlKind::Clear) => first_error(&[
             (!is_clear_mask(call.args[0]), GlError::InvalidValue),

@@ -2,7 +2,8 @@
 use crate::{EglFacts, GlFacts, egl_refusal, gl_refusal};
 use egl_calls::{Call, EglError, EglKind, GlError, GlKind, Kind, Numbers, is_built};
 use egl_names::codes::{
-    GL_ALPHA, GL_RGB, GL_RGBA, GL_UNSIGNED_BYTE, GL_UNSIGNED_SHORT_4_4_4_4, GL_UNSIGNED_SHORT_5_6_5,
+    EGL_SYNC_FENCE, GL_ALPHA, GL_RGB, GL_RGBA, GL_UNSIGNED_BYTE, GL_UNSIGNED_SHORT_4_4_4_4,
+    GL_UNSIGNED_SHORT_5_6_5,
 };
 use std::alloc::Global;
 use std::process::Abort;
@@ -36,6 +37,9 @@ const VALID: EglFacts = EglFacts {
     is_window: true,
     is_window_used: false,
     is_drawn_to: true,
+    is_sync: true,
+    is_current: true,
+    is_current_here: true,
 };
 
 /// What differs from those facts.
@@ -65,12 +69,16 @@ enum But {
     NoWindow,
     WindowUsed,
     NotDrawnTo,
+    NoSync,
+    NoneCurrent,
+    NoneCurrentHere,
 }
 
 use But::{
     BadList, ContextElsewhere, Height, Incompatible, Largest, LastHandle, NewBytes, NoAttribute,
-    NoConfig, NoContext, NoDisplay, NoDraw, NoRead, NoShare, NoSurface, NoWindow, NoWindowConfig,
-    NotDrawnTo, NotInitialized, ShareElsewhere, SurfaceElsewhere, Version, Width, WindowUsed,
+    NoConfig, NoContext, NoDisplay, NoDraw, NoRead, NoShare, NoSurface, NoSync, NoWindow,
+    NoWindowConfig, NoneCurrent, NoneCurrentHere, NotDrawnTo, NotInitialized, ShareElsewhere,
+    SurfaceElsewhere, Version, Width, WindowUsed,
 };
 
 fn change(facts: &mut EglFacts, but: But) {
@@ -102,6 +110,9 @@ fn change(facts: &mut EglFacts, but: But) {
         NoWindow => facts.is_window = false,
         WindowUsed => facts.is_window_used = true,
         NotDrawnTo => facts.is_drawn_to = false,
+        NoSync => facts.is_sync = false,
+        NoneCurrent => facts.is_current = false,
+        NoneCurrentHere => facts.is_current_here = false,
     }
 }
 
@@ -313,13 +324,63 @@ static QUERY_CONTEXT: [EglRow; 5] = [
     (&[NoAttribute], Some(EglError::BadAttribute)),
 ];
 
+const FENCE: u32 = EGL_SYNC_FENCE as u32;
+
+static CREATE_FENCE: [EglRow; 6] = [
+    (&[NoSync, NoneCurrent], None),
+    (&[NoDisplay, NotInitialized], Some(EglError::BadDisplay)),
+    (
+        &[NotInitialized, NoneCurrentHere],
+        Some(EglError::NotInitialized),
+    ),
+    (&[NoneCurrentHere], Some(EglError::BadMatch)),
+    (&[NoneCurrentHere, LastHandle], Some(EglError::BadMatch)),
+    (&[LastHandle], Some(EglError::BadAlloc)),
+];
+
+/// Of a type that isn't a fence's.
+static CREATE_OTHER_SYNC: [EglRow; 3] = [
+    (&[NotInitialized], Some(EglError::NotInitialized)),
+    (&[], Some(EglError::BadAttribute)),
+    (&[NoneCurrentHere], Some(EglError::BadAttribute)),
+];
+
+static ANY_SYNC: [EglRow; 5] = [
+    (&[NoneCurrent, NoneCurrentHere, LastHandle], None),
+    (&[NoDisplay, NotInitialized], Some(EglError::BadDisplay)),
+    (&[NotInitialized, NoSync], Some(EglError::NotInitialized)),
+    (&[NoSync], Some(EglError::BadParameter)),
+    (&[NoSync, NoneCurrent], Some(EglError::BadParameter)),
+];
+
+static WAIT_SYNC: [EglRow; 4] = [
+    (&[NoneCurrentHere], None),
+    (&[NotInitialized, NoSync], Some(EglError::NotInitialized)),
+    (&[NoSync, NoneCurrent], Some(EglError::BadParameter)),
+    (&[NoneCurrent], Some(EglError::BadMatch)),
+];
+
+/// With flags, of which there are none.
+static WAIT_SYNC_FLAGS: [EglRow; 3] = [
+    (&[], Some(EglError::BadParameter)),
+    (&[NoneCurrent], Some(EglError::BadParameter)),
+    (&[NotInitialized], Some(EglError::NotInitialized)),
+];
+
+static GET_SYNC_ATTRIB: [EglRow; 4] = [
+    (&[], None),
+    (&[NotInitialized, NoSync], Some(EglError::NotInitialized)),
+    (&[NoSync, NoAttribute], Some(EglError::BadParameter)),
+    (&[NoAttribute], Some(EglError::BadAttribute)),
+];
+
 /// Calls that are never refused.
 static NO_ROW: [EglRow; 2] = [
     (&[], None),
     (&[NoDisplay, NoConfig, NoDraw, LastHandle], None),
 ];
 
-fn egl_call(alloc: Global, kind: EglKind, args: [i32; 4]) -> Call {
+fn egl_call(alloc: Global, kind: EglKind, args: [u32; 4]) -> Call {
     let [a, b, c, d] = args;
     Call {
         kind: Kind::Egl(kind),
@@ -349,7 +410,7 @@ fn expect_egl(rt: &impl Abort, call: &Call, rows: &[EglRow]) {
 #[test]
 fn first_egl_error_is_answered(rt: HostRuntime) {
     let alloc = rt.alloc();
-    let table: [(EglKind, [i32; 4], &[EglRow]); 25] = [
+    let table: [(EglKind, [u32; 4], &[EglRow]); 32] = [
         (EglKind::GetError, [0; 4], &NO_ROW),
         (EglKind::Initialize, [1, 0, 0, 0], &ANY_DISPLAY),
         (EglKind::Terminate, [1, 0, 0, 0], &ANY_DISPLAY),
@@ -375,6 +436,13 @@ fn first_egl_error_is_answered(rt: HostRuntime) {
         (EglKind::SwapBuffers, [1, 3, 0, 0], &SWAP_BUFFERS),
         (EglKind::WaitClient, [0; 4], &NO_ROW),
         (EglKind::ReleaseThread, [0; 4], &NO_ROW),
+        (EglKind::CreateSync, [1, FENCE, 0, 0], &CREATE_FENCE),
+        (EglKind::CreateSync, [1, 0, 0, 0], &CREATE_OTHER_SYNC),
+        (EglKind::DestroySync, [1, 5, 0, 0], &ANY_SYNC),
+        (EglKind::ClientWaitSync, [1, 5, 0, 0], &ANY_SYNC),
+        (EglKind::WaitSync, [1, 5, 0, 0], &WAIT_SYNC),
+        (EglKind::WaitSync, [1, 5, 1, 0], &WAIT_SYNC_FLAGS),
+        (EglKind::GetSyncAttrib, [1, 5, 0, 0], &GET_SYNC_ATTRIB),
     ];
     for (kind, args, rows) in table {
         expect_egl(&rt, &egl_call(alloc, kind, args), rows);

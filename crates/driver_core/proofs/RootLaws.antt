@@ -1,13 +1,12 @@
 -- Roots come and go.
-use Rattle.std.proofs.Common.{◌≡◌, ◌≢◌, ℕ, zero, suc, ◌+◌, ◌*◌, ◌<◌, ◌≤◌, Bool, true, false, not, cond, List, [], ◌∷◌, ◌++◌, length, length-append, get_or, set, take, drop, map, refl, sym, ap, ◌∙◌, arith, inl, inr, ◌⊎◌, replicate, Option, None, Some, append_assoc}
+use Rattle.std.proofs.Common.{◌≡◌, ◌≢◌, ℕ, zero, suc, ◌+◌, ◌*◌, ◌<◌, ◌≤◌, Bool, true, false, not, cond, List, [], ◌∷◌, ◌++◌, length, length-append, get_or, set, map, refl, sym, ap, ◌∙◌, arith, inl, inr, ◌⊎◌, replicate, Option, None, Some}
 use Rattle.display_table.proofs.RiseLaws.{only_one}
 use Rattle.display_table.specs.Handles.{RiseFrom}
 use Rattle.display_table.specs.Handles as numbered
-use Rattle.std.proofs.lemmas.Bool.{cases_eq, cases_lt, cond-true, eq-eqb}
-use Rattle.std.proofs.lemmas.List.{map-append, length-map, take_more, set_past}
-use Rattle.std.proofs.lemmas.List.Sums.{sum_by-set, sum_by-cons, length-filter}
-use Rattle.std.proofs.lemmas.List.Elements.{filter-append}
-use Rattle.std.specs.List.{flat_map, sum_by, filter, count_by}
+use Rattle.std.proofs.lemmas.Bool.{cases_eq, cases_lt}
+use Rattle.std.proofs.lemmas.List.{map-append, length-map, set_past}
+use Rattle.std.proofs.lemmas.List.Sums.{sum_by-set, sum_by-cons}
+use Rattle.std.specs.List.{flat_map, sum_by, filter}
 use Rattle.std.specs.Prelude.{find, IfSome, option_to_list, ◌==◌}
 use Rattle.display_table.specs.declared.handles.Handle.{Handle}
 use Rattle.egl_model.specs.declared.records.Bound.{Bound}
@@ -220,6 +219,22 @@ error_same n hs ts t r e is = elim (cases_lt t (length ts)) [
 
 pub bind_holds : (hs : List Handle) (ts : List ThreadRecord) (t : ℕ) (was : ThreadRecord) (context draw read : Option Bound) (holds : List ℕ) → t < length ts → was ≡ get_or ts t initial → AreHolds ((bound_object read ++ (bound_object draw ++ bound_object context)) ++ roots_of hs ts) holds → AreHolds (((bound_object was.context ++ bound_object was.draw) ++ bound_object was.read) ++ roots_of hs (set ts t (record was { context = context; draw = draw; read = read }))) holds
 bind_holds hs ts t was context draw read holds l e are n = omega (arith, are n, roots_bind n hs ts t was context draw read l e, times_append n (bound_object read ++ (bound_object draw ++ bound_object context)) (roots_of hs ts), times_append n ((bound_object was.context ++ bound_object was.draw) ++ bound_object was.read) (roots_of hs (set ts t (record was { context = context; draw = draw; read = read }))))
+
+-- the same where what is bound stays, and the wait is another
+roots_wait : (n : ℕ) (hs : List Handle) (ts : List ThreadRecord) (t : ℕ) (was : ThreadRecord) (x : Option ℕ) → t < length ts → was ≡ get_or ts t initial → times n (option_to_list was.wait) + times n (roots_of hs (set ts t (record was { wait = x }))) ≡ times n (option_to_list x) + times n (roots_of hs ts)
+roots_wait n hs ts t was x l e =
+    let now : ThreadRecord = record was { wait = x } in
+    omega (arith, roots_set n hs ts t now l, ap (λ r. times n (held_by r)) (sym e), parts n was, parts n now)
+
+-- a wait begins, and holds its sync
+pub wait_begins : (hs : List Handle) (ts : List ThreadRecord) (t : ℕ) (was : ThreadRecord) (sync : ℕ) (holds : List ℕ) → t < length ts → was ≡ get_or ts t initial → was.wait ≡ None → AreHolds (sync ∷ roots_of hs ts) holds → AreHolds (roots_of hs (set ts t (record was { wait = Some sync }))) holds
+wait_begins hs ts t was sync holds l e w are n = omega (arith, are n, roots_wait n hs ts t was (Some sync) l e, ap (λ o. times n (option_to_list o)) w, times_none n, times_append n (sync ∷ []) (roots_of hs ts))
+
+-- it ends, and the sync may be let go
+pub wait_ends : (hs : List Handle) (ts : List ThreadRecord) (t : ℕ) (was : ThreadRecord) (sync : ℕ) (holds : List ℕ) → t < length ts → was ≡ get_or ts t initial → was.wait ≡ Some sync → AreHolds (roots_of hs ts) holds → AreHolds (sync ∷ roots_of hs (set ts t (record was { wait = None }))) holds
+wait_ends hs ts t was sync holds l e w are n =
+    let now : ThreadRecord = record was { wait = None } in
+    omega (arith, are n, roots_wait n hs ts t was None l e, ap (λ o. times n (option_to_list o)) w, times_none n, times_append n (sync ∷ []) (roots_of hs (set ts t now)))
 
 pub three_few : (a b c : Option Bound) → length ((bound_object a ++ bound_object b) ++ bound_object c) ≤ 3
 three_few a b c = omega (arith, length-append (bound_object a ++ bound_object b) (bound_object c), length-append (bound_object a) (bound_object b), bound_few a, bound_few b, bound_few c)

@@ -8,6 +8,7 @@ mod contexts;
 mod currents;
 mod displays;
 mod drawing;
+mod flushes;
 mod handles;
 mod machine;
 mod make_current;
@@ -18,7 +19,9 @@ mod refusals;
 mod replies;
 mod stepping;
 mod surfaces;
+mod syncs;
 mod threads;
+mod waits;
 mod windows;
 
 pub use machine::{Driver, Run};

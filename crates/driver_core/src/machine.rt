@@ -5,7 +5,7 @@ ghost use Rattle.surface_store.specs.Windows.{windows_ok};
 ghost use Rattle.egl_model.specs.Windows.{front_of};
 ghost use Rattle.egl_model.specs.State.{opening, set_error, record_of, object_at};
 ghost use Rattle.display_table.specs.declared.handles.Handle.{Handle};
-ghost use Rattle.egl_model.specs.Sweep.{census, roots, settled, sweep, tidied};
+ghost use Rattle.egl_model.specs.Sweep.{census, roots, sweep};
 ghost use Rattle.ref_store.specs.Counts.{times};
 ghost use Rattle.object_table.specs.Tables.{references_to};
 ghost use Rattle.driver_core.specs.Machine.{Machine};
@@ -131,20 +131,11 @@ impl Driver {
         self.threads.set(thread, kept);
     }
 
-    /// Nothing is left that no chain of references reaches, and there is no fence to signal. This is a law: there is nothing to run.
+    /// Nothing is left that no chain of references reaches. This is a law: there is nothing to run.
     pub(crate) fn settled(&self)
-        ensures tidied { tidied self.now.state ≡ self.now.state }
-        ensures swept { sweep self.now.state ≡ self.now.state }
+        ensures { sweep self.now.state ≡ self.now.state }
     {
         self.objects.settled();
-        self.objects.has_no_fences();
-    }
-
-    /// There is no fence to signal. This is a law.
-    pub(crate) fn unfenced(&self)
-        ensures { settled self.now.state ≡ self.now.state }
-    {
-        self.objects.has_no_fences();
     }
 
     /// No two handles have one number. This is a law.

@@ -4,10 +4,11 @@ ghost use Rattle.egl_calls.specs.Kinds.{is_built};
 ghost use Rattle.egl_calls.specs.Ranges.{IsNumber};
 ghost use Rattle.egl_calls.specs.declared.kinds.Kind.TheVariants.{Own as OwnCall};
 ghost use Rattle.egl_model.specs.Step.{own_step};
+ghost use Rattle.driver_core.specs.Memory.{own_takes_no_memory};
 
 use crate::machine::Driver;
-use crate::replies::{answered, read};
-use egl_calls::{Call, NoMemory, Numbers, OwnKind, ReplyPair};
+use crate::replies::{answered, bare, read, valued};
+use egl_calls::{Call, NoMemory, Numbers, Outcome, OwnKind, ReplyPair};
 use std::alloc::Global;
 
 /// Numbers as a list of a reply: for want of memory where one is more than a reply can have.
@@ -37,8 +38,11 @@ impl Driver {
         requires { is_built (OwnCall kind) ≡ true }
         ensures reply { IfOk result (λ r. r.reply ≡ (own_step self.now.state thread kind call.now).reply) }
         ensures state { (own_step self.now.state thread kind call.now).state ≡ self.now.state }
+        ensures memory { own_takes_no_memory kind ≡ true → IsOk result }
     {
         match kind {
+            OwnKind::Post | OwnKind::Await | OwnKind::Halt => Ok(valued(alloc, 0)),
+            OwnKind::WaitEnd => Ok(bare(alloc, Outcome::NoWait)),
             OwnKind::ReadFront => read(alloc, self.read_front(alloc, call)?),
             OwnKind::Census => answered(alloc, 0, numbers_of(alloc, &self.census())?),
             _ => unreachable!(),

@@ -2,7 +2,7 @@
 ghost use Rattle.std.specs.Prelude.{◌≡◌, ◌<◌, true, None, Some, is_some, IfOk, IsOk, OnOk, OnErr, pos, false, All, slice_index_or};
 ghost use Rattle.driver_core.specs.Costs.{IsCheap, IsBounded};
 ghost use Rattle.driver_core.specs.Releases.{releases};
-ghost use Rattle.egl_model.specs.Sweep.{tidied};
+ghost use Rattle.egl_model.specs.Sweep.{sweep};
 ghost use Rattle.driver_core.specs.Memory.{egl_takes_no_memory, gl_takes_no_memory, takes_no_memory, is_bare, is_bare_on};
 ghost use Rattle.egl_calls.specs.Kinds.{is_built};
 ghost use Rattle.egl_calls.specs.declared.kinds.Kind.TheVariants.{Egl as EglCall, Gl as GlCall};
@@ -16,7 +16,7 @@ ghost use Rattle.egl_model.specs.EglEffects.{egl_effect};
 ghost use Rattle.egl_model.specs.GlEffects.{gl_effect};
 ghost use Rattle.egl_model.specs.Step.{egl_step, gl_step, step, step_by, done};
 ghost use Rattle.egl_model.specs.Currents.{current_context};
-ghost use Rattle.egl_model.specs.State.{State};
+ghost use Rattle.egl_model.specs.State.{State, record_of};
 ghost use Rattle.egl_model.specs.Sound.{IsSound};
 ghost use Rattle.egl_model.specs.Hidden.{hide};
 ghost use Rattle.driver_core.specs.Machine.{outs};
@@ -64,6 +64,7 @@ impl Driver {
         requires built { is_built (EglCall kind) ≡ true }
         requires allowed { egl_refusal self.old.state thread kind call.now ≡ None }
         requires keeps { releases kind ≡ false }
+        requires goes { (record_of self.old.state thread).wait ≡ None }
         ensures reply { IfOk result (λ r. r.reply ≡ done (egl_effect self.old.state thread kind call.now)) }
         ensures state { OnOk result (self.new ≡ record self.old { state = (egl_effect self.old.state thread kind call.now).state }) }
         ensures err { OnErr result (self.new ≡ self.old) }
@@ -95,9 +96,20 @@ impl Driver {
             EglKind::QueryContext => Ok(valued(alloc, self.context_value(call).unwrap_or(0))),
             EglKind::SwapBuffers => {
                 self.swap(thread)?;
+                self.flush(thread);
                 Ok(valued(alloc, 1))
             }
-            EglKind::WaitClient => Ok(valued(alloc, 1)),
+            EglKind::WaitClient => {
+                self.flush(thread);
+                Ok(valued(alloc, 1))
+            }
+            EglKind::CreateSync => Ok(valued(alloc, self.create_sync(thread, call)?)),
+            EglKind::ClientWaitSync => Ok(self.client_wait(alloc, thread, call)),
+            EglKind::WaitSync => {
+                self.serve(call);
+                Ok(valued(alloc, 1))
+            }
+            EglKind::GetSyncAttrib => Ok(valued(alloc, self.sync_value(call).unwrap_or(0))),
             _ => unreachable!(),
         }
     }
@@ -115,8 +127,9 @@ impl Driver {
         requires kind { call.now.kind ≡ EglCall kind }
         requires built { is_built (EglCall kind) ≡ true }
         requires allowed { egl_refusal self.old.state thread kind call.now ≡ None }
+        requires goes { (record_of self.old.state thread).wait ≡ None }
         ensures reply { IfOk result (λ r. r.reply ≡ done (egl_effect self.old.state thread kind call.now)) }
-        ensures state { OnOk result (self.new ≡ record self.old { state = tidied (egl_effect self.old.state thread kind call.now).state }) }
+        ensures state { OnOk result (self.new ≡ record self.old { state = sweep (egl_effect self.old.state thread kind call.now).state }) }
         ensures steps { IsCheap self.old.state self.new.state steps.old steps.new }
         ensures err { OnErr result (self.new ≡ self.old) }
         ensures memory { egl_takes_no_memory kind ≡ true → IsOk result }
@@ -124,27 +137,26 @@ impl Driver {
         match kind {
             EglKind::Terminate => {
                 self.terminate(call, steps);
-                self.unfenced();
                 Ok(valued(alloc, 1))
             }
             EglKind::MakeCurrent => {
                 self.make_current(thread, call, steps);
-                self.unfenced();
                 Ok(valued(alloc, 1))
             }
             EglKind::DestroySurface => {
                 self.destroy(call, HandleKind::Surface, steps);
-                self.unfenced();
                 Ok(valued(alloc, 1))
             }
             EglKind::DestroyContext => {
                 self.destroy(call, HandleKind::Context, steps);
-                self.unfenced();
+                Ok(valued(alloc, 1))
+            }
+            EglKind::DestroySync => {
+                self.destroy(call, HandleKind::Sync, steps);
                 Ok(valued(alloc, 1))
             }
             EglKind::ReleaseThread => {
                 self.release(thread, steps);
-                self.unfenced();
                 Ok(valued(alloc, 1))
             }
             _ => {
@@ -155,7 +167,7 @@ impl Driver {
         }
     }
 
-    #[tactic(auto, using(egl_model::proofs::StepLaws::egl_refused, crate::proofs::StepLaws::egl_done_tidied))]
+    #[tactic(auto, using(egl_model::proofs::StepLaws::egl_refused, crate::proofs::StepLaws::egl_done_swept))]
     fn egl_step<L: Ledger>(
         &mut self,
         alloc: Global,
@@ -167,6 +179,7 @@ impl Driver {
         requires made { thread < self.old.made }
         requires kind { call.now.kind ≡ EglCall kind }
         requires built { is_built (EglCall kind) ≡ true }
+        requires goes { (record_of self.old.state thread).wait ≡ None }
         ensures reply { IfOk result (λ r. r.reply ≡ (egl_step self.old.state thread kind call.now).reply) }
         ensures state { OnOk result (self.new ≡ record self.old { state = (egl_step self.old.state thread kind call.now).state }) }
         ensures steps { IsCheap self.old.state self.new.state steps.old steps.new }
@@ -209,6 +222,10 @@ impl Driver {
             GlKind::GetError | GlKind::ClearColorx => {
                 let value = self.apply(alloc, context, call);
                 Ok(valued(alloc, value))
+            }
+            GlKind::Flush | GlKind::Finish => {
+                self.flush_context(context);
+                Ok(valued(alloc, 0))
             }
             GlKind::Clear => {
                 self.clear(thread, context, call)?;
@@ -262,6 +279,7 @@ impl Driver {
     ) -> Result<ReplyPair, NoMemory>
         requires made { thread < self.old.made }
         requires built { is_built call.now.kind ≡ true }
+        requires goes { (record_of self.old.state thread).wait ≡ None }
         ensures reply { IfOk result (λ r. r.reply ≡ (step_by self.old.state thread call.now.kind call.now).reply) }
         ensures state { OnOk result (self.new ≡ record self.old { state = (step_by self.old.state thread call.now.kind call.now).state }) }
         ensures steps { IsCheap self.old.state self.new.state steps.old steps.new }
@@ -277,7 +295,7 @@ impl Driver {
     }
 
     /// The same of any thread.
-    #[tactic(auto, using(crate::proofs::StepLaws::step_held, egl_model::proofs::StepLaws::step_goes))]
+    #[tactic(auto, using(egl_model::proofs::StepLaws::step_waits, egl_model::proofs::StepLaws::step_goes))]
     fn step_in<L: Ledger>(
         &mut self,
         alloc: Global,
@@ -294,10 +312,10 @@ impl Driver {
         ensures memory { takes_no_memory call.now.kind ≡ true → IsOk result }
         ensures bare { is_bare self.old.state thread call.now.kind call.now ≡ true → IsOk result }
     {
-        if self.record(thread).wait.is_some() {
-            return Ok(bare(alloc, Outcome::InWait));
+        match self.record(thread).wait {
+            Some(sync) => Ok(self.wait_step(alloc, thread, sync, call, steps)),
+            None => self.step_by(alloc, thread, call, steps),
         }
-        self.step_by(alloc, thread, call, steps)
     }
 
     /// Plays one call of a thread, and answers its reply. Every refusal of the standard is a reply, and takes no memory. Where memory runs out nothing has changed.

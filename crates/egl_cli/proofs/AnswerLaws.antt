@@ -3,12 +3,10 @@ use Rattle.std.proofs.Common.{◌≡◌, ℕ, List, ap, Ok, Err}
 use Rattle.trace_reader.specs.declared.traces.Reason.{Reason}
 use Rattle.trace_reader.specs.Traces.{TraceValue}
 use Rattle.trace_reader.specs.Grammar.{trace}
-use Rattle.trace_model.specs.Serial.{serial}
-use Rattle.trace_model.specs.Recording.{recording}
-use Rattle.egl_cli.specs.declared.statuses.Status.TheVariants.{Ok as Fine, Malformed}
-use Rattle.egl_cli.specs.Answers.{trace_answer, played_answer, malformed_text}
+use Rattle.egl_cli.specs.declared.statuses.Status.TheVariants.{Malformed}
+use Rattle.egl_cli.specs.Answers.{trace_answer, run_answer, played_answer, malformed_text}
 
-pub answer_ok : (b : List ℕ) (t : TraceValue) → trace b ≡ Ok t → trace_answer b ≡ record { status = Fine; text = recording t (serial t) }
+pub answer_ok : (b : List ℕ) (t : TraceValue) → trace b ≡ Ok t → trace_answer b ≡ run_answer t
 unfolding trace_answer
 answer_ok b t e = ap played_answer e
 

@@ -1,5 +1,5 @@
 pub mod TextLaws
 pub mod ConfigLaws
-pub mod SessionLaws
+pub mod StalledLaws
 pub mod AnswerLaws
 pub mod SaysLaws

@@ -11,17 +11,21 @@ use Rattle.trace_reader.specs.declared.traces.TraceError.TheVariants.{Malformed 
 use Rattle.trace_reader.specs.Traces.{TraceValue}
 use Rattle.trace_reader.specs.Reading.{Gives}
 use Rattle.trace_reader.specs.Grammar.{trace}
-use Rattle.trace_model.specs.Serial.{serial}
-use Rattle.trace_model.specs.Recording.{recording}
-use Rattle.trace_model.proofs.SerialLaws.{serial_legal, serial_follows}
+use Rattle.egl_calls.specs.declared.entries.Entry.{Entry}
+use Rattle.trace_reader.specs.Order.{IsTrace}
+use Rattle.trace_model.specs.Serial.{state_behind, serial}
+use Rattle.trace_model.specs.Stalled.{is_stalled}
+use Rattle.trace_model.proofs.SerialLaws.{serial_legal}
+use Rattle.trace_model.proofs.FollowsLaws.{follows_serial}
+use Rattle.trace_model.proofs.OutcomeLaws.{not_stalled}
 use Rattle.egl_cli.specs.declared.statuses.Status.{Status}
-use Rattle.egl_cli.specs.declared.statuses.Status.TheVariants.{Ok as Fine, Usage, ReadFault, Malformed, WriteFault, NoMemory, TooLong}
+use Rattle.egl_cli.specs.declared.statuses.Status.TheVariants.{Ok as Fine, Usage, ReadFault, Malformed, WriteFault, Stalled, NoMemory, TooLong}
 use Rattle.egl_cli.specs.declared.answers.Answer.{Answer}
 use Rattle.egl_cli.specs.declared.commands.Command.{Command}
-use Rattle.egl_cli.specs.declared.commands.Command.TheVariants.{Serial, Configs}
+use Rattle.egl_cli.specs.declared.commands.Command.TheVariants.{Serial}
 use Rattle.egl_cli.proofs.AnswerLaws.{answer_ok, answer_malformed}
-use Rattle.egl_cli.specs.Answers.{serial_answer, trace_answer, played_answer, malformed_text, usage_text, read_fault_text, too_long_text, most_input}
-use Rattle.egl_cli.specs.Says.{WhereTold, Wrote, Told, WantsMemory, IsAnswered, IsMeant, WentWell, Says, IsRecorded, IsHeadline}
+use Rattle.egl_cli.specs.Answers.{serial_answer, trace_answer, journal_answer, run_answer, played_answer, malformed_text, usage_text, read_fault_text, too_long_text, most_input}
+use Rattle.egl_cli.specs.Says.{WhereTold, Wrote, Told, WantsMemory, IsAnswered, IsMeant, Says, IsPlayOf, IsRecorded, IsRecordedStalled, IsHeadline, IsStalledHeadline}
 
 -- ---- The answer to bytes within the limit and past it.
 within : (b : List ℕ) → length b ≤ most_input → serial_answer b ≡ trace_answer b
@@ -77,9 +81,19 @@ module _ (left rest : Option (List ℕ)) (source_failed : Type 0) (before after 
   wanted : (command : Option Command) (result : Status) → ((result ≡ NoMemory) × Took before [] after) → Promises command result
   wanted command result w = subst (Promises command) (sym w.0) w.1
 
+  -- the answer to a journal was told
+  says_journal : (t : TraceValue) (journal : List Entry) (stalled : Bool) (result : Status) → AtEnd rest → WhereTold left (λ b. serial_answer b ≡ journal_answer t journal stalled) →
+      Written (journal_answer t journal stalled).text (journal_answer t journal stalled).status result → Promises (Some Serial) result
+  says_journal t journal false result e w (inl q) = subst (Promises (Some Serial)) (sym q.0) (e, answered left before after (journal_answer t journal false) w q.1)
+  says_journal t journal true result e w (inl q) = subst (Promises (Some Serial)) (sym q.0) (refl, e, answered left before after (journal_answer t journal true) w q.1)
+  says_journal t journal stalled result e w (inr q) = ended (Some Serial) (journal_answer t journal stalled).text result (meant left source_failed (journal_answer t journal stalled) w) q
+
+  says_run : (t : TraceValue) (result : Status) → AtEnd rest → WhereTold left (λ b. serial_answer b ≡ run_answer t) → Written (run_answer t).text (run_answer t).status result → Promises (Some Serial) result
+  unfolding run_answer
+  says_run t result e w q = says_journal t (serial t) (is_stalled t (serial t) (state_behind t (serial t))) result e w q
+
   says_played : (r : Result TraceValue Defect) (result : Status) → AtEnd rest → WhereTold left (λ b. serial_answer b ≡ played_answer r) → Written (played_answer r).text (played_answer r).status result → Promises (Some Serial) result
-  says_played (Ok t) result e w (inl q) = subst (Promises (Some Serial)) (sym q.0) (e, answered left before after (played_answer (Ok t)) w q.1)
-  says_played (Ok t) result e w (inr q) = ended (Some Serial) (played_answer (Ok t)).text result (meant left source_failed (played_answer (Ok t)) w) q
+  says_played (Ok t) result e w q = says_run t result e w q
   says_played (Err d) result e w (inl q) = subst (Promises (Some Serial)) (sym q.0) (refl, e, answered left before after (played_answer (Err d)) w q.1)
   says_played (Err d) result e w (inr q) = ended (Some Serial) (played_answer (Err d)).text result (meant left source_failed (played_answer (Err d)) w) q
 
@@ -90,8 +104,8 @@ module _ (left rest : Option (List ℕ)) (source_failed : Type 0) (before after 
       says_played (trace bytes) result e (read_whole left rest bytes (played_answer (trace bytes)) g e le refl) (subst P h q)
 
   pub says_told : (bytes : List ℕ) (read : Result TraceValue TraceError) (result : Status) → Gave left bytes rest → AtEnd rest → length bytes ≤ most_input → Gives (λ t. t) read (trace bytes) → Told read before after sink_failed result → Promises (Some Serial) result
-  says_told bytes (Ok t) result g e le h (inl q) = says_answer bytes (record { status = Fine; text = recording t (serial t) }) result g e le (sym (answer_ok bytes t h)) q
-  says_told bytes (Ok t) result g e le h (inr q) = wanted (Some Serial) result q
+  says_told bytes (Ok t) result g e le h (traced, inl q) = says_answer bytes (run_answer t) result g e le (sym (answer_ok bytes t h)) q
+  says_told bytes (Ok t) result g e le h (traced, inr q) = wanted (Some Serial) result q
   says_told bytes (Err (Defective n r)) result g e le h q = says_answer bytes (record { status = Malformed; text = malformed_text n r }) result g e le (sym (answer_malformed bytes n r h)) q
   says_told bytes (Err Unread) result g e le h q = wanted (Some Serial) result q
 
@@ -113,47 +127,61 @@ module _ (left rest : Option (List ℕ)) (source_failed : Type 0) (before after 
   says_usage None result h e (inl q) = subst (Promises None) (sym q.0) (refl, e, q.1)
   says_usage None result h e (inr q) = ended None usage_text result refl q
 
--- ---- Where memory is wanted.
--- a text that is written without memory leads to no want of it
-pub finish_wants_none : (before after : Option (List ℕ)) (text : List ℕ) (failed : Type 0) (told result : Status) → ¬ (told ≡ NoMemory) → Wrote before text after failed told result → ¬ (result ≡ NoMemory)
-finish_wants_none before after text failed told result other (inl w) e = other (sym w.0 ∙ e)
-finish_wants_none before after text failed told result other (inr w) e = absurd (let f : WriteFault ≡ NoMemory = sym w.0 ∙ e in cc)
+-- ---- Statuses that a text's writing doesn't lead to.
+-- but the status told with a text, its writing leads to none besides WriteFault
+pub finish_other : (before after : Option (List ℕ)) (text : List ℕ) (failed : Type 0) (told other result : Status) → ¬ (told ≡ other) → ¬ (WriteFault ≡ other) → Wrote before text after failed told result → ¬ (result ≡ other)
+finish_other before after text failed told other result n f (inl w) e = n (sym w.0 ∙ e)
+finish_other before after text failed told other result n f (inr w) e = f (sym w.0 ∙ e)
 
 pub memory_of : (command : Option Command) (named : Command) (left rest : Option (List ℕ)) (faults_before faults : ℕ) → command ≡ Some named → WantsMemory (Some named) left rest faults_before faults → WantsMemory command left rest faults_before faults
 memory_of command named left rest faults_before faults e w =
     let P : Option Command → Type 0 = λ x. WantsMemory x left rest faults_before faults in
     subst P (sym e) w
 
--- ---- What follows from it.
-by_trace : (b : List ℕ) (before after : Option (List ℕ)) (r : Result TraceValue Defect) → trace b ≡ r → (played_answer r).status ≡ Fine → Took before (played_answer r).text after → IsRecorded b before after
-by_trace b before after (Ok t) e s w = (t, e, (serial t, serial_legal t, serial_follows t, w))
-by_trace b before after (Err d) e s w = absurd (let f : Malformed ≡ Fine = s in cc)
+-- ---- What statuses Ok and Stalled are worth.
+serial_plays : (t : TraceValue) → IsTrace t → IsPlayOf t (serial t)
+serial_plays t h = record { legal = serial_legal t; follows = follows_serial t h }
 
-by_length : (b : List ℕ) (before after : Option (List ℕ)) (long : Bool) → nat_lt most_input (length b) ≡ long → (serial_answer b).status ≡ Fine → Took before (serial_answer b).text after → IsRecorded b before after
-unfolding serial_answer trace_answer
-by_length b before after true l s w = absurd (let f : TooLong ≡ Fine = sym (ap (λ (x : Answer). x.status) (cond-true _ _ _ l)) ∙ s in cc)
-by_length b before after false l s w =
-    let e : serial_answer b ≡ trace_answer b = cond-false _ _ _ l in
-    let P : Answer → Type 0 = λ a. Took before a.text after in
-    by_trace b before after (trace b) refl (sym (ap (λ (x : Answer). x.status) e) ∙ s) (subst P e w)
+module _ (b : List ℕ) (before after : Option (List ℕ)) (t : TraceValue) (spelt : trace b ≡ Ok t) (traced : IsTrace t) where
+  recorded_by : (stalled : Bool) → is_stalled t (serial t) (state_behind t (serial t)) ≡ stalled → (journal_answer t (serial t) stalled).status ≡ Fine → Took before (journal_answer t (serial t) stalled).text after → IsRecorded b before after
+  recorded_by true h s w = absurd (let f : Stalled ≡ Fine = s in cc)
+  recorded_by false h s w = (t, spelt, (serial t, serial_plays t traced, not_stalled t h, w))
 
-recorded : (left before after : Option (List ℕ)) → WhereTold left (λ b. IsAnswered b before after Fine) → WhereTold left (λ b. IsRecorded b before after)
-recorded None before after w = tt
-recorded (Some b) before after w = by_length b before after _ refl w.0 w.1
+  stalled_by : (stalled : Bool) → is_stalled t (serial t) (state_behind t (serial t)) ≡ stalled → (journal_answer t (serial t) stalled).status ≡ Stalled → Took before (journal_answer t (serial t) stalled).text after → IsRecordedStalled b before after
+  stalled_by true h s w = (t, spelt, (serial t, serial_plays t traced, h, w))
+  stalled_by false h s w = absurd (let f : Fine ≡ Stalled = s in cc)
 
-well : (command : Option Command) (left rest before after : Option (List ℕ)) → WentWell command left rest before after → IsHeadline command left rest before after
-well None left rest before after w = w
-well (Some Serial) left rest before after w = (w.0, recorded left before after w.1)
-well (Some Configs) left rest before after w = w
+  recorded : (run_answer t).status ≡ Fine → Took before (run_answer t).text after → IsRecorded b before after
+  unfolding run_answer
+  recorded s w = recorded_by (is_stalled t (serial t) (state_behind t (serial t))) refl s w
 
-headline_of : (command : Option Command) (left rest : Option (List ℕ)) (source_failed : Type 0) (before after : Option (List ℕ)) (sink_failed : Type 0) (status : Status) →
-    Says command left rest source_failed before after sink_failed status → status ≡ Fine → IsHeadline command left rest before after
-headline_of command left rest source_failed before after sink_failed status s e =
-    let P : Status → Type 0 = λ x. Says command left rest source_failed before after sink_failed x in
-    well command left rest before after (subst P e s)
+  recorded_stalled : (run_answer t).status ≡ Stalled → Took before (run_answer t).text after → IsRecordedStalled b before after
+  unfolding run_answer
+  recorded_stalled s w = stalled_by (is_stalled t (serial t) (state_behind t (serial t))) refl s w
 
-pub headline_serial : (command : Option Command) (left rest : Option (List ℕ)) (source_failed : Type 0) (before after : Option (List ℕ)) (sink_failed : Type 0) (status : Status) →
-    command ≡ Some Serial → Says (Some Serial) left rest source_failed before after sink_failed status → status ≡ Fine → IsHeadline command left rest before after
-headline_serial command left rest source_failed before after sink_failed status h s e =
-    let P : Option Command → Type 0 = λ x. IsHeadline x left rest before after in
-    subst P (sym h) (headline_of (Some Serial) left rest source_failed before after sink_failed status s e)
+-- a fact of the bytes that were read is one of all that the source had left
+where_told : (P : List ℕ → Type 0) (left rest : Option (List ℕ)) (bytes : List ℕ) → Gave left bytes rest → AtEnd rest → P bytes → WhereTold left P
+where_told P None rest bytes g e p = tt
+where_told P (Some b) None bytes g e p = absurd g
+where_told P (Some b) (Some r) bytes g e p = subst P (sym (g ∙ ap (λ (x : List ℕ). bytes ++ x) e ∙ append-nil bytes)) p
+
+module _ (left rest before after : Option (List ℕ)) (failed : Type 0) (bytes : List ℕ) (result : Status) (g : Gave left bytes rest) (e : AtEnd rest) where
+  pub headline_told : (read : Result TraceValue TraceError) → Gives (λ t. t) read (trace bytes) → Told read before after failed result → result ≡ Fine → IsHeadline (Some Serial) left rest before after
+  headline_told (Ok t) h (traced, inl (inl q)) s = (e, where_told (λ b. IsRecorded b before after) left rest bytes g e (recorded bytes before after t h traced (sym q.0 ∙ s) q.1))
+  headline_told (Ok t) h (traced, inl (inr q)) s = absurd (let f : WriteFault ≡ Fine = sym q.0 ∙ s in cc)
+  headline_told (Ok t) h (traced, inr q) s = absurd (let f : NoMemory ≡ Fine = sym q.0 ∙ s in cc)
+  headline_told (Err (Defective n r)) h q s = absurd (finish_other before after (malformed_text n r) failed Malformed Fine result (λ f. cc) (λ f. cc) q s)
+  headline_told (Err Unread) h q s = absurd (let f : NoMemory ≡ Fine = sym q.0 ∙ s in cc)
+
+  pub stalled_told : (read : Result TraceValue TraceError) → Gives (λ t. t) read (trace bytes) → Told read before after failed result → result ≡ Stalled → IsStalledHeadline (Some Serial) left rest before after
+  stalled_told (Ok t) h (traced, inl (inl q)) s = (refl, e, where_told (λ b. IsRecordedStalled b before after) left rest bytes g e (recorded_stalled bytes before after t h traced (sym q.0 ∙ s) q.1))
+  stalled_told (Ok t) h (traced, inl (inr q)) s = absurd (let f : WriteFault ≡ Stalled = sym q.0 ∙ s in cc)
+  stalled_told (Ok t) h (traced, inr q) s = absurd (let f : NoMemory ≡ Stalled = sym q.0 ∙ s in cc)
+  stalled_told (Err (Defective n r)) h q s = absurd (finish_other before after (malformed_text n r) failed Malformed Stalled result (λ f. cc) (λ f. cc) q s)
+  stalled_told (Err Unread) h q s = absurd (let f : NoMemory ≡ Stalled = sym q.0 ∙ s in cc)
+
+pub headline_serial : (command : Option Command) (left rest before after : Option (List ℕ)) → command ≡ Some Serial → IsHeadline (Some Serial) left rest before after → IsHeadline command left rest before after
+headline_serial command left rest before after h w = let P : Option Command → Type 0 = λ x. IsHeadline x left rest before after in subst P (sym h) w
+
+pub stalled_serial : (command : Option Command) (left rest before after : Option (List ℕ)) → command ≡ Some Serial → IsStalledHeadline (Some Serial) left rest before after → IsStalledHeadline command left rest before after
+stalled_serial command left rest before after h w = let P : Option Command → Type 0 = λ x. IsStalledHeadline x left rest before after in subst P (sym h) w

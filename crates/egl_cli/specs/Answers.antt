@@ -1,13 +1,16 @@
 -- What the program says: a status and a text, by the bytes of its input.
-use Rattle.std.specs.Prelude.{ℕ, nat_lt, List, ◌++◌, if◌then◌else◌, length, codes, decimal, Result, Ok, Err}
+use Rattle.std.specs.Prelude.{ℕ, nat_lt, Bool, true, false, List, ◌++◌, if◌then◌else◌, length, codes, decimal, Result, Ok, Err}
 use Rattle.trace_reader.specs.declared.traces.Reason.{Reason}
 use Rattle.trace_reader.specs.declared.traces.Reason.TheVariants.{Header, Window, Thread, Name, Argument, Variable, Limit, Entry}
 use Rattle.trace_reader.specs.declared.traces.Defect.{Defect}
 use Rattle.trace_reader.specs.Traces.{TraceValue}
 use Rattle.trace_reader.specs.Grammar.{trace}
-use Rattle.trace_model.specs.Serial.{serial}
+use Rattle.egl_calls.specs.declared.entries.Entry.{Entry as AnEntry}
+use Rattle.trace_model.specs.Serial.{state_behind, serial}
+use Rattle.trace_model.specs.Stalled.{is_stalled}
 use Rattle.trace_model.specs.Recording.{recording}
-use Rattle.egl_cli.specs.declared.statuses.Status.TheVariants.{Ok as Fine, Malformed, TooLong}
+use Rattle.egl_cli.specs.StalledLines.{stalled_lines}
+use Rattle.egl_cli.specs.declared.statuses.Status.TheVariants.{Ok as Fine, Malformed, Stalled, TooLong}
 use Rattle.egl_cli.specs.declared.answers.Answer.{Answer}
 
 unfoldable pub usage_text : List ℕ
@@ -37,9 +40,18 @@ malformed_text line reason = codes "malformed " ++ decimal line ++ codes " " ++ 
 abbrev pub most_input : ℕ
 most_input = 33554432
 
--- the recording of the serial journal of a trace, or its first defect
+-- the recording of a journal, and where it stalled, the lines at which threads wait
+abbrev pub journal_answer : TraceValue → List AnEntry → Bool → Answer
+journal_answer t journal false = record { status = Fine; text = recording t journal }
+journal_answer t journal true = record { status = Stalled; text = recording t journal ++ stalled_lines t journal }
+
+-- the answer to a trace: that of its serial journal
+unfoldable pub run_answer : TraceValue → Answer
+run_answer t = journal_answer t (serial t) (is_stalled t (serial t) (state_behind t (serial t)))
+
+-- the answer to a trace, or its first defect
 abbrev pub played_answer : Result TraceValue Defect → Answer
-played_answer (Ok t) = record { status = Fine; text = recording t (serial t) }
+played_answer (Ok t) = run_answer t
 played_answer (Err d) = record { status = Malformed; text = malformed_text d.line d.reason }
 
 unfoldable pub trace_answer : List ℕ → Answer

@@ -1,6 +1,6 @@
 pub mod Texts
-pub mod Sessions
 pub mod Commands
 pub mod ConfigLines
+pub mod StalledLines
 pub mod Answers
 pub mod Says

@@ -1,5 +1,5 @@
 -- What each status of the program promises of what was read and written.
-use Rattle.std.specs.Prelude.{◌≡◌, ℕ, ◌⊎◌, List, [], Option, None, Some, Result, Ok as Spelt, Err}
+use Rattle.std.specs.Prelude.{◌≡◌, ℕ, ◌⊎◌, List, [], ◌++◌, Option, None, Some, Result, Ok as Spelt, Err}
 use Rattle.egl_calls.specs.declared.entries.Entry.{Entry}
 use Rattle.egl_model.specs.State.{opening}
 use Rattle.egl_model.specs.History.{IsLegalFrom}
@@ -9,14 +9,16 @@ use Rattle.trace_reader.specs.declared.traces.TraceError.{TraceError}
 use Rattle.trace_reader.specs.declared.traces.TraceError.TheVariants.{Malformed as Defective, NoMemory as Unread}
 use Rattle.trace_reader.specs.Traces.{TraceValue}
 use Rattle.trace_reader.specs.Grammar.{trace}
+use Rattle.trace_reader.specs.Order.{IsTrace}
 use Rattle.trace_model.specs.Follows.{Follows}
-use Rattle.trace_model.specs.Serial.{serial}
+use Rattle.trace_model.specs.Stalled.{IsComplete, IsStalled}
 use Rattle.trace_model.specs.Recording.{recording}
+use Rattle.egl_cli.specs.StalledLines.{stalled_lines}
 use Rattle.egl_cli.specs.declared.statuses.Status.{Status}
 use Rattle.egl_cli.specs.declared.statuses.Status.TheVariants.{Ok, Usage, ReadFault, Malformed, WriteFault, Stalled, NoMemory, TooLong, Differs}
 use Rattle.egl_cli.specs.declared.commands.Command.{Command}
 use Rattle.egl_cli.specs.declared.commands.Command.TheVariants.{Serial, Configs}
-use Rattle.egl_cli.specs.Answers.{serial_answer, malformed_text, usage_text, read_fault_text, most_input}
+use Rattle.egl_cli.specs.Answers.{serial_answer, run_answer, malformed_text, usage_text, read_fault_text, most_input}
 use Rattle.egl_cli.specs.ConfigLines.{configs_text}
 
 -- a fact of the bytes of the input, where the source tells them
@@ -32,9 +34,9 @@ Wrote before text after failed meant result = ((result ≡ meant) × Took before
 abbrev pub WroteIfMade : Option (List ℕ) → List ℕ → Option (List ℕ) → Type 0 → Status → Status → Type 0
 WroteIfMade before text after failed meant result = Wrote before text after failed meant result ⊎ ((result ≡ NoMemory) × Took before [] after)
 
--- what the reader answered was told: a trace by its recording, where memory suffices, and a defect in any case
+-- what the reader answered was told: a trace by the answer to it, where memory suffices, and a defect in any case
 abbrev pub Told : Result TraceValue TraceError → Option (List ℕ) → Option (List ℕ) → Type 0 → Status → Type 0
-Told (Spelt t) before after failed result = WroteIfMade before (recording t (serial t)) after failed Ok result
+Told (Spelt t) before after failed result = IsTrace t × WroteIfMade before (run_answer t).text after failed (run_answer t).status result
 Told (Err (Defective line reason)) before after failed result = Wrote before (malformed_text line reason) after failed Malformed result
 Told (Err Unread) before after failed result = (result ≡ NoMemory) × Took before [] after
 
@@ -63,8 +65,8 @@ Says command left rest source_failed before after sink_failed Malformed = (comma
 Says command left rest source_failed before after sink_failed WriteFault = sink_failed × ((text : List ℕ) × TookFront before text after × IsMeant command left source_failed text)
 Says command left rest source_failed before after sink_failed NoMemory = Took before [] after
 Says command left rest source_failed before after sink_failed TooLong = (command ≡ Some Serial) × GavePast left rest most_input 33554433 × WhereTold left (λ b. IsAnswered b before after TooLong)
--- statuses of commands that aren't built
-Says command left rest source_failed before after sink_failed Stalled = ⊥
+Says command left rest source_failed before after sink_failed Stalled = (command ≡ Some Serial) × AtEnd rest × WhereTold left (λ b. IsAnswered b before after Stalled)
+-- the status of commands that aren't built
 Says command left rest source_failed before after sink_failed Differs = ⊥
 
 -- memory is wanted only where it is taken: for the configs, and for an input where the source neither failed nor gave more than the limit
@@ -79,16 +81,30 @@ IsUnread None left rest faults_before faults = (rest ≡ left) × (faults ≡ fa
 IsUnread (Some Serial) left rest faults_before faults = Unit {0}
 IsUnread (Some Configs) left rest faults_before faults = (rest ≡ left) × (faults ≡ faults_before)
 
--- the bytes spell a trace, and what was written is the recording of a journal with an entry for each line, once, in order, each with the reply that the one-thread specification gives there
+-- a journal in which each reply is the one that the one-thread specification gives there, and in which the calls of each thread are its lines in their order
+pub record IsPlayOf (t : TraceValue) (journal : List Entry) : Type 0 where
+  pub legal : IsLegalFrom (opening t.windows t.video) journal
+  pub follows : Follows t journal
+
+-- the bytes spell a trace, and what was written is the recording of a journal that plays it to the end of all threads
 abbrev pub IsRecorded : List ℕ → Option (List ℕ) → Option (List ℕ) → Type 0
 IsRecorded b before after =
-    (t : TraceValue) × (trace b ≡ Spelt t) × ((journal : List Entry) × IsLegalFrom (opening t.windows t.video) journal × Follows t journal × Took before (recording t journal) after)
+    (t : TraceValue) × (trace b ≡ Spelt t) × ((journal : List Entry) × IsPlayOf t journal × IsComplete t journal × Took before (recording t journal) after)
 
--- what status Ok is worth, by the command: of `serial` a legal journal that follows the trace, of `configs` the table
+-- the same of a journal that plays it until no thread can go on, with the lines at which threads wait
+abbrev pub IsRecordedStalled : List ℕ → Option (List ℕ) → Option (List ℕ) → Type 0
+IsRecordedStalled b before after =
+    (t : TraceValue) × (trace b ≡ Spelt t) × ((journal : List Entry) × IsPlayOf t journal × IsStalled t journal × Took before (recording t journal ++ stalled_lines t journal) after)
+
+-- what status Ok is worth, by the command: of `serial` a journal that plays the trace to its end, of `configs` the table
 abbrev pub IsHeadline : Option Command → Option (List ℕ) → Option (List ℕ) → Option (List ℕ) → Option (List ℕ) → Type 0
 IsHeadline None left rest before after = ⊥
 IsHeadline (Some Serial) left rest before after = AtEnd rest × WhereTold left (λ b. IsRecorded b before after)
 IsHeadline (Some Configs) left rest before after = (rest ≡ left) × Took before configs_text after
+
+-- what status Stalled is worth: the command is `serial`, and a journal plays the trace as far as its threads can go
+abbrev pub IsStalledHeadline : Option Command → Option (List ℕ) → Option (List ℕ) → Option (List ℕ) → Option (List ℕ) → Type 0
+IsStalledHeadline command left rest before after = (command ≡ Some Serial) × AtEnd rest × WhereTold left (λ b. IsRecordedStalled b before after)
 
 -- where nothing failed that the command needs, the status is that of its answer, or memory ran out for a command
 abbrev pub IsWhole : Option Command → Option (List ℕ) → Type 0 → Type 0 → Status → Type 0

@@ -1,17 +1,19 @@
 //! What the program says to the bytes of its input.
-ghost use Rattle.std.specs.Prelude.{◌≡◌, ◌≤◌, length, IfOk};
-ghost use Rattle.trace_model.specs.Serial.{serial};
-ghost use Rattle.trace_model.specs.Recording.{recording};
-ghost use Rattle.egl_cli.specs.Answers.{reason_name, malformed_text};
+ghost use Rattle.std.specs.Prelude.{◌≡◌, ◌≤◌, ◌++◌, length, IfOk};
+ghost use Rattle.trace_model.specs.Recording.{recording_of};
+ghost use Rattle.egl_cli.specs.StalledLines.{stalled_lines};
+ghost use Rattle.egl_cli.specs.Answers.{reason_name, malformed_text, run_answer};
 
 use crate::recordings::recording;
-use crate::sessions::run_serial;
+use crate::stalled_lines::put_stalled;
 use crate::statuses::Status;
 use arrayvec::ArrayString;
+use driver_core::Run;
 use egl_calls::{Bytes, NoMemory};
 use itoa::Buffer;
 use std::alloc::Global;
 use trace_reader::{Reason, Trace};
+use trace_session::{RunError, run_serial};
 
 /// Room for the words, the name of a reason, and a line's number.
 const MALFORMED_ROOM: usize = 64;
@@ -54,10 +56,28 @@ pub fn malformed_text(line: u64, reason: Reason) -> ArrayString<MALFORMED_ROOM>
     out
 }
 
-/// What is said to a trace: the recording of its serial journal.
-pub fn played_text(alloc: Global, trace: &Trace) -> Result<Bytes, NoMemory>
-    ensures { IfOk result (λ b. b ≡ recording trace.now (serial trace.now)) }
+/// The recording of a run that stalled, and the lines at which its threads wait.
+fn stalled_text(alloc: Global, trace: &Trace, run: &Run) -> Result<Bytes, NoMemory>
+    ensures { IfOk result (λ b. b ≡ recording_of run.now.journal.entries run.now.driver.state ++ stalled_lines trace.now run.now.journal.entries) }
 {
-    let run = run_serial(alloc, trace)?;
-    recording(alloc, &run.journal, &run.driver)
+    let mut text = recording(alloc, &run.journal, &run.driver)?;
+    put_stalled(alloc, &mut text, trace, &run.journal)?;
+    Ok(text)
+}
+
+/// What is said to a trace: the recording of its serial journal, and where that stalled, the lines at which threads wait.
+pub fn run_answer(alloc: Global, trace: &Trace) -> Result<Answer, NoMemory>
+    ensures { IfOk result (λ a. a ≡ run_answer trace.now) }
+{
+    match run_serial(alloc, trace) {
+        Ok(run) => Ok(Answer {
+            status: Status::Ok,
+            text: recording(alloc, &run.journal, &run.driver)?,
+        }),
+        Err(RunError::Stalled(run)) => Ok(Answer {
+            status: Status::Stalled,
+            text: stalled_text(alloc, trace, &run)?,
+        }),
+        Err(RunError::NoMemory) => Err(NoMemory),
+    }
 }

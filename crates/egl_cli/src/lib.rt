@@ -8,7 +8,7 @@ pub mod laws;
 mod process;
 mod recordings;
 mod respond;
-mod sessions;
+mod stalled_lines;
 mod statuses;
 mod texts;
 

@@ -1,14 +1,13 @@
 //! The top call: words and a source in, a status and a sink's bytes out.
 ghost use Rattle.std.specs.Prelude.{◌≡◌, ℕ, ◌<◌, ◌≤◌, ◌^◌, ◌++◌, length, Some, IfOk, OnOk, OnErr};
 ghost use Rattle.egl_flow.specs.Flow.{HasRisen, Took, TookFront};
-ghost use Rattle.egl_cli.specs.Answers.{usage_text, read_fault_text, too_long_text};
-ghost use Rattle.egl_cli.specs.Says.{Says, Wrote, WroteIfMade, Told, WantsMemory, IsUnread, IsHeadline, IsWhole};
-ghost use Rattle.trace_model.specs.Serial.{serial};
-ghost use Rattle.trace_model.specs.Recording.{recording};
+ghost use Rattle.trace_reader.specs.Order.{IsTrace};
+ghost use Rattle.egl_cli.specs.Answers.{usage_text, read_fault_text, too_long_text, run_answer};
+ghost use Rattle.egl_cli.specs.Says.{Says, Wrote, WroteIfMade, Told, WantsMemory, IsUnread, IsHeadline, IsStalledHeadline, IsWhole};
 ghost use Rattle.egl_cli.specs.Commands.{command_of};
 ghost use Rattle.egl_cli.specs.ConfigLines.{configs_text};
 
-use crate::answers::{malformed_text, played_text};
+use crate::answers::{malformed_text, run_answer};
 use crate::commands::{Command, command_of};
 use crate::config_lines::configs_text;
 use crate::statuses::Status;
@@ -43,12 +42,14 @@ fn tell_configs<K: Sink>(alloc: Global, sink: &mut K) -> Status
     }
 }
 
-/// Writes the recording of a trace.
-fn tell_recording<K: Sink>(alloc: Global, sink: &mut K, trace: &Trace) -> Status
-    ensures wrote { WroteIfMade (K.taken sink.old) (recording trace.now (serial trace.now)) (K.taken sink.new) (HasRisen (K.faults sink.old) (K.faults sink.new)) Status.Ok result }
+/// Writes what is said to a trace.
+fn tell_run<K: Sink>(alloc: Global, sink: &mut K, trace: &Trace) -> Status
+    ensures trace { IsTrace trace.now }
+    ensures wrote { WroteIfMade (K.taken sink.old) (run_answer trace.now).text (K.taken sink.new) (HasRisen (K.faults sink.old) (K.faults sink.new)) (run_answer trace.now).status result }
 {
-    match played_text(alloc, trace) {
-        Ok(text) => finish(sink, Status::Ok, text.as_slice()),
+    trace.lines();
+    match run_answer(alloc, trace) {
+        Ok(answer) => finish(sink, answer.status, answer.text.as_slice()),
         Err(_) => Status::NoMemory,
     }
 }
@@ -58,7 +59,7 @@ fn tell<K: Sink>(alloc: Global, sink: &mut K, read: &Result<Trace, TraceError>) 
     ensures told { Told read.now (K.taken sink.old) (K.taken sink.new) (HasRisen (K.faults sink.old) (K.faults sink.new)) result }
 {
     match read {
-        Ok(trace) => tell_recording(alloc, sink, trace),
+        Ok(trace) => tell_run(alloc, sink, trace),
         Err(TraceError::Malformed { line, reason }) => finish(
             sink,
             Status::Malformed,
@@ -72,6 +73,8 @@ fn tell<K: Sink>(alloc: Global, sink: &mut K, read: &Result<Trace, TraceError>) 
 fn respond<S: Source, K: Sink>(alloc: Global, source: &mut S, sink: &mut K) -> Status
     ensures says { Says (Some Command.Serial) (S.left source.old) (S.left source.new) (HasRisen (S.faults source.old) (S.faults source.new)) (K.taken sink.old) (K.taken sink.new) (HasRisen (K.faults sink.old) (K.faults sink.new)) result }
     ensures memory { result ≡ Status.NoMemory → WantsMemory (Some Command.Serial) (S.left source.old) (S.left source.new) (S.faults source.old) (S.faults source.new) }
+    ensures headline { result ≡ Status.Ok → IsHeadline (Some Command.Serial) (S.left source.old) (S.left source.new) (K.taken sink.old) (K.taken sink.new) }
+    ensures stalled { result ≡ Status.Stalled → IsStalledHeadline (Some Command.Serial) (S.left source.old) (S.left source.new) (K.taken sink.old) (K.taken sink.new) }
 {
     match read_all(alloc, source, MOST_INPUT) {
         Ok(bytes) => tell(alloc, sink, &Trace::read(alloc, &bytes)),
@@ -81,7 +84,7 @@ fn respond<S: Source, K: Sink>(alloc: Global, source: &mut S, sink: &mut K) -> S
     }
 }
 
-/// Does the command that the words name: `serial` reads a trace of one thread from the source and writes its recording to the sink; `configs` reads nothing and writes the eight configs, a line for each.
+/// Does the command that the words name: `serial` reads a trace from the source and writes the recording of its run by turns to the sink, and where that stalls, the lines at which threads wait; `configs` reads nothing and writes the eight configs, a line for each.
 ///
 /// All output is made before the first write. A write that fails gives `WriteFault` in place of every other status. Memory is wanted only to read an input within the limit and to play it, and for the configs.
 pub fn plain<S: Source, K: Sink>(
@@ -94,6 +97,7 @@ pub fn plain<S: Source, K: Sink>(
     ensures memory { result ≡ Status.NoMemory → WantsMemory (command_of words.now) (S.left source.old) (S.left source.new) (S.faults source.old) (S.faults source.new) }
     ensures unread { IsUnread (command_of words.now) (S.left source.old) (S.left source.new) (S.faults source.old) (S.faults source.new) }
     ensures headline { result ≡ Status.Ok → IsHeadline (command_of words.now) (S.left source.old) (S.left source.new) (K.taken sink.old) (K.taken sink.new) }
+    ensures stalled { result ≡ Status.Stalled → IsStalledHeadline (command_of words.now) (S.left source.old) (S.left source.new) (K.taken sink.old) (K.taken sink.new) }
     ensures whole { IsWhole (command_of words.now) (S.left source.old) (HasRisen (S.faults source.old) (S.faults source.new)) (HasRisen (K.faults sink.old) (K.faults sink.new)) result }
 {
     match command_of(words) {

@@ -23,23 +23,25 @@ use Rattle.egl_model.specs.State.{State, set_error}
 use Rattle.egl_model.specs.Arguments.{number}
 use Rattle.egl_model.specs.Contexts.{add_context, context_objects, created_context, share_handle, shared_group}
 use Rattle.egl_model.specs.Displays.{set_initialized, terminated}
+use Rattle.egl_model.specs.Currents.{current_context}
 use Rattle.egl_model.specs.EglFacts.{egl_refusal}
+use Rattle.egl_model.specs.Flushes.{flushed}
 use Rattle.display_table.specs.Handles.{is_named_on, without_found}
-use Rattle.egl_model.specs.Handles.{destroyed, handle_at, valid, with_handle}
+use Rattle.egl_model.specs.Handles.{destroyed, handle_at, with_handle}
 use Rattle.egl_model.specs.Waits.{waiting}
-use Rattle.egl_model.specs.Kinds.{named_kind}
-use Rattle.egl_model.specs.MakeCurrent.{bind, height_of, width_of, bound_by, context_handle, current_facts, draw_handle, first_use, is_context_taken, is_surface_taken, made_current, read_handle, released}
+use Rattle.egl_model.specs.MakeCurrent.{bind, height_of, width_of, bound_by, context_handle, current_facts, draw_handle, bound_anew, first_use, is_context_taken, is_surface_taken, made_current, read_handle, released, unbound}
 use Rattle.egl_model.specs.Objects.{change_part, context_in, surface_in, change_surface, with_surface}
 use Rattle.context_state.specs.Parts.{first_current}
 use Rattle.egl_model.specs.Shapes.{Goes, Shape, shapes}
 use Rattle.egl_model.specs.Sound.{IsWhole}
 use Rattle.egl_model.specs.Surfaces.{asked_height, asked_width, asks_for_largest, created_pbuffer, pbuffer_facts, pbuffer_objects, side_of, set_attribute, with_behavior}
 use Rattle.egl_model.specs.Sweep.{live_bytes}
-use Rattle.egl_model.proofs.Blinds.{blind-context_of, blind-length, blind-surface_of}
+use Rattle.egl_model.proofs.Blinds.{blind-context_of, blind-current, blind-length, blind-surface_of}
 use Rattle.egl_model.proofs.GlCalls.{acts-part}
+use Rattle.egl_model.proofs.SyncCalls.{acts-flushed}
 use Rattle.egl_model.proofs.Keeps.{Acts, Blind, acts_cond, acts_of, acts_self, acts_then, by_moves, by_quiet_moves, by_quiet_row, acts_within}
 use Rattle.egl_model.proofs.Moves.{Add, Await, Binds, Bind, Flags, Keep, Name, Note, Change}
-use Rattle.egl_model.proofs.Named.{asks_on, bound_goes, context_free, found_below, found_goes, group_goes, is_some-bound_by, surface_free}
+use Rattle.egl_model.proofs.Named.{context_free, found_below, goes_valid, group_goes, is_some-bound_by, surface_free}
 use Rattle.egl_model.proofs.NewObjects.{full-blank, with_own_pixels, without_pixels}
 use Rattle.egl_model.proofs.Places.{new_kind, old_kind}
 
@@ -84,7 +86,7 @@ acts-pbuffer s t c h r =
     (by_moves t s (Add new ∷ Name (number c 0) a_surface n ∷ []) ((tt, (full-blank (format_of (signed c 1)) _ _ (side_fits (asked_width c)) (side_fits (asked_height c)), tt)), (tt, tt))
     (λ p. let a = (pbuffer_allowed c (pbuffer_facts s c) h r).room in omega (arith, a))
     (λ w. (
-      ((new_kind s.objects new 1 (n + 1) a_storage refl refl, tt), with_own_pixels _ (n + 0) _ (omega arith), (tt, without_pixels _ (n + 1) _ refl refl tt, tt)),
+      ((new_kind s.objects new 1 (n + 1) a_storage refl refl, tt), with_own_pixels _ (n + 0) _ (omega arith), (tt, without_pixels _ (n + 1) _ refl refl, tt)),
       λ v. (new_kind s.objects new 0 n a_surface_kind (omega arith) refl, tt),
     )))
 
@@ -95,7 +97,7 @@ goes_shared s c w = cond_both (is_zero c 2) None _ (Goes (shapes s.objects) a_gr
   where
     of_handle : (h : Option Handle) → Goes (shapes s.objects) a_group (option_map (λ x. x.group) (option_and_then (λ h. context_in s.objects h.object) h))
     of_handle None = tt
-    of_handle (Some h) = group_goes (shapes s.objects) (get_or s.objects h.object None) (w.firm.kinds.objects h.object)
+    of_handle (Some h) = group_goes (shapes s.objects) (get_or s.objects h.object None) (w.kinds.objects h.object)
 
 -- a new context with its group, or with one that is there
 acts-new_context : (s : State) (t d config : ℕ) (group : Option ℕ) → (IsWhole (shapes s.objects) s → Goes (shapes s.objects) a_group group) → Acts naming t s (λ a. add_context a d config group)
@@ -107,8 +109,8 @@ acts-new_context s t d config None g =
     (λ w. (
       (
         (new_kind s.objects new 1 (n + 1) a_group refl refl, (new_kind s.objects new 2 (n + 2) a_texture refl refl, tt)),
-        without_pixels _ _ _ refl refl tt,
-        (tt, without_pixels _ _ _ refl refl tt, (tt, without_pixels _ _ _ refl refl tt, tt)),
+        without_pixels _ _ _ refl refl,
+        (tt, without_pixels _ _ _ refl refl, (tt, without_pixels _ _ _ refl refl, tt)),
       ),
       λ v. (new_kind s.objects new 0 n a_context_kind (omega arith) refl, tt),
     )))
@@ -119,8 +121,8 @@ acts-new_context s t d config (Some x) g =
     (λ w. (
       (
         (old_kind (shapes s.objects) (shapes new) a_group x (g w), (new_kind s.objects new 1 (n + 1) a_texture refl refl, tt)),
-        without_pixels _ _ _ refl refl tt,
-        (tt, without_pixels _ _ _ refl refl tt, tt),
+        without_pixels _ _ _ refl refl,
+        (tt, without_pixels _ _ _ refl refl, tt),
       ),
       λ v. (new_kind s.objects new 0 n a_context_kind (omega arith) refl, tt),
     )))
@@ -137,10 +139,6 @@ acts-first_use t s None draw free = acts_self t s
 acts-first_use t s (Some h) draw free = acts_of quiet t s (λ a. option_and_then (λ h. surface_in a.objects h.object) draw) (λ y a. record a { objects = change_part (first_current (width_of y) (height_of y)) h.object a.objects }) (blind-surface_of t draw s)
     (acts-part t h.object _ s (λ w. context_free s.threads t h.object (Some h) free (eq-eqb h.object h.object refl)))
 
--- what a valid handle names is of its kind
-goes_valid : (sh : List (Option Shape)) (s : State) (d n : ℕ) (k : HandleKind) → IsWhole sh s → Goes sh (named_kind k) (option_map (λ b. b.object) (bound_by (valid s d n k)))
-goes_valid sh s d n k w = bound_goes sh (named_kind k) (valid s d n k) (found_goes sh (is_named_on d n k) k (asks_on d n k) s.handles w.firm.kinds.handles)
-
 binds-given : (s : State) (os : List (Option Object)) (t : ℕ) (c : CallValue) → c.kind ≡ Egl MakeCurrent → is_release c ≡ false → egl_refusal s t MakeCurrent c ≡ None →
     let a = record s { objects = os } in IsWhole (shapes os) a → Binds t (shapes os) a (bound_by (context_handle s c)) (bound_by (draw_handle s c)) (bound_by (read_handle s c))
 unfolding egl_refusal
@@ -156,9 +154,9 @@ binds-given s os t c h e r w =
       reads = λ n b. surface_free s.threads t n (read_handle s c) free.1 b;
       draw = is_some-bound_by (draw_handle s c) ∙ f.draw ∙ sym context;
       read = is_some-bound_by (read_handle s c) ∙ f.read ∙ sym context;
-      context_below = found_below a (is_named_on (number c 0) (number c 3) a_context) s.handles w.firm.numbers.handles;
-      draw_below = found_below a (is_named_on (number c 0) (number c 1) a_surface) s.handles w.firm.numbers.handles;
-      read_below = found_below a (is_named_on (number c 0) (number c 2) a_surface) s.handles w.firm.numbers.handles;
+      context_below = found_below a (is_named_on (number c 0) (number c 3) a_context) s.handles w.numbers.handles;
+      draw_below = found_below a (is_named_on (number c 0) (number c 1) a_surface) s.handles w.numbers.handles;
+      read_below = found_below a (is_named_on (number c 0) (number c 2) a_surface) s.handles w.numbers.handles;
     }
 
 binds-none : (t : ℕ) (sh : List (Option Shape)) (s : State) → Binds t sh s None None None
@@ -174,20 +172,30 @@ binds-none t sh s = record {
   read_below = tt;
 }
 
-pub acts-released : (s : State) (t : ℕ) → Acts quiet t s (λ a. released a t)
-acts-released s t = by_quiet_moves t s (Bind None None None ∷ []) refl (tt, tt) (λ w. (binds-none t (shapes s.objects) s, tt))
+acts-unbound : (s : State) (t : ℕ) → Acts quiet t s (λ a. unbound a t)
+acts-unbound s t = by_quiet_moves t s (Bind None None None ∷ []) refl (tt, tt) (λ w. (binds-none t (shapes s.objects) s, tt))
 
-pub acts-make_current : (s : State) (t : ℕ) (c : CallValue) → c.kind ≡ Egl MakeCurrent → egl_refusal s t MakeCurrent c ≡ None → Acts quiet t s (λ a. made_current a t c)
+-- the former context is flushed
+acts-flushed_behind : (s : State) (t : ℕ) (f : State → State) → Acts quiet t s f → Acts quiet t s (λ a. flushed (current_context a t) (f a))
+acts-flushed_behind s t f x = acts_of quiet t s (λ a. current_context a t) (λ o a. flushed o (f a)) (blind-current t s) (acts_then quiet t s f (flushed (current_context s t)) x (acts-flushed (f s) t (current_context s t)))
+
+pub acts-released : (s : State) (t : ℕ) → Acts quiet t s (λ a. released a t)
+acts-released s t = acts-flushed_behind s t (λ a. unbound a t) (acts-unbound s t)
+
+acts-bound_anew : (s : State) (t : ℕ) (c : CallValue) → c.kind ≡ Egl MakeCurrent → egl_refusal s t MakeCurrent c ≡ None → Acts quiet t s (λ a. bound_anew a t c)
 unfolding egl_refusal
-acts-make_current s t c h r = acts_cond quiet t s (is_release c) (λ a. released a t)
+acts-bound_anew s t c h r = acts_cond quiet t s (is_release c) (λ a. unbound a t)
     (λ a. bind (record a { objects = first_use (context_handle a c) (draw_handle a c) a.objects }) t (bound_by (context_handle a c)) (bound_by (draw_handle a c)) (bound_by (read_handle a c)))
-    (λ e. acts-released s t)
+    (λ e. acts-unbound s t)
     (λ e.
     let os = first_use (context_handle s c) (draw_handle s c) s.objects in let a = record s { objects = os } in
     acts_of {A = Option Handle × (Option Handle × Option Handle)} quiet t s (λ a. (context_handle a c, (draw_handle a c, read_handle a c))) (λ y a. bind (record a { objects = first_use y.0 y.1.0 a.objects }) t (bound_by y.0) (bound_by y.1.0) (bound_by y.1.1)) (λ w v x ne. refl)
     (acts_then quiet t s (λ a. record a { objects = first_use (context_handle s c) (draw_handle s c) a.objects }) (λ a. bind a t (bound_by (context_handle s c)) (bound_by (draw_handle s c)) (bound_by (read_handle s c)))
     (acts-first_use t s (context_handle s c) (draw_handle s c) (current_allowed c (current_facts s t c) h e r).context_free)
     (by_quiet_moves t a (Bind (bound_by (context_handle s c)) (bound_by (draw_handle s c)) (bound_by (read_handle s c)) ∷ []) refl (tt, tt) (λ w. (binds-given s os t c h e r w, tt)))))
+
+pub acts-make_current : (s : State) (t : ℕ) (c : CallValue) → c.kind ≡ Egl MakeCurrent → egl_refusal s t MakeCurrent c ≡ None → Acts quiet t s (λ a. made_current a t c)
+acts-make_current s t c h r = acts-flushed_behind s t (λ a. bound_anew a t c) (acts-bound_anew s t c h r)
 
 -- ---- The end of a wait.
 pub acts-wait_end : (s : State) (t : ℕ) → Acts quiet t s (λ a. waiting a t None)

@@ -47,3 +47,4 @@ pub mod LateEntry
 pub mod Returns
 pub mod RefLaws
 pub mod FenceLaws
+pub mod SyncCalls

@@ -1,5 +1,5 @@
 -- A local call changes the thread's own alone, and its reply is told by the part.
-use Rattle.std.proofs.Common.{◌≡◌, ℕ, ℤ, pos, Bool, true, false, cond, ◌||◌, ◌&&◌, List, [], ◌∷◌, zero, suc, not, map, refl, sym, ap, ◌∙◌, get_or, set, Option, None, Some, is_some}
+use Rattle.std.proofs.Common.{◌≡◌, ℕ, ℤ, pos, Bool, true, false, cond, ◌||◌, ◌&&◌, List, [], refl, sym, ap, ◌∙◌, get_or, set, Option, None, Some, is_some}
 use Rattle.std.specs.Option.{option_and_then, option_map, option_map_or}
 use Rattle.std.proofs.lemmas.Bool.{eqb-true}
 use Rattle.std.proofs.lemmas.List.{ext_get_or, set-get_or}
@@ -21,13 +21,12 @@ use Rattle.call_rules.specs.EglRules as rules
 use Rattle.call_rules.specs.EglRules.{no_facts}
 use Rattle.driver_objects.specs.Storages.{StorageValue, cleared, cleared_image, read_rows}
 use Rattle.driver_objects.specs.declared.objects.Object.{Object}
-use Rattle.driver_objects.specs.declared.objects.Object.TheVariants.{Context, Storage, Sync}
-use Rattle.driver_objects.specs.Objects.{kind_of}
+use Rattle.driver_objects.specs.declared.objects.Object.TheVariants.{Context, Storage}
 use Rattle.egl_model.specs.State.{State, initial, object_at, record_of, set_error}
 use Rattle.egl_model.specs.Objects.{as_storage, change_part, change_storage, storage_in, with_part, with_storage}
 use Rattle.egl_model.specs.Currents.{current_context, draw_storage, part_of_context, read_storage}
 use Rattle.egl_model.specs.Drawing.{clear_storage, clears_colour, pack_alignment, read_form, read_pixels, read_rect}
-use Rattle.egl_model.specs.Sweep.{is_reached, roots, settle, settled, swept, sweep}
+use Rattle.egl_model.specs.Sweep.{is_reached, roots, swept, sweep}
 use Rattle.egl_model.specs.Laws.{HasNoLitter}
 use Rattle.egl_model.specs.EglFacts.{egl_facts, egl_refusal}
 use Rattle.egl_model.specs.GlFacts.{gl_refusal, no_framebuffer}
@@ -43,12 +42,9 @@ use Rattle.egl_model.specs.Parts.{Own, Places, are_same, at_place, image_in, own
 use Rattle.egl_model.specs.Local.{LocalEffect, after_rules, by_kind, egl_locally, egl_value, gl_locally, gl_with, in_wait, is_local, is_local_egl, is_local_gl, is_local_kind, is_local_unbound, is_unbound, local_refusal, locally, read_locally}
 use Rattle.egl_model.proofs.Writes.{write-write}
 use Rattle.egl_model.proofs.Puts.{IsDistinct, distinct-places, image_back, part_back, part_past_image, put-own_of, written_back}
-use Rattle.egl_model.proofs.PutMoves.{swept-put}
-use Rattle.egl_model.proofs.Places.{is_some_of, kind_at-shapes}
+use Rattle.egl_model.proofs.PutMoves.{sweep-put}
 use Rattle.egl_model.proofs.StepPut.{answered}
-use Rattle.egl_model.specs.Sound.{IsSound, IsWhole}
-use Rattle.egl_model.specs.Shapes.{Goes, shapes, watch_in}
-use Rattle.driver_objects.specs.declared.kinds.ObjectKind.TheVariants.{Context as a_context}
+use Rattle.egl_model.specs.Sound.{IsSound}
 use Rattle.call_rules.specs.GlRules as gl_rules
 
 -- ---- A state without litter is swept.
@@ -62,24 +58,8 @@ sweep_clean s l = ap (λ (os : List (Option Object)). record s { objects = os })
     (ext_get_or None (swept (roots s) s.objects) s.objects (length-swept (roots s) s.objects)
     (λ m h. object_at-swept (roots s) s.objects m ∙ kept_all (is_reached s m) (object_at s m) (l.each m)))
 
-same_map : (f : Option Object → Option Object) (os : List (Option Object)) → ((n : ℕ) → f (get_or os n None) ≡ get_or os n None) → map f os ≡ os
-same_map f [] e = refl
-same_map f (o ∷ os) e = let a = e zero in let b = same_map f os (λ n. e (suc n)) in cc
-
--- a sync that watches a context which is there isn't signalled
-settle_clean : (os : List (Option Object)) (o : Option Object) → Goes (shapes os) a_context (watch_in o) → settle os o ≡ o
-settle_clean os (Some (Sync x)) g = ap (λ b. Some (Sync (record x { signalled = b }))) (by_test x.signalled g)
-  where
-    by_test : (b : Bool) → Goes (shapes os) a_context (cond b None (Some x.context)) → (b || not (is_some (get_or os x.context None))) ≡ b
-    by_test true g = refl
-    by_test false g = ap not (is_some_of kind_of (get_or os x.context None) a_context (sym (kind_at-shapes os x.context) ∙ g.is))
-settle_clean os o g = refl
-
-settled_clean : (s : State) → IsWhole (shapes s.objects) s → settled s ≡ s
-settled_clean s w = ap (λ (os : List (Option Object)). record s { objects = os }) (same_map (settle s.objects) s.objects (λ n. settle_clean s.objects (object_at s n) (w.watches.each n)))
-
-pub put_swept : (s : State) (t : ℕ) (x : Own) → IsSound s → settled (sweep (put_own s t x)) ≡ put_own s t x
-put_swept s t x h = swept-put (places s t) t x s ∙ ap (put_at (places s t) t x) (ap settled (sweep_clean s h.litter) ∙ settled_clean s h.whole)
+pub put_swept : (s : State) (t : ℕ) (x : Own) → IsSound s → sweep (put_own s t x) ≡ put_own s t x
+put_swept s t x h = sweep-put (places s t) t x s ∙ ap (put_at (places s t) t x) (sweep_clean s h.litter)
 
 -- ---- Changes of the thread's own, as what is put.
 pub error_as_put : (s : State) (t : ℕ) (e : EglError) → set_error s t e ≡ put_own s t (record (own_of s t) { error = e })
@@ -173,7 +153,7 @@ egl_effect-local s t c k h = not_local h
 
 by_egl_refusal : (s : State) (t : ℕ) (v : ℤ) (o : Option EglError) → IsSound s → after_egl_rules s t o (valued v s) ≡ as_step s t (egl_locally (part_of s t) o v)
 by_egl_refusal s t v (Some e) l = answered _ _ _ (error_as_put s t e)
-by_egl_refusal s t v None l = answered _ _ _ (ap (λ a. settled (sweep a)) (error_as_put s t Success) ∙ put_swept s t (record (own_of s t) { error = Success }) l)
+by_egl_refusal s t v None l = answered _ _ _ (ap sweep (error_as_put s t Success) ∙ put_swept s t (record (own_of s t) { error = Success }) l)
 
 egl_step-local : (s : State) (t : ℕ) (c : CallValue) (k : EglKind) → IsSound s → is_local_egl k ≡ true → egl_step s t k c ≡ as_step s t (egl_locally (part_of s t) (local_refusal c) (egl_value (part_of s t) k c))
 unfolding egl_step egl_refusal

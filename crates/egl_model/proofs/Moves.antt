@@ -1,5 +1,5 @@
 -- A change of a state as a row of moves, and what each move asks.
-use Rattle.std.specs.Prelude.{◌≡◌, ◌≢◌, ℕ, ◌+◌, ◌≤◌, Bool, true, false, ◌||◌, ◌⊎◌, List, [], ◌∷◌, ◌++◌, filter, length, map, is_some, slice_index_or, Option, None, Some}
+use Rattle.std.specs.Prelude.{◌≡◌, ◌≢◌, ℕ, ◌+◌, ◌≤◌, Bool, true, false, ◌||◌, ◌⊎◌, List, [], ◌∷◌, ◌++◌, filter, length, is_some, slice_index_or, Option, None, Some}
 use Rattle.std.specs.Option.{option_and_then, option_map}
 use Rattle.egl_calls.specs.declared.errors.EglError.{EglError}
 use Rattle.driver_objects.specs.declared.kinds.ObjectKind.TheVariants.{Context, Surface, Sync as a_sync}
@@ -21,7 +21,7 @@ use Rattle.egl_model.specs.Parts.{is_place, set_image, set_part}
 use Rattle.egl_model.specs.Currents.{has_context, has_surface, is_bound}
 use Rattle.egl_model.specs.MakeCurrent.{bind}
 use Rattle.egl_model.specs.Kinds.{named_kind}
-use Rattle.egl_model.specs.Shapes.{Goes, HasKind, IsFree, Leads, Shape, pixels_in, shape_in, shapes, slots_in, watch_in}
+use Rattle.egl_model.specs.Shapes.{Goes, HasKind, IsFree, Leads, Shape, pixels_in, shape_in, shapes, slots_in}
 use Rattle.egl_model.specs.Waits.{waiting}
 use Rattle.egl_model.specs.Sound.{IsBoundBelowNext, IsWhole}
 use Rattle.egl_model.specs.Sweep.{bytes_in, live_bytes}
@@ -41,8 +41,6 @@ pub data Move : Type 0 where
   -- the same, to at most so many bytes more
   Resize : ℕ → (Option Object → Option Object) → ℕ → Move
   Add : List (Option Object) → Move
-  -- every object changed in place
-  Each : (Option Object → Option Object) → Move
   -- a new handle of a display and a kind for an object; only the handles that pass stay
   Name : ℕ → HandleKind → ℕ → Move
   Keep : (Handle → Bool) → Move
@@ -53,7 +51,6 @@ apply t (Post id i) s = record s { windows = swapped_windows id i s.windows }
 apply t (Note e) s = set_error s t e
 apply t (Bind c d r) s = bind s t c d r
 apply t (Await x) s = waiting s t x
-apply t (Each f) s = record s { objects = map f s.objects }
 apply t (Change n f) s = record s { objects = change f n s.objects }
 apply t (Resize n f b) s = record s { objects = change f n s.objects }
 apply t (Add os) s = record s { objects = s.objects ++ os }
@@ -89,7 +86,6 @@ body_in o = record { shape = shape_in o; bytes = bytes_in o }
 
 abbrev pub Holds : Move → Type 0
 Holds (Change n f) = (o : Option Object) → body_in (f o) ≡ body_in o
-Holds (Each f) = (o : Option Object) → body_in (f o) ≡ body_in o
 Holds (Resize n f b) = ((o : Option Object) → shape_in (f o) ≡ shape_in o) × ((o : Option Object) → bytes_in (f o) ≤ bytes_in o + b)
 Holds m = Unit {0}
 
@@ -108,7 +104,6 @@ AllFull (o ∷ os) = Full o × AllFull os
 
 abbrev pub Sets : Move → Type 0
 Sets (Change n f) = Setter f
-Sets (Each f) = Setter f
 Sets (Resize n f b) = Holds (Resize n f b) × ((o : Option Object) → Full o → Full (f o))
 Sets (Add os) = AllFull os
 Sets m = Unit {0}
@@ -128,14 +123,6 @@ bytes_made (m ∷ ms) = bytes_made ms
 -- no record but that of this thread passes
 abbrev pub NoneElse : (ThreadRecord → Bool) → List ThreadRecord → ℕ → Type 0
 NoneElse p ts t = (u : ℕ) → u ≢ t → p (slice_index_or ts u initial) ≡ false
-
--- what a setter mostly leaves besides the shape: storages, and what a sync watches
-pub record Looks : Type 0 where
-  pub pixels : List ℕ
-  pub watch : Option ℕ
-
-abbrev pub looks_in : Option Object → Looks
-looks_in o = record { pixels = pixels_in o; watch = watch_in o }
 
 -- a setter, and what is put of a context's own part or of a storage's image, may come in either order
 abbrev pub PastPart : (Option Object → Option Object) → Type 0
@@ -161,14 +148,6 @@ pub record Suits (t : ℕ) (sh : List (Option Shape)) (s : State) (n : ℕ) (f :
   pub pixels : (o : Option Object) (k : ℕ) → is_in k (pixels_in (f o)) ≡ true → (is_in k (pixels_in o) ≡ true) ⊎ IsFree sh k
   pub part : PastPart f ⊎ NoneElse (has_context n) s.threads t
   pub image : PastImage f ⊎ NoneElse (draws s.objects n) s.threads t
-  pub watch : (o : Option Object) → Goes sh Context (watch_in o) → Goes sh Context (watch_in (f o))
-
--- the same of what changes every object
-pub record SuitsEach (sh : List (Option Shape)) (f : Option Object → Option Object) : Type 0 where
-  pub leads : (o : Option Object) → Leads sh (slots_in o) → Leads sh (slots_in (f o))
-  pub pixels : (o : Option Object) → pixels_in (f o) ≡ pixels_in o
-  pub past : Past f
-  pub watch : (o : Option Object) → Goes sh Context (watch_in o) → Goes sh Context (watch_in (f o))
 
 -- what is bound is of its kind and bound to no other thread, all three or none, under numbers of handles that were given
 pub record Binds (t : ℕ) (sh : List (Option Shape)) (s : State) (c d r : Option Bound) : Type 0 where
@@ -190,7 +169,6 @@ own_in (Some o) = own_of o
 pub record IsStored (sh : List (Option Shape)) (place : ℕ) (o : Option Object) : Type 0 where
   pub own : (k : ℕ) → own_in o ≡ Some k → k ≡ place + 1
   pub pixels : (k : ℕ) → is_in k (pixels_in o) ≡ true → (k ≡ place + 1) ⊎ IsFree sh k
-  pub watch : Goes sh Context (watch_in o)
 
 -- new objects, the first of them at base + j
 abbrev pub Stands : List (Option Shape) → ℕ → ℕ → List (Option Object) → Type 0
@@ -206,7 +184,6 @@ Fits t sh s (Bind c d r) = Binds t sh s c d r
 Fits t sh s (Change n f) = Suits t sh s n f
 Fits t sh s (Resize n f b) = Suits t sh s n f
 Fits t sh s (Await x) = Goes sh a_sync x
-Fits t sh s (Each f) = SuitsEach sh f
 Fits t sh s (Add os) = Stands (sh ++ shapes os) (length s.objects) 0 os
 Fits t sh s (Name d k n) = HasKind sh (named_kind k) n
 Fits t sh s m = Unit {0}

@@ -9,21 +9,18 @@ use Rattle.pixel_rows.specs.Images.{blank}
 use Rattle.driver_objects.specs.Storages.{stored}
 use Rattle.std.proofs.lemmas.List.{length-replicate}
 use Rattle.egl_model.specs.Graph.{is_in}
-use Rattle.driver_objects.specs.declared.kinds.ObjectKind.TheVariants.{Context as a_context}
-use Rattle.egl_model.specs.Shapes.{Goes, Shape, pixels_in, watch_in}
+use Rattle.egl_model.specs.Shapes.{Shape, pixels_in}
 use Rattle.egl_model.proofs.Moves.{IsStored, own_in}
 use Rattle.egl_model.proofs.Slots.{no_edge, only_one}
 
-pub without_pixels : (sh : List (Option Shape)) (place : ℕ) (o : Option Object) → own_in o ≡ None → pixels_in o ≡ [] → Goes sh a_context (watch_in o) → IsStored sh place o
-without_pixels sh place o a b g = record {
-  watch = g;
+pub without_pixels : (sh : List (Option Shape)) (place : ℕ) (o : Option Object) → own_in o ≡ None → pixels_in o ≡ [] → IsStored sh place o
+without_pixels sh place o a b = record {
   own = λ k e. absurd (let f : None ≡ Some k = sym a ∙ e in cc);
   pixels = λ k h. no_edge k (ap (is_in k) (sym b) ∙ h);
 }
 
 pub with_own_pixels : (sh : List (Option Shape)) (place : ℕ) (x : BackedSurface) → x.storage ≡ place + 1 → IsStored sh place (Some (Surface x))
 with_own_pixels sh place x e = record {
-  watch = tt;
   own = λ k h. same k x.storage h ∙ e;
   pixels = λ k h. inl (sym (only_one k x.storage h) ∙ e);
 }

@@ -1,7 +1,6 @@
 -- What the fields of objects may be set to.
-use Rattle.std.proofs.Common.{◌≡◌, length, ℕ, ℤ, Bool, true, is_some, inl, inr, List, refl, sym, ap, subst, ◌∙◌, Option, None, Some}
+use Rattle.std.proofs.Common.{◌≡◌, length, ℕ, ℤ, Bool, true, is_some, inl, inr, List, refl, sym, ap, ◌∙◌, Option, None, Some}
 use Rattle.surface_store.specs.Surfaces.{SurfaceValue}
-use Rattle.driver_objects.specs.declared.kinds.ObjectKind.TheVariants.{Context as a_context}
 use Rattle.context_state.specs.Parts.{PartValue}
 use Rattle.pixel_rows.specs.Images.{ImageValue}
 use Rattle.egl_model.specs.Parts.{set_image, set_part}
@@ -12,14 +11,16 @@ use Rattle.std.specs.Option.{option_map}
 use Rattle.std.proofs.lemmas.List.FromFn.{length-map-range_with_len}
 use Rattle.driver_objects.specs.Storages.{AreImageOf, IsImageOf, cleared_image}
 use Rattle.driver_objects.specs.declared.objects.Object.{Object}
-use Rattle.driver_objects.specs.declared.objects.Object.TheVariants.{Context, Storage, Surface}
+use Rattle.driver_objects.specs.declared.objects.Object.TheVariants.{Context, Storage, Surface, Sync}
 use Rattle.egl_model.specs.Full.{Full}
 use Rattle.egl_model.specs.Graph.{is_in}
-use Rattle.egl_model.specs.Objects.{with_image, with_part, with_surface}
-use Rattle.egl_model.specs.Shapes.{Goes, Leads, Shape, pixels_in, slots_in, watch_in}
+use Rattle.driver_objects.specs.declared.fences.Fence.{Fence}
+use Rattle.egl_model.specs.Flushes.{flushed_to}
+use Rattle.egl_model.specs.Objects.{with_context, with_fence, with_image, with_part, with_surface}
+use Rattle.egl_model.specs.Shapes.{Leads, Shape, pixels_in, slots_in}
 use Rattle.egl_model.specs.Currents.{has_context}
 use Rattle.egl_model.specs.State.{State}
-use Rattle.egl_model.proofs.Moves.{Looks, Setter, body_in, draws, NoneElse, Suits, looks_in}
+use Rattle.egl_model.proofs.Moves.{Setter, body_in, draws, NoneElse, Suits}
 
 -- ---- A context's own part.
 pub holds-part : (f : PartValue → PartValue) (o : Option Object) → body_in (with_part f o) ≡ body_in o
@@ -38,16 +39,12 @@ setter-part f = record { body = holds-part f; full = full }
     full o h = h
 
 pub suits-part : (t : ℕ) (sh : List (Option Shape)) (s : State) (n : ℕ) (f : PartValue → PartValue) → NoneElse (has_context n) s.threads t → Suits t sh s n (with_part f)
-suits-part t sh s n f mine = record { leads = leads; pixels = λ o k h. inl (ap (is_in k) (sym (pixels o)) ∙ h); part = inr mine; image = inl past; watch = watch }
+suits-part t sh s n f mine = record { leads = leads; pixels = λ o k h. inl (ap (is_in k) (sym (pixels o)) ∙ h); part = inr mine; image = inl past }
   where
     past : (y : Option ImageValue) (o : Option Object) → set_image y (with_part f o) ≡ with_part f (set_image y o)
     past y (Some (Context c)) = refl
     past y (Some (Storage v)) = refl
     past y o = refl
-
-    watch : (o : Option Object) → Goes sh a_context (watch_in o) → Goes sh a_context (watch_in (with_part f o))
-    watch (Some (Context c)) g = tt
-    watch o g = g
 
     pixels : (o : Option Object) → pixels_in (with_part f o) ≡ pixels_in o
     pixels (Some (Context c)) = refl
@@ -55,6 +52,71 @@ suits-part t sh s n f mine = record { leads = leads; pixels = λ o k h. inl (ap 
 
     leads : (o : Option Object) → Leads sh (slots_in o) → Leads sh (slots_in (with_part f o))
     leads (Some (Context c)) l = l
+    leads o l = l
+
+-- ---- How far a context is flushed.
+pub setter-flush : (k : ℕ) → Setter (with_context (flushed_to k))
+setter-flush k = record { body = body; full = full }
+  where
+    body : (o : Option Object) → body_in (with_context (flushed_to k) o) ≡ body_in o
+    body (Some (Context c)) = refl
+    body o = refl
+
+    full : (o : Option Object) → Full o → Full (with_context (flushed_to k) o)
+    full (Some (Context c)) h = h
+    full o h = h
+
+pub suits-flush : (t : ℕ) (sh : List (Option Shape)) (s : State) (n k : ℕ) → Suits t sh s n (with_context (flushed_to k))
+suits-flush t sh s n k = record { leads = leads; pixels = λ o m h. inl (ap (is_in m) (sym (looks o)) ∙ h); part = inl past_part; image = inl past_image }
+  where
+    past_part : (x : Option PartValue) (o : Option Object) → set_part x (with_context (flushed_to k) o) ≡ with_context (flushed_to k) (set_part x o)
+    past_part x (Some (Context c)) = refl
+    past_part x o = refl
+
+    past_image : (y : Option ImageValue) (o : Option Object) → set_image y (with_context (flushed_to k) o) ≡ with_context (flushed_to k) (set_image y o)
+    past_image y (Some (Context c)) = refl
+    past_image y (Some (Storage v)) = refl
+    past_image y o = refl
+
+    looks : (o : Option Object) → pixels_in (with_context (flushed_to k) o) ≡ pixels_in o
+    looks (Some (Context c)) = refl
+    looks o = refl
+
+    leads : (o : Option Object) → Leads sh (slots_in o) → Leads sh (slots_in (with_context (flushed_to k) o))
+    leads (Some (Context c)) l = l
+    leads o l = l
+
+-- ---- A fence.
+pub setter-fence : (f : Fence → Fence) → Setter (with_fence f)
+setter-fence f = record { body = body; full = full }
+  where
+    body : (o : Option Object) → body_in (with_fence f o) ≡ body_in o
+    body (Some (Sync x)) = refl
+    body o = refl
+
+    full : (o : Option Object) → Full o → Full (with_fence f o)
+    full (Some (Sync x)) h = tt
+    full o h = h
+
+pub suits-fence : (t : ℕ) (sh : List (Option Shape)) (s : State) (n : ℕ) (f : Fence → Fence) → Suits t sh s n (with_fence f)
+suits-fence t sh s n f = record { leads = leads; pixels = λ o m h. inl (ap (is_in m) (sym (looks o)) ∙ h); part = inl past_part; image = inl past_image }
+  where
+    past_part : (x : Option PartValue) (o : Option Object) → set_part x (with_fence f o) ≡ with_fence f (set_part x o)
+    past_part x (Some (Context c)) = refl
+    past_part x (Some (Sync z)) = refl
+    past_part x o = refl
+
+    past_image : (y : Option ImageValue) (o : Option Object) → set_image y (with_fence f o) ≡ with_fence f (set_image y o)
+    past_image y (Some (Storage v)) = refl
+    past_image y (Some (Sync z)) = refl
+    past_image y o = refl
+
+    looks : (o : Option Object) → pixels_in (with_fence f o) ≡ pixels_in o
+    looks (Some (Sync x)) = refl
+    looks o = refl
+
+    leads : (o : Option Object) → Leads sh (slots_in o) → Leads sh (slots_in (with_fence f o))
+    leads (Some (Sync x)) l = l
     leads o l = l
 
 -- ---- A surface but for its storage.
@@ -70,7 +132,7 @@ setter-surface f = record { body = body; full = full }
     full o h = h
 
 pub suits-surface : (t : ℕ) (sh : List (Option Shape)) (s : State) (n : ℕ) (f : SurfaceValue → SurfaceValue) → Suits t sh s n (with_surface f)
-suits-surface t sh s n f = record { leads = leads; pixels = λ o k h. inl (ap (λ (x : Looks). is_in k x.pixels) (sym (looks o)) ∙ h); part = inl past_part; image = inl past_image; watch = λ o g. subst (Goes sh a_context) (ap (λ (x : Looks). x.watch) (sym (looks o))) g }
+suits-surface t sh s n f = record { leads = leads; pixels = λ o k h. inl (ap (is_in k) (sym (looks o)) ∙ h); part = inl past_part; image = inl past_image }
   where
     past_part : (x : Option PartValue) (o : Option Object) → set_part x (with_surface f o) ≡ with_surface f (set_part x o)
     past_part x (Some (Context c)) = refl
@@ -82,7 +144,7 @@ suits-surface t sh s n f = record { leads = leads; pixels = λ o k h. inl (ap (�
     past_image y (Some (Surface x)) = refl
     past_image y o = refl
 
-    looks : (o : Option Object) → looks_in (with_surface f o) ≡ looks_in o
+    looks : (o : Option Object) → pixels_in (with_surface f o) ≡ pixels_in o
     looks (Some (Surface x)) = refl
     looks o = refl
 
@@ -115,14 +177,14 @@ setter-image h e = record { body = body; full = full }
     full o g = g
 
 pub suits-image : (t : ℕ) (sh : List (Option Shape)) (s : State) (n : ℕ) (h : ImageValue → ImageValue) → NoneElse (draws s.objects n) s.threads t → Suits t sh s n (with_image h)
-suits-image t sh s n h mine = record { leads = leads; pixels = λ o k g. inl (ap (λ (x : Looks). is_in k x.pixels) (sym (looks o)) ∙ g); part = inl past; image = inr mine; watch = λ o g. subst (Goes sh a_context) (ap (λ (x : Looks). x.watch) (sym (looks o))) g }
+suits-image t sh s n h mine = record { leads = leads; pixels = λ o k g. inl (ap (is_in k) (sym (looks o)) ∙ g); part = inl past; image = inr mine }
   where
     past : (x : Option PartValue) (o : Option Object) → set_part x (with_image h o) ≡ with_image h (set_part x o)
     past x (Some (Context c)) = refl
     past x (Some (Storage v)) = refl
     past x o = refl
 
-    looks : (o : Option Object) → looks_in (with_image h o) ≡ looks_in o
+    looks : (o : Option Object) → pixels_in (with_image h o) ≡ pixels_in o
     looks (Some (Storage x)) = refl
     looks o = refl
 

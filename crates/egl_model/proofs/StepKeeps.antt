@@ -1,15 +1,15 @@
 -- What each step keeps, and so each history.
 use Rattle.std.proofs.Common.{◌≡◌, ℕ, true, false, List, [], ◌∷◌, refl, sym, ap, subst, ◌∙◌, arith, get_or, None, Some, is_some}
-use Rattle.display_table.specs.declared.handles.HandleKind.TheVariants.{Context as a_context, Surface as a_surface}
+use Rattle.display_table.specs.declared.handles.HandleKind.TheVariants.{Context as a_context, Surface as a_surface, Sync as a_sync}
 use Rattle.std.specs.Prelude.{replicate}
 use Rattle.std.proofs.lemmas.List.Elements.{All-nil}
 use Rattle.egl_calls.specs.Calls.{CallValue}
 use Rattle.egl_calls.specs.declared.entries.Entry.{Entry}
 use Rattle.egl_calls.specs.declared.kinds.Kind.TheVariants.{Egl}
 use Rattle.egl_calls.specs.declared.kinds.EglKind.{EglKind}
-use Rattle.egl_calls.specs.declared.kinds.EglKind.TheVariants.{Initialize, Terminate, CreateWindowSurface, CreatePbufferSurface, CreateContext, MakeCurrent, DestroySurface, SurfaceAttrib, DestroyContext, SwapBuffers, ReleaseThread}
+use Rattle.egl_calls.specs.declared.kinds.EglKind.TheVariants.{Initialize, Terminate, CreateWindowSurface, CreatePbufferSurface, CreateContext, MakeCurrent, DestroySurface, SurfaceAttrib, DestroyContext, SwapBuffers, WaitClient, ReleaseThread, CreateSync, DestroySync, ClientWaitSync, WaitSync}
 use Rattle.egl_calls.specs.declared.kinds.GlKind.{GlKind}
-use Rattle.egl_calls.specs.declared.kinds.GlKind.TheVariants.{GetError, ClearColorx, Clear}
+use Rattle.egl_calls.specs.declared.kinds.GlKind.TheVariants.{GetError, Flush, Finish, ClearColorx, Clear}
 use Rattle.egl_calls.specs.declared.errors.EglError.TheVariants.{Success}
 use Rattle.context_state.specs.Parts.{noted}
 use Rattle.context_state.specs.Local.{apply}
@@ -24,9 +24,9 @@ use Rattle.egl_model.specs.Kinds.{NamesItsKind}
 use Rattle.egl_model.specs.Laws.{HandlesAreNew, ObjectsAreNew, has_object, StayValid}
 use Rattle.egl_model.specs.Links.{IsHeld}
 use Rattle.egl_model.specs.Shapes.{Leads, shapes}
-use Rattle.egl_model.specs.Sound.{IsBelowNext, IsBoundBelowNext, IsFirm, IsSound, IsWhole}
+use Rattle.egl_model.specs.Sound.{IsBelowNext, IsBoundBelowNext, IsSound, IsWhole}
 use Rattle.egl_model.specs.Wants.{PixelsFit}
-use Rattle.egl_model.specs.Sweep.{live_bytes, tidied}
+use Rattle.egl_model.specs.Sweep.{live_bytes, sweep}
 use Rattle.egl_model.specs.Waits.{waiting}
 use Rattle.egl_model.specs.Slots.{held_slots}
 use Rattle.egl_model.specs.Arguments.{number}
@@ -38,6 +38,9 @@ use Rattle.egl_model.specs.History.{replay_from}
 use Rattle.egl_model.specs.Step.{note_error, step}
 use Rattle.egl_model.proofs.EglCalls.{acts-context, acts-error, acts-initialize, acts-make_current, acts-pbuffer, acts-terminate, acts-wait_end, acts-attribute, acts-destroyed, acts-released}
 use Rattle.egl_model.proofs.WindowCalls.{acts-swap, acts-window}
+use Rattle.egl_model.specs.Flushes.{flush}
+use Rattle.egl_model.specs.Windows.{swapped}
+use Rattle.egl_model.proofs.SyncCalls.{acts-client_wait, acts-create_sync, acts-flush, acts-flushed, acts-serve}
 use Rattle.egl_model.proofs.GlCalls.{acts-clear, acts-own_part}
 use Rattle.egl_model.proofs.FrameMoves.{frame_self, handles_then, objects_then}
 use Rattle.egl_model.proofs.LinkLaws.{exists_marked}
@@ -60,12 +63,19 @@ egl_acts s t c SurfaceAttrib h r = acts-attribute s t c
 egl_acts s t c CreateContext h r = acts-context s t c
 egl_acts s t c DestroyContext h r = acts-destroyed s t c a_context
 egl_acts s t c MakeCurrent h r = acts-make_current s t c h r
-egl_acts s t c SwapBuffers h r = acts-swap s t
+egl_acts s t c SwapBuffers h r = acts_then quiet t s (λ a. swapped a t) (λ a. flush a t) (acts-swap s t) (acts-flush (swapped s t) t)
+egl_acts s t c WaitClient h r = acts-flush s t
+egl_acts s t c CreateSync h r = acts-create_sync s t c
+egl_acts s t c DestroySync h r = acts-destroyed s t c a_sync
+egl_acts s t c ClientWaitSync h r = acts-client_wait s t c
+egl_acts s t c WaitSync h r = acts-serve s t c
 egl_acts s t c ReleaseThread h r = acts-released s t
 egl_acts s t c k h r = acts_self t s
 
 gl_acts : (s : State) (t n : ℕ) (c : CallValue) (k : GlKind) → current_context s t ≡ Some n → Acts quiet t s (λ a. (gl_effect a t n k c).state)
 gl_acts s t n c GetError i = acts-own_part s t n (λ p. (apply c p).part) i
+gl_acts s t n c Flush i = acts-flushed s t (Some n)
+gl_acts s t n c Finish i = acts-flushed s t (Some n)
 gl_acts s t n c ClearColorx i = acts-own_part s t n (λ p. (apply c p).part) i
 gl_acts s t n c Clear i = acts-clear s t n c i
 gl_acts s t n c k i = acts_self t s
@@ -75,18 +85,18 @@ by_kind : (s : State) (t : ℕ) (c : CallValue) (k : EglKind) (a : State) → c.
 by_kind s t c k a h = subst (λ x. Keeps x t s a) (ap extent_of_kind (sym h))
 
 -- an error, or the effect and what follows it
-pub acts-egl_done : (s : State) (t : ℕ) (c : CallValue) (k : EglKind) → c.kind ≡ Egl k → egl_refusal s t k c ≡ None → Acts (egl_extent k) t s (λ a. tidied (set_error (egl_effect a t k c).state t Success))
+pub acts-egl_done : (s : State) (t : ℕ) (c : CallValue) (k : EglKind) → c.kind ≡ Egl k → egl_refusal s t k c ≡ None → Acts (egl_extent k) t s (λ a. sweep (set_error (egl_effect a t k c).state t Success))
 acts-egl_done s t c k h r = acts_swept (egl_extent k) t s (λ a. set_error (egl_effect a t k c).state t Success)
     (acts_then (egl_extent k) t s (λ a. (egl_effect a t k c).state) (λ a. set_error a t Success) (egl_acts s t c k h r) (acts-error (egl_effect s t k c).state t Success))
 
-pub acts-gl_done : (s : State) (t n : ℕ) (c : CallValue) (k : GlKind) → current_context s t ≡ Some n → Acts quiet t s (λ a. tidied (gl_effect a t n k c).state)
+pub acts-gl_done : (s : State) (t n : ℕ) (c : CallValue) (k : GlKind) → current_context s t ≡ Some n → Acts quiet t s (λ a. sweep (gl_effect a t n k c).state)
 acts-gl_done s t n c k i = acts_swept quiet t s (λ a. (gl_effect a t n k c).state) (gl_acts s t n c k i)
 
 -- readBuffer changes nothing, and the end of a wait is one move
-pub acts-tidied : (s : State) (t : ℕ) → Acts quiet t s tidied
-acts-tidied s t = acts_swept quiet t s (λ a. a) (acts_self t s)
+pub acts-swept_self : (s : State) (t : ℕ) → Acts quiet t s sweep
+acts-swept_self s t = acts_swept quiet t s (λ a. a) (acts_self t s)
 
-pub acts-wait_done : (s : State) (t : ℕ) → Acts quiet t s (λ a. tidied (waiting a t None))
+pub acts-wait_done : (s : State) (t : ℕ) → Acts quiet t s (λ a. sweep (waiting a t None))
 acts-wait_done s t = acts_swept quiet t s (λ a. waiting a t None) (acts-wait_end s t)
 
 pub keeps-step : (s : State) (t : ℕ) (c : CallValue) → Keeps (extent_of_kind c.kind) t s (step s t c).state
@@ -95,9 +105,9 @@ keeps-step s t c = each_way (Keeps (extent_of_kind c.kind) t s) s t c (record {
   egl_error = λ e. (acts_within (extent_of_kind c.kind) t s (λ a. set_error a t e) (acts-error s t e)).moved.keeps;
   gl_error = λ n e i. (acts_within (extent_of_kind c.kind) t s (λ a. note_error a n e) (acts-own_part s t n (noted e) i)).moved.keeps;
   egl_done = λ k h r. by_kind s t c k _ h (acts-egl_done s t c k h r).moved.keeps;
-  gl_done = λ n k i. (acts_within (extent_of_kind c.kind) t s (λ a. tidied (gl_effect a t n k c).state) (acts-gl_done s t n c k i)).moved.keeps;
-  swept = (acts_within (extent_of_kind c.kind) t s tidied (acts-tidied s t)).moved.keeps;
-  wait_done = (acts_within (extent_of_kind c.kind) t s (λ a. tidied (waiting a t None)) (acts-wait_done s t)).moved.keeps;
+  gl_done = λ n k i. (acts_within (extent_of_kind c.kind) t s (λ a. sweep (gl_effect a t n k c).state) (acts-gl_done s t n c k i)).moved.keeps;
+  swept = (acts_within (extent_of_kind c.kind) t s sweep (acts-swept_self s t)).moved.keeps;
+  wait_done = (acts_within (extent_of_kind c.kind) t s (λ a. sweep (waiting a t None)) (acts-wait_done s t)).moved.keeps;
 })
 
 pub full-step : (s : State) (t : ℕ) (c : CallValue) → IsFull s → IsFull (step s t c).state
@@ -107,7 +117,7 @@ full-step s t c f = each_way IsFull s t c (record {
   gl_error = λ n e i. (acts-own_part s t n (noted e) i).full f;
   egl_done = λ k h r. (acts-egl_done s t c k h r).full f;
   gl_done = λ n k i. (acts-gl_done s t n c k i).full f;
-  swept = (acts-tidied s t).full f;
+  swept = (acts-swept_self s t).full f;
   wait_done = (acts-wait_done s t).full f;
 })
 
@@ -145,8 +155,8 @@ unbound windows ok video t n h = absurd (let e : false ≡ true = sym (initial_a
 undrawn : (windows : List WindowSpec) → windows_ok windows ≡ true → (video t n : ℕ) {A : Type 0} → has_surface n (record_of (opening windows video) t) ≡ true → A
 undrawn windows ok video t n h = absurd (let e : false ≡ true = sym (initial_at (has_surface n) capacity t) ∙ h in cc)
 
-firm-opening : (windows : List WindowSpec) → windows_ok windows ≡ true → (video : ℕ) → IsFirm (shapes []) (opening windows video)
-firm-opening windows ok video = record {
+pub whole-opening : (windows : List WindowSpec) → windows_ok windows ≡ true → (video : ℕ) → IsWhole (shapes []) (opening windows video)
+whole-opening windows ok video = record {
   kinds = record {
     handles = All-nil (NamesItsKind (shapes []));
     threads = at_first (Leads (shapes [])) held_slots (tt, (tt, (tt, (tt, tt))));
@@ -163,9 +173,6 @@ firm-opening windows ok video = record {
     read = at_first (λ (r : ThreadRecord). IsBoundBelowNext (opening windows video) r.read) (λ r. r) tt;
   };
 }
-
-pub whole-opening : (windows : List WindowSpec) → windows_ok windows ≡ true → (video : ℕ) → IsWhole (shapes []) (opening windows video)
-whole-opening windows ok video = record { firm = firm-opening windows ok video; watches = record { each = λ n. tt } }
 
 pixels-opening : (windows : List WindowSpec) → windows_ok windows ≡ true → (video : ℕ) → PixelsFit (opening windows video)
 unfolding live_bytes

@@ -15,7 +15,7 @@ use Rattle.egl_calls.specs.Errors.{egl_code}
 use Rattle.egl_calls.specs.declared.kinds.Kind.{Kind}
 use Rattle.egl_calls.specs.declared.kinds.Kind.TheVariants.{Egl, Gl, Own as OwnCall}
 use Rattle.egl_calls.specs.declared.kinds.EglKind.{EglKind}
-use Rattle.egl_calls.specs.declared.kinds.EglKind.TheVariants.{CreateWindowSurface, SwapBuffers, GetError as EglGetError, CreatePbufferSurface, MakeCurrent, GetCurrentContext, GetCurrentSurface, GetCurrentDisplay, QueryApi, QuerySurface, QueryContext}
+use Rattle.egl_calls.specs.declared.kinds.EglKind.TheVariants.{CreateWindowSurface, SwapBuffers, GetError as EglGetError, CreatePbufferSurface, MakeCurrent, GetCurrentContext, GetCurrentSurface, GetCurrentDisplay, QueryApi, QuerySurface, QueryContext, CreateSync, ClientWaitSync, WaitSync, GetSyncAttrib}
 use Rattle.egl_calls.specs.declared.kinds.GlKind.{GlKind}
 use Rattle.egl_calls.specs.declared.kinds.GlKind.TheVariants.{GetError, ClearColorx, ReadPixels}
 use Rattle.egl_calls.specs.declared.errors.EglError.{EglError}
@@ -46,6 +46,8 @@ use Rattle.egl_model.specs.Waits.{is_signalled, is_wait_end}
 use Rattle.egl_model.specs.Effects.{valued}
 use Rattle.egl_calls.specs.declared.kinds.OwnKind.{OwnKind}
 use Rattle.egl_calls.specs.declared.kinds.OwnKind.TheVariants.{ReadBuffer, Census}
+use Rattle.egl_model.specs.Syncs.{sync_facts}
+use Rattle.egl_model.proofs.SyncCalls.{blind-client_wait, blind-new_sync, blind-server, blind-sync_value}
 use Rattle.egl_model.proofs.WindowCalls.{blind-swap_facts, blind-window_facts}
 use Rattle.egl_model.proofs.Blinds.{blind-context_elsewhere, blind-context_of, blind-current, blind-live_bytes, blind-own_part, blind-own_storage, blind-read, blind-record, blind-surface_elsewhere, blind-surface_of, read_alone, blind-signalled, blind-any, blind-context, blind-display}
 use Rattle.egl_model.proofs.EglCalls.{acts-error}
@@ -53,7 +55,7 @@ use Rattle.egl_model.proofs.GlCalls.{acts-own_part}
 use Rattle.egl_model.proofs.Keeps.{Blind}
 use Rattle.egl_model.proofs.PutMoves.{places-stand}
 use Rattle.egl_model.proofs.PutWhole.{whole-put}
-use Rattle.egl_model.proofs.StepKeeps.{acts-egl_done, acts-gl_done, keeps-step, acts-tidied, acts-wait_done}
+use Rattle.egl_model.proofs.StepKeeps.{acts-egl_done, acts-gl_done, keeps-step, acts-swept_self, acts-wait_done}
 
 -- ---- Facts: a line for each call whose facts look at objects or at threads.
 blind-config_of_context : (t : ℕ) (h : Option Handle) (s : State) → Blind t s (λ a. config_of_context a h)
@@ -97,6 +99,9 @@ blind-facts t c s CreatePbufferSurface w v x ne = ap (λ n. record (pbuffer_fact
 blind-facts t c s MakeCurrent w v x ne = blind-current_facts t c s w v x ne
 blind-facts t c s QuerySurface w v x ne = ap (λ y. record (surface_facts s c) { is_attribute = is_some y }) (blind-surface_value t c s w v x ne)
 blind-facts t c s QueryContext w v x ne = ap (λ y. record (context_call_facts s c) { is_attribute = is_some y }) (blind-context_value t c s w v x ne)
+blind-facts t c s CreateSync w v x ne = blind-new_sync t c s w v x ne
+blind-facts t c s WaitSync w v x ne = blind-server t c s w v x ne
+blind-facts t c s GetSyncAttrib w v x ne = ap (λ y. record (sync_facts s c) { is_attribute = is_some y }) (blind-sync_value t c s w v x ne)
 blind-facts t c s k w v x ne = refl
 
 blind-refusal : (t : ℕ) (c : CallValue) (s : State) (k : EglKind) → Blind t s (λ a. egl_refusal a t k c)
@@ -116,6 +121,8 @@ blind-egl_reply t c s GetCurrentDisplay w v x ne = ap (λ o. done (valued (pos (
 blind-egl_reply t c s QueryApi w v x ne = ap (λ (r : ThreadRecord). done (valued (pos (api_code r.api)) s)) (blind-record t s w v x ne)
 blind-egl_reply t c s QuerySurface w v x ne = ap (λ y. done (valued (unwrap_or y (pos 0)) s)) (blind-surface_value t c s w v x ne)
 blind-egl_reply t c s QueryContext w v x ne = ap (λ y. done (valued (unwrap_or y (pos 0)) s)) (blind-context_value t c s w v x ne)
+blind-egl_reply t c s ClientWaitSync w v x ne = blind-client_wait t c s w v x ne
+blind-egl_reply t c s GetSyncAttrib w v x ne = ap (λ y. done (valued (unwrap_or y (pos 0)) s)) (blind-sync_value t c s w v x ne)
 blind-egl_reply t c s k w v x ne = refl
 
 blind-read_pixels : (t : ℕ) (c : CallValue) (s : State) → Blind t s (λ a. read_pixels a t c)
@@ -158,7 +165,7 @@ by_context t v x s c k (Some n) ne w h =
 by_buffer_rules : (t v n : ℕ) (x : Own) (s : State) (c : CallValue) (o : Option GlError) → v ≢ t → IsWhole (shapes s.objects) s → current_context s t ≡ Some n →
     after_gl_rules (put_own s v x) n o (buffer_effect (put_own s v x) t n c) ≡ moved_step (put_at (places s v) v x) (after_gl_rules s n o (buffer_effect s t n c))
 by_buffer_rules t v n x s c (Some e) ne w h = answered _ _ _ ((acts-own_part s t n (noted e) h).moved.put w v x ne)
-by_buffer_rules t v n x s c None ne w h = answered _ _ _ ((acts-tidied s t).moved.put w v x ne)
+by_buffer_rules t v n x s c None ne w h = answered _ _ _ ((acts-swept_self s t).moved.put w v x ne)
 
 by_buffer : (t v : ℕ) (x : Own) (s : State) (c : CallValue) (o : Option ℕ) → v ≢ t → IsWhole (shapes s.objects) s → current_context s t ≡ o → buffer_step_on (put_own s v x) t o c ≡ moved_step (put_at (places s v) v x) (buffer_step_on s t o c)
 unfolding buffer_refusal

@@ -1,12 +1,11 @@
 -- A whole state is linked, and a sweep leaves it whole.
 use Rattle.std.proofs.Common.{◌≡◌, ℕ, zero, suc, ◌<◌, inl, inr, Bool, true, false, cond, List, [], ◌∷◌, ◌++◌, refl, sym, ap, subst, ◌∙◌, arith, length, map, Option, None, Some, get_or, is_some}
-use Rattle.std.specs.Prelude.{All, ◌==◌, ◌||◌, not, option_to_list}
+use Rattle.std.specs.Prelude.{All, ◌==◌, option_to_list}
 use Rattle.std.specs.List.{flat_map}
 use Rattle.std.specs.Option.{option_map}
 use Rattle.std.proofs.lemmas.List.Elements.{All-head, All-tail}
 use Rattle.std.proofs.lemmas.Bool.{eq-eqb}
 use Rattle.driver_objects.specs.declared.kinds.ObjectKind.{ObjectKind}
-use Rattle.driver_objects.specs.declared.kinds.ObjectKind.TheVariants.{Context as a_context}
 use Rattle.driver_objects.specs.declared.objects.Object.{Object}
 use Rattle.driver_objects.specs.declared.objects.Object.TheVariants.{Context, Group, Texture, Surface, Storage, Sync}
 use Rattle.driver_objects.specs.Objects.{kind_of, rank_of, rank_of_kind}
@@ -19,19 +18,16 @@ use Rattle.egl_model.specs.State.{State, initial, object_at, record_of}
 use Rattle.egl_model.specs.Kinds.{KindsFit, NamesItsKind, named_kind}
 use Rattle.egl_model.specs.Laws.{has_object}
 use Rattle.egl_model.specs.Links.{IsLinked, is_root, rank_in, refers}
-use Rattle.egl_model.specs.Shapes.{Goes, HasKind, Leads, Shape, kind_at, pixels_in, shapes, slots_in, watch_in}
-use Rattle.egl_model.specs.Sound.{IsFirm, IsWhole, StoragesAreOwn}
-use Rattle.egl_model.specs.Sweep.{bound_object, edges_at, edges_in, held_by, is_reached, roots, roots_of, settle, settled, sweep}
+use Rattle.egl_model.specs.Shapes.{Goes, HasKind, Leads, Shape, kind_at, pixels_in, shapes, slots_in}
+use Rattle.egl_model.specs.Sound.{IsWhole, StoragesAreOwn}
+use Rattle.egl_model.specs.Sweep.{bound_object, edges_at, edges_in, held_by, is_reached, roots, roots_of, sweep}
 use Rattle.egl_model.specs.Slots.{held_slots}
 use Rattle.egl_model.proofs.GraphLaws.{or_first}
 use Rattle.egl_model.proofs.LinkLaws.{reached_on, root_marked, same_object}
-use Rattle.egl_model.proofs.LitterLaws.{no_litter-sweep}
-use Rattle.egl_model.proofs.Moves.{Body, body_in, own_in}
-use Rattle.egl_model.proofs.WholeMoves.{firm-each}
-use Rattle.std.proofs.Math.ListN.{get_or-map}
-use Rattle.egl_model.proofs.Places.{shapes-map, kind_at-shapes, own_at-shapes}
+use Rattle.egl_model.proofs.Moves.{own_in}
+use Rattle.egl_model.proofs.Places.{kind_at-shapes, own_at-shapes}
 use Rattle.egl_model.proofs.Slots.{LedTo, in_cases, in_left, in_right, led_object, no_edge, only_one}
-use Rattle.egl_model.proofs.SweepLaws.{object_at-sweep, reached-sweep}
+use Rattle.egl_model.proofs.SweepLaws.{object_at-sweep}
 
 -- ---- Roots.
 pub held_as_ends : (r : ThreadRecord) → held_by r ≡ ends (held_slots r)
@@ -137,11 +133,11 @@ rank_of_some o x e = ap rank_in (sym e)
 
 led_by : (s : State) → IsWhole (shapes s.objects) s → (m n : ℕ) → refers s m n ≡ true → LedTo (shapes s.objects) (rank_in (object_at s m)) n
 unfolding edges_at
-led_by s w m n h = led_object (shapes s.objects) (object_at s m) (rank_in (object_at s m)) n (w.firm.kinds.objects m) (rank_of_some (object_at s m)) (ap (is_in n) (sym (edges_as_ends (object_at s m))) ∙ h)
+led_by s w m n h = led_object (shapes s.objects) (object_at s m) (rank_in (object_at s m)) n (w.kinds.objects m) (rank_of_some (object_at s m)) (ap (is_in n) (sym (edges_as_ends (object_at s m))) ∙ h)
 
 pub linked_from : (s : State) → IsWhole (shapes s.objects) s → IsLinked s
 linked_from s w = record {
-  roots = λ n h. let r = by_roots (shapes s.objects) s n w.firm.kinds h in exists_at s r.kind n r.has;
+  roots = λ n h. let r = by_roots (shapes s.objects) s n w.kinds h in exists_at s r.kind n r.has;
   edges = λ m n h. let r = led_by s w m n h in exists_at s r.kind n r.has;
   falls = λ m n h. let r = led_by s w m n h in let a = rank_by_kind (object_at s n) r.kind (sym (kind_at-shapes s.objects n) ∙ r.has.is) in let b = r.low in omega (arith, a, b);
 }
@@ -185,7 +181,7 @@ kept_slots s false o p r e h = subst (λ q. Leads (shapes (sweep s).objects) (sl
 objects-sweep : (s : State) → IsWhole (shapes s.objects) s → (n : ℕ) → Leads (shapes (sweep s).objects) (slots_in (object_at (sweep s) n))
 unfolding edges_at
 objects-sweep s w n = kept_slots s (is_reached s n) (object_at s n) (object_at (sweep s) n) refl (object_at-sweep s n)
-    (λ r. kept_leads s (slots_in (object_at s n)) (λ m h. reached_on s (linked_from s w) n m r (ap (is_in m) (edges_as_ends (object_at s n)) ∙ h)) (w.firm.kinds.objects n))
+    (λ r. kept_leads s (slots_in (object_at s n)) (λ m h. reached_on s (linked_from s w) n m r (ap (is_in m) (edges_as_ends (object_at s n)) ∙ h)) (w.kinds.objects n))
 
 own_before : (b : Bool) (o : Option Object) (k : ℕ) → own_in (cond b o None) ≡ Some k → own_in o ≡ Some k
 own_before true o k h = h
@@ -202,60 +198,16 @@ own-sweep s o = record {
       (pixels_before (is_reached s n) (object_at s n) k (ap (λ (x : Option Object). is_in k (pixels_in x)) (sym (object_at-sweep s n)) ∙ h));
 }
 
-firm-sweep : (s : State) → IsWhole (shapes s.objects) s → IsFirm (shapes (sweep s).objects) (sweep s)
+pub whole-sweep : (s : State) → IsWhole (shapes s.objects) s → IsWhole (shapes (sweep s).objects) (sweep s)
 unfolding named_by
-firm-sweep s w = record {
+whole-sweep s w = record {
   kinds = record {
-    handles = kept_handles s s.handles (λ n h. reached_root s n (is_handle s.handles s.threads n h)) w.firm.kinds.handles;
-    threads = λ t. kept_leads s (held_slots (record_of s t)) (λ n h. reached_root s n (is_held s.handles s.threads t n (ap (is_in n) (held_as_ends (record_of s t)) ∙ h))) (w.firm.kinds.threads t);
+    handles = kept_handles s s.handles (λ n h. reached_root s n (is_handle s.handles s.threads n h)) w.kinds.handles;
+    threads = λ t. kept_leads s (held_slots (record_of s t)) (λ n h. reached_root s n (is_held s.handles s.threads t n (ap (is_in n) (held_as_ends (record_of s t)) ∙ h))) (w.kinds.threads t);
     objects = objects-sweep s w;
   };
-  storages = own-sweep s w.firm.storages;
-  alone = record { contexts = w.firm.alone.contexts; surfaces = w.firm.alone.surfaces };
-  both = record { draw = w.firm.both.draw; read = w.firm.both.read };
-  numbers = record { handles = w.firm.numbers.handles; apart = w.firm.numbers.apart; context = w.firm.numbers.context; draw = w.firm.numbers.draw; read = w.firm.numbers.read };
+  storages = own-sweep s w.storages;
+  alone = record { contexts = w.alone.contexts; surfaces = w.alone.surfaces };
+  both = record { draw = w.both.draw; read = w.both.read };
+  numbers = record { handles = w.numbers.handles; apart = w.numbers.apart; context = w.numbers.context; draw = w.numbers.draw; read = w.numbers.read };
 }
-
--- ---- Then each sync whose context is gone is signalled.
-pub holds-settle : (os : List (Option Object)) (o : Option Object) → body_in (settle os o) ≡ body_in o
-holds-settle os (Some (Sync x)) = refl
-holds-settle os o = refl
-
-leads-settle : (sh : List (Option Shape)) (os : List (Option Object)) (o : Option Object) → Leads sh (slots_in o) → Leads sh (slots_in (settle os o))
-leads-settle sh os (Some (Sync x)) l = tt
-leads-settle sh os o l = l
-
-pixels-settle : (os : List (Option Object)) (o : Option Object) → pixels_in (settle os o) ≡ pixels_in o
-pixels-settle os (Some (Sync x)) = refl
-pixels-settle os o = refl
-
-by_tests : (sh ti : List (Option Shape)) (b e : Bool) (c : ℕ) → (e ≡ true → HasKind sh a_context c → HasKind ti a_context c) → Goes sh a_context (cond b None (Some c)) → Goes ti a_context (cond (b || not e) None (Some c))
-by_tests sh ti true e c f g = tt
-by_tests sh ti false true c f g = f refl g
-by_tests sh ti false false c f g = tt
-
-watch-settle : (s : State) (o : Option Object) → Goes (shapes s.objects) a_context (watch_in o) → Goes (shapes (sweep s).objects) a_context (watch_in (settle (sweep s).objects o))
-watch-settle s (Some (Sync x)) g = by_tests (shapes s.objects) (shapes (sweep s).objects) x.signalled (has_object (sweep s) x.context) x.context
-    (λ e h. kept_kind s a_context x.context (sym (reached-sweep s x.context) ∙ (no_litter-sweep s).each x.context e) h) g
-watch-settle s None g = tt
-watch-settle s (Some (Context x)) g = tt
-watch-settle s (Some Group) g = tt
-watch-settle s (Some Texture) g = tt
-watch-settle s (Some (Surface x)) g = tt
-watch-settle s (Some (Storage x)) g = tt
-
-watch-kept : (sh : List (Option Shape)) (b : Bool) (o : Option Object) → Goes sh a_context (watch_in o) → Goes sh a_context (watch_in (cond b o None))
-watch-kept sh true o g = g
-watch-kept sh false o g = tt
-
-pub whole-sweep : (s : State) → IsWhole (shapes s.objects) s → IsWhole (shapes (settled (sweep s)).objects) (settled (sweep s))
-whole-sweep s w =
-    let a = sweep s in let f = settle a.objects in
-    let e = shapes-map f (λ o. ap (λ (b : Body). b.shape) (holds-settle a.objects o)) a.objects in
-    subst (λ sh. IsWhole sh (settled a)) (sym e) (record {
-      firm = firm-each f a (leads-settle (shapes a.objects) a.objects) (pixels-settle a.objects) (firm-sweep s w);
-      watches = record {
-        each = λ n. subst (λ o. Goes (shapes a.objects) a_context (watch_in o)) (sym (get_or-map f a.objects n None))
-            (watch-settle s (object_at a n) (subst (λ o. Goes (shapes s.objects) a_context (watch_in o)) (sym (object_at-sweep s n)) (watch-kept (shapes s.objects) (is_reached s n) (object_at s n) (w.watches.each n))));
-      };
-    })

@@ -33,6 +33,8 @@ pub mod Slots
 pub mod Shapes
 pub mod Full
 pub mod Extents
+pub mod Flushes
+pub mod Syncs
 pub mod Waits
 pub mod OwnCalls
 pub mod Parts

@@ -1,5 +1,5 @@
 -- The slots by which objects and threads refer to objects, and the kind of what each may hold.
-use Rattle.std.specs.Prelude.{ℕ, List, [], ◌∷◌, ◌++◌, if◌then◌else◌, Option, None, Some, option_to_list}
+use Rattle.std.specs.Prelude.{ℕ, List, [], ◌∷◌, ◌++◌, Option, None, Some, option_to_list}
 use Rattle.std.specs.Option.{option_map}
 use Rattle.driver_objects.specs.declared.kinds.ObjectKind.{ObjectKind}
 use Rattle.driver_objects.specs.declared.kinds.ObjectKind.TheVariants.{Context as a_context, Group as a_group, Texture as a_texture, Surface as a_surface, Storage as a_storage, Sync as a_sync}
@@ -46,8 +46,3 @@ own_of o = None
 abbrev pub home_of : Object → Option ℕ
 home_of (Context c) = Some c.display
 home_of o = None
-
--- the context that an unsignalled fence watches; it is no reference
-abbrev pub watch_of : Object → Option ℕ
-watch_of (Sync x) = if x.signalled then None else Some x.context
-watch_of o = None

@@ -1,12 +1,12 @@
 //! What is true of every sweep, step and history: the contracts of functions that do nothing.
-ghost use Rattle.std.specs.Prelude.{◌≡◌, ◌≢◌, ◌<◌, ◌+◌, ◌⊎◌, ◌↔◌, ℕ, pos, ◌&&◌, ◌||◌, not, ◌==◌, true, false, All, AllPairs, ◌≤◌, if◌then◌else◌, length, List, ◌++◌, Option, None, Some, Contains};
+ghost use Rattle.std.specs.Prelude.{◌≡◌, ◌≢◌, ◌<◌, ◌+◌, ◌⊎◌, ◌↔◌, ℕ, pos, ◌&&◌, ◌==◌, true, false, All, AllPairs, ◌≤◌, if◌then◌else◌, length, List, ◌++◌, Option, None, Some, Contains};
 ghost use Rattle.display_table.specs.declared.handles.Handle.{Handle};
 ghost use Rattle.egl_model.specs.Destroyed.{IsRemoved, KeepsCurrents};
 ghost use Rattle.egl_calls.specs.Calls.{CallValue};
 ghost use Rattle.egl_calls.specs.declared.entries.Entry.{Entry};
 ghost use Rattle.egl_calls.specs.declared.kinds.Kind.TheVariants.{Egl, Own};
 ghost use Rattle.egl_calls.specs.declared.kinds.EglKind.{EglKind};
-ghost use Rattle.egl_calls.specs.declared.kinds.EglKind.TheVariants.{Initialize, Terminate, CreatePbufferSurface, CreateContext, DestroySurface, DestroyContext, ReleaseThread, CreateWindowSurface};
+ghost use Rattle.egl_calls.specs.declared.kinds.EglKind.TheVariants.{Initialize, Terminate, CreatePbufferSurface, CreateContext, DestroySurface, DestroyContext, ReleaseThread, CreateWindowSurface, CreateSync, DestroySync, ClientWaitSync};
 ghost use Rattle.egl_calls.specs.declared.kinds.GlKind.{GlKind};
 ghost use Rattle.egl_calls.specs.declared.kinds.OwnKind.{OwnKind};
 ghost use Rattle.egl_calls.specs.declared.kinds.OwnKind.TheVariants.{ReadBuffer, WaitEnd};
@@ -16,13 +16,15 @@ ghost use Rattle.egl_calls.specs.declared.errors.GlError.{GlError as AGlError};
 ghost use Rattle.egl_calls.specs.declared.errors.GlError.TheVariants.{NoError};
 ghost use Rattle.egl_calls.specs.declared.errors.Outcome.TheVariants.{Done, InWait, NoWait, Waiting, Egl as RefusedEgl, Gl as RefusedGl};
 ghost use Rattle.context_state.specs.Parts.{PartValue};
+ghost use Rattle.call_rules.specs.EglAllowed.{makes_handle};
 ghost use Rattle.call_rules.specs.EglRules.{is_release};
-ghost use Rattle.display_table.specs.declared.handles.HandleKind.TheVariants.{Context, Surface};
+ghost use Rattle.display_table.specs.declared.handles.HandleKind.TheVariants.{Context, Surface, Sync};
 ghost use Rattle.surface_store.specs.Windows.{windows_ok};
 ghost use Rattle.surface_store.specs.declared.windows.WindowSpec.{WindowSpec};
 ghost use Rattle.egl_model.specs.State.{State, object_at, opening, record_of, set_error, initial};
 ghost use Rattle.egl_model.specs.Currents.{current_context, part_of_context};
-ghost use Rattle.egl_model.specs.Sweep.{is_reached, live_bytes, sweep, tidied};
+ghost use Rattle.egl_model.specs.Sweep.{is_reached, live_bytes, sweep};
+ghost use Rattle.egl_model.specs.Flushes.{flushed};
 ghost use Rattle.egl_model.specs.Objects.{fence_in};
 ghost use Rattle.egl_model.specs.Shapes.{shapes};
 ghost use Rattle.driver_objects.specs.declared.fences.Fence.{Fence as AFence};
@@ -120,7 +122,7 @@ pub fn without_a_context_nothing_changes()
 pub fn a_wait_holds_up_until_its_end()
     ensures held_up { (s : State) (t : ℕ) (c : CallValue) (sync : ℕ) → (record_of s t).wait ≡ Some sync → c.kind ≢ Own WaitEnd → step s t c ≡ record { reply = bare InWait; state = s } }
     ensures waits { (s : State) (t : ℕ) (c : CallValue) (sync : ℕ) → (record_of s t).wait ≡ Some sync → c.kind ≡ Own WaitEnd → is_signalled s sync ≡ false → step s t c ≡ record { reply = bare Waiting; state = s } }
-    ensures ends { (s : State) (t : ℕ) (c : CallValue) (sync : ℕ) → (record_of s t).wait ≡ Some sync → c.kind ≡ Own WaitEnd → is_signalled s sync ≡ true → step s t c ≡ record { reply = done (ended s t); state = tidied (ended s t).state } }
+    ensures ends { (s : State) (t : ℕ) (c : CallValue) (sync : ℕ) → (record_of s t).wait ≡ Some sync → c.kind ≡ Own WaitEnd → is_signalled s sync ≡ true → step s t c ≡ record { reply = done (ended s t); state = sweep (ended s t).state } }
     ensures none { (s : State) (t : ℕ) (c : CallValue) → (record_of s t).wait ≡ None → c.kind ≡ Own WaitEnd → step s t c ≡ record { reply = bare NoWait; state = s } }
 {}
 
@@ -129,11 +131,12 @@ pub fn own_calls_change_nothing()
     ensures { (s : State) (t : ℕ) (k : OwnKind) (c : CallValue) → c.kind ≡ Own k → k ≢ ReadBuffer → k ≢ WaitEnd → (step s t c).state ≡ s }
 {}
 
-/// After a sweep a fence is signalled where it was, or its context is gone; no other object is changed by that. So in each history the context of a fence that isn't signalled exists (EGL 1.5, section 3.8.1).
-pub fn fences_are_signalled_with_their_contexts()
-    ensures fence { (s : State) (n : ℕ) (x : AFence) → fence_in (sweep s).objects n ≡ Some x → fence_in (tidied s).objects n ≡ Some (record x { signalled = x.signalled || not (has_object (sweep s) x.context) }) }
-    ensures rest { (s : State) (n : ℕ) → fence_in (sweep s).objects n ≡ None → object_at (tidied s) n ≡ object_at (sweep s) n }
-    ensures history { (windows : List WindowSpec) → windows_ok windows ≡ true → (video : ℕ) (entries : List Entry) (n : ℕ) (x : AFence) → let s = replay_from (opening windows video) entries in fence_in s.objects n ≡ Some x → x.signalled ≡ false → IsA ContextKind s x.context }
+/// A fence whose context is gone is signalled, so the context of one that isn't signalled is there; a flush signals the fences that its context has made, and leaves those of other contexts (EGL 1.5, section 3.8.1).
+pub fn a_fence_is_signalled_by_its_context()
+    ensures ended { (s : State) (n : ℕ) (x : AFence) → fence_in s.objects n ≡ Some x → has_object s x.context ≡ false → is_signalled s n ≡ true }
+    ensures there { (s : State) (n : ℕ) (x : AFence) → fence_in s.objects n ≡ Some x → is_signalled s n ≡ false → IsA ContextKind s x.context }
+    ensures flush { (s : State) (n c : ℕ) (x : AFence) → fence_in s.objects n ≡ Some x → x.context ≡ c → is_signalled (flushed (Some c) s) n ≡ true }
+    ensures others { (s : State) (n c : ℕ) (x : AFence) → fence_in s.objects n ≡ Some x → x.context ≢ c → is_signalled (flushed (Some c) s) n ≡ is_signalled s n }
 {}
 
 /// A call of one thread leaves what is kept for another, and there are as many records as before.
@@ -144,10 +147,11 @@ pub fn a_step_keeps_other_threads()
 
 /// A handle stays valid but by eglTerminate, which takes those of its display alone, and by the calls that destroy, which take the one that they are given alone (EGL 1.5, section 2.1).
 pub fn handles_stay_valid()
-    ensures other_calls { (s : State) (t : ℕ) (c : CallValue) → c.kind ≢ Egl Terminate → c.kind ≢ Egl DestroySurface → c.kind ≢ Egl DestroyContext → StayValid s (step s t c).state }
+    ensures other_calls { (s : State) (t : ℕ) (c : CallValue) → c.kind ≢ Egl Terminate → c.kind ≢ Egl DestroySurface → c.kind ≢ Egl DestroyContext → c.kind ≢ Egl DestroySync → StayValid s (step s t c).state }
     ensures terminated { (s : State) (t : ℕ) (c : CallValue) (h : Handle) → IsTerminated s t c → (h.display == number c 0) ≡ false → Contains s.handles h → Contains (step s t c).state.handles h }
     ensures surface { (s : State) (t : ℕ) (c : CallValue) → IsAllowedEgl s t DestroySurface c → IsRemoved s (step s t c).state (number c 1) }
     ensures context { (s : State) (t : ℕ) (c : CallValue) → IsAllowedEgl s t DestroyContext c → IsRemoved s (step s t c).state (number c 1) }
+    ensures sync { (s : State) (t : ℕ) (c : CallValue) → IsAllowedEgl s t DestroySync c → IsRemoved s (step s t c).state (number c 1) }
 {}
 
 /// What is destroyed stays current to each thread to which it is (sections 3.5.5 and 3.7.2).
@@ -189,7 +193,7 @@ pub fn make_current_binds_what_it_is_given()
     ensures wait { (s : State) (t : ℕ) (c : CallValue) → IsMadeCurrent s t c → (record_of (step s t c).state t).wait ≡ None }
 {}
 
-/// Where no rule refuses an eglCreateWindowSurface, an eglCreatePbufferSurface or an eglCreateContext, it answers the number of a new handle, which names a new object of its kind, and the next number rises by one (EGL 1.5, sections 3.5.1, 3.5.2 and 3.7.1). It rises at no other call, and at none that isn't done.
+/// Where no rule refuses an eglCreateWindowSurface, an eglCreatePbufferSurface, an eglCreateContext or an eglCreateSync, it answers the number of a new handle, which names a new object of its kind, and the next number rises by one (EGL 1.5, sections 3.5.1, 3.5.2, 3.7.1 and 3.8.1). It rises at no other call, and at none that isn't done.
 pub fn a_new_handle_names_its_object()
     ensures window { (s : State) (t : ℕ) (c : CallValue) → IsAllowedEgl s t CreateWindowSurface c → HasNewHandle s (step s t c).state (number c 0) Surface }
     ensures window_reply { (s : State) (t : ℕ) (c : CallValue) → IsAllowedEgl s t CreateWindowSurface c → (step s t c).reply.value ≡ pos s.next_handle }
@@ -197,7 +201,9 @@ pub fn a_new_handle_names_its_object()
     ensures pbuffer_reply { (s : State) (t : ℕ) (c : CallValue) → IsAllowedEgl s t CreatePbufferSurface c → (step s t c).reply.value ≡ pos s.next_handle }
     ensures context { (s : State) (t : ℕ) (c : CallValue) → IsAllowedEgl s t CreateContext c → HasNewHandle s (step s t c).state (number c 0) Context }
     ensures context_reply { (s : State) (t : ℕ) (c : CallValue) → IsAllowedEgl s t CreateContext c → (step s t c).reply.value ≡ pos s.next_handle }
-    ensures others { (s : State) (t : ℕ) (c : CallValue) → c.kind ≢ Egl CreateWindowSurface → c.kind ≢ Egl CreatePbufferSurface → c.kind ≢ Egl CreateContext → (step s t c).state.next_handle ≡ s.next_handle }
+    ensures sync { (s : State) (t : ℕ) (c : CallValue) → IsAllowedEgl s t CreateSync c → HasNewHandle s (step s t c).state (number c 0) Sync }
+    ensures sync_reply { (s : State) (t : ℕ) (c : CallValue) → IsAllowedEgl s t CreateSync c → (step s t c).reply.value ≡ pos s.next_handle }
+    ensures others { (s : State) (t : ℕ) (c : CallValue) → c.kind ≢ Egl CreateWindowSurface → c.kind ≢ Egl CreatePbufferSurface → c.kind ≢ Egl CreateContext → c.kind ≢ Egl CreateSync → (step s t c).state.next_handle ≡ s.next_handle }
     ensures undone { (s : State) (t : ℕ) (c : CallValue) → (step s t c).reply.outcome ≢ Done → (step s t c).state.next_handle ≡ s.next_handle }
 {}
 
@@ -219,11 +225,11 @@ pub fn replay_goes_on()
     ensures legal { (s : State) (before after : List Entry) → IsLegalFrom s before → IsLegalFrom (replay_from s before) after → IsLegalFrom s (before ++ after) }
 {}
 
-/// A call that no wait holds up answers an error exactly where a rule refuses it (of OpenGL ES where a context is current), and else it is done.
+/// A call that no wait holds up answers an error exactly where a rule refuses it (of OpenGL ES where a context is current), and else it is done; but eglClientWaitSync may wait.
 pub fn a_reply_tells_its_refusal()
     ensures egl { (s : State) (t : ℕ) (k : EglKind) (c : CallValue) (e : AnEglError) → IsEglCall s t k c → Answers s t c e ↔ (egl_refusal s t k c ≡ Some e) }
     ensures gl { (s : State) (t n : ℕ) (k : GlKind) (c : CallValue) (e : AGlError) → IsGlCall s t k c → current_context s t ≡ Some n → AnswersGl s t c e ↔ (gl_refusal s t n k c ≡ Some e) }
-    ensures egl_done { (s : State) (t : ℕ) (k : EglKind) (c : CallValue) → IsEglCall s t k c → egl_refusal s t k c ≡ None → (step s t c).reply.outcome ≡ Done }
+    ensures egl_done { (s : State) (t : ℕ) (k : EglKind) (c : CallValue) → IsEglCall s t k c → k ≢ ClientWaitSync → egl_refusal s t k c ≡ None → (step s t c).reply.outcome ≡ Done }
     ensures gl_done { (s : State) (t n : ℕ) (k : GlKind) (c : CallValue) → IsGlCall s t k c → current_context s t ≡ Some n → gl_refusal s t n k c ≡ None → (step s t c).reply.outcome ≡ Done }
 {}
 
@@ -239,9 +245,9 @@ pub fn a_context_wants_a_number()
     ensures wants { (s : State) (t : ℕ) (c : CallValue) → IsEglCall s t CreateContext c → IsFaultlessContext s c → Answers s t c BadAlloc ↔ WantsNumber s }
 {}
 
-/// No other call answers EGL_BAD_ALLOC.
-pub fn three_calls_want()
-    ensures { (s : State) (t : ℕ) (k : EglKind) (c : CallValue) → IsEglCall s t k c → Answers s t c BadAlloc → (k ≡ CreatePbufferSurface) ⊎ ((k ≡ CreateWindowSurface) ⊎ (k ≡ CreateContext)) }
+/// Only calls that make a handle answer EGL_BAD_ALLOC.
+pub fn creations_alone_want()
+    ensures { (s : State) (t : ℕ) (k : EglKind) (c : CallValue) → IsEglCall s t k c → Answers s t c BadAlloc → makes_handle k ≡ true }
 {}
 
 /// A new pbuffer takes the bytes that its refusal counts, and a new context none; so in each history all pixels that live fit.

@@ -9,3 +9,5 @@ mod faults;
 mod library;
 #[cfg(test)]
 mod playing;
+#[cfg(test)]
+mod waits;

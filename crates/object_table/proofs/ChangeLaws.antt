@@ -6,11 +6,13 @@ use Rattle.std.proofs.lemmas.List.{length-set, get_or-set_same, get_or-set_other
 use Rattle.std.proofs.lemmas.List.FromFn.{fill_by_all}
 use Rattle.std.specs.Prelude.{is_some, OnOk, OnErr}
 use Rattle.driver_objects.specs.declared.objects.Object.{Object}
-use Rattle.driver_objects.specs.declared.objects.Object.TheVariants.{Context, Storage, Surface}
+use Rattle.driver_objects.specs.declared.objects.Object.TheVariants.{Context, Storage, Surface, Sync}
 use Rattle.driver_objects.specs.Objects.{edges_of, rank_of}
 use Rattle.driver_objects.specs.Storages.{StorageValue}
 use Rattle.context_state.specs.Parts.{PartValue}
-use Rattle.egl_model.specs.Objects.{with_part, with_storage, with_surface}
+use Rattle.egl_model.specs.Objects.{with_context, with_fence, with_part, with_storage, with_surface}
+use Rattle.driver_objects.specs.declared.fences.Fence.{Fence}
+use Rattle.egl_model.specs.Flushes.{flushed_to}
 use Rattle.egl_model.specs.Parts.{set_image, set_part}
 use Rattle.pixel_rows.specs.Images.{ImageValue}
 use Rattle.std.specs.Option.{option_map}
@@ -24,7 +26,6 @@ use Rattle.object_table.specs.Nodes.{edges, object_in, objects_of, holds_of}
 use Rattle.object_table.specs.Tables.{IsCounted}
 use Rattle.object_table.proofs.StoreLaws.{Cells, Below, length_objects, object_at}
 use Rattle.object_table.proofs.ReleaseLaws.{same_holds}
-use Rattle.object_table.specs.Fences.{is_fence}
 
 some_node : (o : Option (Kept Stored)) (x : Stored) → node_in o ≡ Some x → (k : Kept Stored) × (o ≡ Some k)
 some_node None x h = cc
@@ -127,27 +128,34 @@ on_err (Err e) f p = f p
 pub record Keeps (x y : Object) : Type 0 where
   pub rank : rank_of y ≡ rank_of x
   pub edges : edges_of y ≡ edges_of x
-  pub fence : is_fence y ≡ is_fence x
 
-keeps_as : (x y z : Object) → Some y ≡ Some z → rank_of z ≡ rank_of x → edges_of z ≡ edges_of x → is_fence z ≡ is_fence x → Keeps x y
-keeps_as x y z h r e f = let w : y ≡ z = some_is h in rw w (record { rank = r; edges = e; fence = f })
+keeps_as : (x y z : Object) → Some y ≡ Some z → rank_of z ≡ rank_of x → edges_of z ≡ edges_of x → Keeps x y
+keeps_as x y z h r e = let w : y ≡ z = some_is h in rw w (record { rank = r; edges = e })
 
 pub part_keeps : (f : PartValue → PartValue) (x y : Object) → Some y ≡ with_part f (Some x) → Keeps x y
-part_keeps f (Context c) y h = keeps_as (Context c) y _ h refl refl refl
-part_keeps f x y h = keeps_as x y x h refl refl refl
+part_keeps f (Context c) y h = keeps_as (Context c) y _ h refl refl
+part_keeps f x y h = keeps_as x y x h refl refl
 
 pub surface_keeps : (f : SurfaceValue → SurfaceValue) (x y : Object) → Some y ≡ with_surface f (Some x) → Keeps x y
-surface_keeps f (Surface v) y h = keeps_as (Surface v) y _ h refl refl refl
-surface_keeps f x y h = keeps_as x y x h refl refl refl
+surface_keeps f (Surface v) y h = keeps_as (Surface v) y _ h refl refl
+surface_keeps f x y h = keeps_as x y x h refl refl
 
 pub storage_keeps : (f : StorageValue → StorageValue) (x y : Object) → Some y ≡ with_storage f (Some x) → Keeps x y
-storage_keeps f (Storage v) y h = keeps_as (Storage v) y _ h refl refl refl
-storage_keeps f x y h = keeps_as x y x h refl refl refl
+storage_keeps f (Storage v) y h = keeps_as (Storage v) y _ h refl refl
+storage_keeps f x y h = keeps_as x y x h refl refl
 
 pub set_part_keeps : (p : Option PartValue) (x y : Object) → Some y ≡ set_part p (Some x) → Keeps x y
-set_part_keeps p (Context c) y h = keeps_as (Context c) y _ h refl refl refl
-set_part_keeps p x y h = keeps_as x y x h refl refl refl
+set_part_keeps p (Context c) y h = keeps_as (Context c) y _ h refl refl
+set_part_keeps p x y h = keeps_as x y x h refl refl
 
 pub set_image_keeps : (i : Option ImageValue) (x y : Object) → Some y ≡ set_image i (Some x) → Keeps x y
-set_image_keeps i (Storage v) y h = keeps_as (Storage v) y _ h refl refl refl
-set_image_keeps i x y h = keeps_as x y x h refl refl refl
+set_image_keeps i (Storage v) y h = keeps_as (Storage v) y _ h refl refl
+set_image_keeps i x y h = keeps_as x y x h refl refl
+
+pub flush_keeps : (k : ℕ) (x y : Object) → Some y ≡ with_context (flushed_to k) (Some x) → Keeps x y
+flush_keeps k (Context c) y h = keeps_as (Context c) y _ h refl refl
+flush_keeps k x y h = keeps_as x y x h refl refl
+
+pub fence_keeps : (f : Fence → Fence) (x y : Object) → Some y ≡ with_fence f (Some x) → Keeps x y
+fence_keeps f (Sync z) y h = keeps_as (Sync z) y _ h refl refl
+fence_keeps f x y h = keeps_as x y x h refl refl

@@ -5,5 +5,5 @@ pub mod ChangeLaws
 pub mod WidenLaws
 pub mod SumLaws
 pub mod LetsLaws
-pub mod FenceLaws
+pub mod SignalLaws
 pub mod HeldLaws

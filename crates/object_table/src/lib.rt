@@ -3,6 +3,7 @@
 
 mod contexts;
 mod counts;
+mod fences;
 mod parts;
 mod reads;
 mod storages;

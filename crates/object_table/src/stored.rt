@@ -1,6 +1,5 @@
 //! Objects as nodes of a counted store.
-ghost use Rattle.std.specs.Prelude.{◌≡◌, ◌<◌, ◌≤◌, false};
-ghost use Rattle.object_table.specs.Fences.{is_fence};
+ghost use Rattle.std.specs.Prelude.{◌≡◌, ◌<◌, ◌≤◌};
 ghost use Rattle.object_table.specs.Amounts.{kind_number, mark_of};
 
 use driver_objects::{BackedSurface, Object, ObjectKind};
@@ -50,11 +49,10 @@ fn mark_of(object: &Object) -> u32
     }
 }
 
-/// An object in the store, under its number. It is no fence: no call makes one yet.
+/// An object in the store, under its number.
 #[derive(Drop)]
 pub struct Stored {
     pub object: Object,
-    ghost no_fence: { is_fence object ≡ false },
 }
 
 impl Node for Stored {
@@ -90,7 +88,7 @@ impl Node for Stored {
 
     ghost fixed = { λ _ _. false };
 
-    ghost after = { λ s slot note target. record { object = after s.object slot note target; no_fence = s.no_fence } };
+    ghost after = { λ s slot note target. record { object = after s.object slot note target } };
 
     ghost same_rank = { λ s slot note target. refl };
 

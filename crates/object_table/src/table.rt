@@ -1,11 +1,9 @@
 //! The table itself.
-ghost use Rattle.std.specs.Prelude.{◌≡◌, ◌≢◌, ℕ, List, ◌+◌, ◌-◌, ◌<◌, ◌≤◌, ◌^◌, Some, None, [], ◌∷◌, ◌++◌, length, slice_index_or, IsSome, IfSome, true, false, OnOk, OnErr, option_copied};
+ghost use Rattle.std.specs.Prelude.{◌≡◌, ◌≢◌, ℕ, List, ◌+◌, ◌-◌, ◌<◌, ◌≤◌, ◌^◌, Some, None, [], ◌∷◌, ◌++◌, length, slice_index_or, IsSome, IfSome, true, OnOk, OnErr, option_copied};
 ghost use Rattle.driver_objects.specs.Objects.{edges_of, rank_of};
 ghost use Rattle.egl_model.specs.Links.{rank_in};
 ghost use Rattle.egl_model.specs.Sweep.{swept};
 ghost use Rattle.ref_store.specs.Counts.{times};
-ghost use Rattle.egl_model.specs.Objects.{fence_in};
-ghost use Rattle.object_table.specs.Fences.{is_fence};
 ghost use Rattle.object_table.specs.Tables.{AreHolds, LeadsDown, references_to};
 ghost use Rattle.object_table.specs.Lets.{Lets, Holds};
 ghost use Rattle.driver_objects.specs.declared.objects.Object.{Object};
@@ -73,13 +71,6 @@ impl ObjectTable {
         self.store.edges_lead_down();
     }
 
-    /// There are no fences: no call makes one yet. This is a law.
-    pub fn has_no_fences(&self)
-        ensures { (n : ℕ) → fence_in self.now.objects n ≡ None }
-    {
-        self.store.edges_lead_down();
-    }
-
     /// How many objects were ever made: the number of the next one.
     pub fn len(&self) -> u64
         ensures value { result ≡ length self.now.objects }
@@ -105,11 +96,22 @@ impl ObjectTable {
         }
     }
 
+    /// Makes an object that refers to nothing and is held once. It takes no memory.
+    pub fn make_one(&mut self, first: Object)
+        requires room { 1 ≤ self.old.spare }
+        requires plain { edges_of first ≡ [] }
+        ensures objects { self.new.objects ≡ self.old.objects ++ Some first ∷ [] }
+        ensures held { (roots : List ℕ) → AreHolds roots self.old.holds → AreHolds (length self.old.objects ∷ roots) self.new.holds }
+    {
+        self.store.put_new(self.next, Stored { object: first });
+        self.store.hold(self.next);
+        self.next += 1;
+    }
+
     /// Makes two objects, of which the first refers to the second and is held once. It takes no memory.
     pub fn make_two(&mut self, first: Object, second: Object)
         requires room { 2 ≤ self.old.spare }
         requires plain { edges_of second ≡ [] }
-        requires unfenced { (is_fence first ≡ false) × (is_fence second ≡ false) }
         requires refers { 0 < times (length self.old.objects + 1) (edges_of first) }
         requires lower { rank_of second < rank_of first }
         requires leads { (n : ℕ) → n ≢ length self.old.objects + 1 → 0 < times n (edges_of first) → IsSome (slice_index_or self.old.objects n None) × (rank_in (slice_index_or self.old.objects n None) < rank_of first) }
@@ -126,7 +128,6 @@ impl ObjectTable {
     pub fn make_three(&mut self, first: Object, second: Object, third: Object)
         requires room { 3 ≤ self.old.spare }
         requires plain { (edges_of second ≡ []) × (edges_of third ≡ []) }
-        requires unfenced { (is_fence first ≡ false) × (is_fence second ≡ false) × (is_fence third ≡ false) }
         requires refers { (0 < times (length self.old.objects + 1) (edges_of first)) × (0 < times (length self.old.objects + 2) (edges_of first)) }
         requires lower { (rank_of second < rank_of first) × (rank_of third < rank_of first) }
         requires leads { (n : ℕ) → n ≢ length self.old.objects + 1 → n ≢ length self.old.objects + 2 → 0 < times n (edges_of first) → IsSome (slice_index_or self.old.objects n None) × (rank_in (slice_index_or self.old.objects n None) < rank_of first) }

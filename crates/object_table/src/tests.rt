@@ -31,7 +31,7 @@ const SURFACE: u64 = 5;
 const STORAGE: u64 = 6;
 
 fn new_context(group: u64, texture: u64) -> Object
-    ensures { result ≡ ContextObject (record { config = 4; display = 1; part = Some fresh; group = group; texture = texture }) }
+    ensures { result ≡ ContextObject (record { config = 4; display = 1; part = Some fresh; group = group; texture = texture; flushed = 0 }) }
 {
     Object::Context(Context {
         config: 4,
@@ -39,6 +39,7 @@ fn new_context(group: u64, texture: u64) -> Object
         part: Some(ContextPart::new()),
         group,
         texture,
+        flushed: 0,
     })
 }
 

@@ -175,7 +175,7 @@ impl Parts {
     /// Does a call of OpenGL ES that no rule refuses, with a context.
     fn gl_effect(&mut self, alloc: Global, kind: GlKind, call: &Call) -> Result<ReplyPair, NoMemory>
         requires kind { call.now.kind ≡ GlCall kind }
-        requires built { is_built (GlCall kind) ≡ true }
+        requires local { (is_local_gl kind || (is_local_unbound kind && is_unbound self.old.own.context)) ≡ true }
         requires allowed { gl_rules.gl_refusal call.now no_framebuffer ≡ None }
         requires context { is_some self.old.own.context ≡ true }
         ensures reply { IfOk result (λ r. IfSome self.old.own.context (λ q. r.reply ≡ (after_rules self.old.own q None (gl_locally self.old q kind call.now)).reply)) }
@@ -207,7 +207,7 @@ impl Parts {
 
     fn gl_local(&mut self, alloc: Global, kind: GlKind, call: &Call) -> Result<ReplyPair, NoMemory>
         requires kind { call.now.kind ≡ GlCall kind }
-        requires built { is_built (GlCall kind) ≡ true }
+        requires local { (is_local_gl kind || (is_local_unbound kind && is_unbound self.old.own.context)) ≡ true }
         ensures reply { IfOk result (λ r. r.reply ≡ (gl_with self.old self.old.own.context kind call.now).reply) }
         ensures part { OnOk result (self.new ≡ record self.old { own = (gl_with self.old self.old.own.context kind call.now).own }) }
         ensures err { OnErr result (self.new ≡ self.old) }

@@ -1,1 +1,9 @@
+pub mod FoundLaws
+pub mod EntryLaws
 pub mod SerialLaws
+pub mod TurnLaws
+pub mod EndLaws
+pub mod RestLaws
+pub mod OutcomeLaws
+pub mod RisingLaws
+pub mod FollowsLaws

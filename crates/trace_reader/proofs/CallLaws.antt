@@ -12,14 +12,15 @@ use Rattle.trace_reader.specs.declared.call_names.Form.{Form}
 use Rattle.trace_reader.specs.declared.call_names.TheConstants.{CALLS}
 use Rattle.trace_reader.specs.CallNames.{Signature, signature, calls, call_named}
 use Rattle.trace_reader.specs.CallRows.{signature_of}
+use Rattle.trace_reader.specs.Arguments.{are_placed}
 
 pub calls_are : map (λ r. (r.0.now, signature r.1 r.2.now)) CALLS ≡ calls
 unfolding calls
 calls_are = refl
 
--- the driver has the call, and its arguments find room
+-- the driver has the call, its arguments find room, and a timeout its place
 is_sound : Signature → Bool
-is_sound s = is_built s.kind && nat_le (length s.forms) 8
+is_sound s = is_built s.kind && nat_le (length s.forms) 8 && are_placed s.kind 0 s.forms
 
 unfoldable all_sound : list_all (λ e. is_sound e.1) calls ≡ true
 unfolding calls is_sound
@@ -48,9 +49,14 @@ sound w s h = sound_in calls w s all_sound h
 pub named_built : (w : List ℕ) (o : Option (Kind × Bor (List Form))) → option_map signature_of o ≡ call_named w → IfSome o (λ s. is_built s.0 ≡ true)
 unfolding is_sound
 named_built w None h = tt
-named_built w (Some s) h = first _ _ (sound w (signature_of s) (sym h))
+named_built w (Some s) h = first _ (nat_le (length s.1.now) 8) (first _ (are_placed s.0 0 s.1.now) (sound w (signature_of s) (sym h)))
 
 pub named_few : (w : List ℕ) (o : Option (Kind × Bor (List Form))) → option_map signature_of o ≡ call_named w → IfSome o (λ s. length s.1.now ≤ 8)
 unfolding is_sound
 named_few w None h = tt
-named_few w (Some s) h = let t : nat_le (length s.1.now) 8 ≡ true = second (is_built s.0) (nat_le (length s.1.now) 8) (sound w (signature_of s) (sym h)) in grind (arith, t)
+named_few w (Some s) h = let t : nat_le (length s.1.now) 8 ≡ true = second (is_built s.0) (nat_le (length s.1.now) 8) (first _ (are_placed s.0 0 s.1.now) (sound w (signature_of s) (sym h))) in grind (arith, t)
+
+pub named_placed : (w : List ℕ) (o : Option (Kind × Bor (List Form))) → option_map signature_of o ≡ call_named w → IfSome o (λ s. are_placed s.0 0 s.1.now ≡ true)
+unfolding is_sound
+named_placed w None h = tt
+named_placed w (Some s) h = second (is_built s.0 && nat_le (length s.1.now) 8) (are_placed s.0 0 s.1.now) (sound w (signature_of s) (sym h))

@@ -1,12 +1,15 @@
 pub mod LineLaws
+pub mod WordLaws
 pub mod VariableLaws
 pub mod HexLaws
 pub mod ListLaws
 pub mod ArgumentLaws
 pub mod BodyLaws
 pub mod OrderLaws
+pub mod AssignedLaws
 pub mod StepLaws
 pub mod HeadLaws
+pub mod HeadNames
 pub mod WindowLaws
 pub mod DefectLaws
 pub mod FrontLaws

@@ -1,19 +1,19 @@
 //! The arguments of a line.
-ghost use Rattle.std.specs.Prelude.{◌≡◌, ℕ, ◌+◌, ◌<◌, ◌≤◌, [], ◌∷◌, ◌++◌, length, take, map, All, IfOk, OnOk, IfSome};
+ghost use Rattle.std.specs.Prelude.{◌≡◌, ℕ, ◌+◌, ◌<◌, ◌≤◌, [], ◌∷◌, ◌++◌, length, take, map, slice_set, true, All, IfOk, OnOk, IfSome};
 ghost use Rattle.std.specs.List.{list_any, list_all};
 ghost use Rattle.egl_calls.specs.declared.kinds.Kind.{Kind as CallKind};
-ghost use Rattle.egl_calls.specs.Ranges.{AreArguments, IsNumber};
-ghost use Rattle.trace_reader.specs.declared.call_names.Form.TheVariants.{Number};
-ghost use Rattle.trace_reader.specs.Arguments.{has_unknown_name, argument_of, HasNumbers, values_in, list_behind, padded, call_of, reference_at, references, place_behind, is_known};
-ghost use Rattle.trace_reader.specs.Order.{IsReferenceTo};
+ghost use Rattle.egl_calls.specs.Ranges.{AreArguments, IsArgument, IsNumber};
+ghost use Rattle.trace_reader.specs.declared.call_names.Form.TheVariants.{Number, PostNumber, Timeout};
+ghost use Rattle.trace_reader.specs.Arguments.{has_unknown_name, argument_of, HasNumbers, HasItems, FitsPlace, are_placed, values_in, list_behind, padded, call_of, reference_at, references, place_behind, place_after, is_known};
+ghost use Rattle.trace_reader.specs.Order.{IsNumberUse};
 
 use crate::call_names::Form;
 use crate::lists::{attribute_list, inside, is_bracketed, lists_unknown_name};
-use crate::number_words::{argument_number, is_unknown_name};
+use crate::number_words::{argument_number, is_unknown_name, post_number, timeout_number};
+use crate::references::{is_reference, used_in};
 use crate::traces::{Reference, Uses};
 use crate::variables::Variables;
-use crate::word_cuts::begins_with;
-use egl_calls::{Call, Kind, NoMemory, Numbers, set_argument};
+use egl_calls::{Call, Kind, NoMemory, Numbers};
 use std::alloc::Global;
 
 fn has_unknown_name(word: &[u8]) -> bool
@@ -45,9 +45,29 @@ enum Argument {
 
 fn number_argument(word: &[u8]) -> Option<Argument>
     ensures value { result ≡ argument_of Number word.now }
-    ensures numbers { IfSome result HasNumbers }
+    ensures numbers { IfSome result (HasNumbers Number) }
 {
     match argument_number(word) {
+        Some(number) => Some(Argument::Value(number)),
+        None => None,
+    }
+}
+
+fn post_argument(word: &[u8]) -> Option<Argument>
+    ensures value { result ≡ argument_of PostNumber word.now }
+    ensures numbers { IfSome result (HasNumbers PostNumber) }
+{
+    match post_number(word) {
+        Some(number) => Some(Argument::Value(number)),
+        None => None,
+    }
+}
+
+fn timeout_argument(word: &[u8]) -> Option<Argument>
+    ensures value { result ≡ argument_of Timeout word.now }
+    ensures numbers { IfSome result (HasNumbers Timeout) }
+{
+    match timeout_number(word) {
         Some(number) => Some(Argument::Value(number)),
         None => None,
     }
@@ -56,17 +76,19 @@ fn number_argument(word: &[u8]) -> Option<Argument>
 /// What a word says as an argument of a form, where it has that form.
 fn argument_of(alloc: Global, form: Form, word: &[u8]) -> Result<Option<Argument>, NoMemory>
     ensures value { IfOk result (λ a. a ≡ argument_of form word.now) }
-    ensures numbers { IfOk result (λ a. IfSome a HasNumbers) }
+    ensures numbers { IfOk result (λ a. IfSome a (HasNumbers form)) }
 {
     match form {
         Form::Number => Ok(number_argument(word)),
         Form::NumberOrVariable => {
-            if begins_with(word, b'$') {
+            if is_reference(word) {
                 Ok(Some(Argument::Value(0)))
             } else {
                 Ok(number_argument(word))
             }
         }
+        Form::PostNumber => Ok(post_argument(word)),
+        Form::Timeout => Ok(timeout_argument(word)),
         Form::NoShare => {
             if word == b"0".as_slice() {
                 Ok(Some(Argument::Value(0)))
@@ -81,22 +103,32 @@ fn argument_of(alloc: Global, form: Form, word: &[u8]) -> Result<Option<Argument
     }
 }
 
+/// Sets a number of a call's arguments, which stay in their ranges where it fits its place.
+fn set_number(args: &mut [i64], place: usize, number: i64)
+    requires { place < length args.old }
+    ensures set { args.new ≡ slice_set args.old place number }
+    ensures fit { (kind : CallKind) → IsArgument kind place number → AreArguments kind 0 args.old → AreArguments kind 0 args.new }
+{
+    args[place] = number;
+}
+
 /// Adds an argument: a number at the next place, or a list in place of the one so far. Answers the place behind.
 fn add_argument(args: &mut [i64], place: usize, list: &mut Numbers, argument: Argument) -> usize
     requires eight { length args.old ≡ 8 }
     requires room { place < 8 }
-    requires numbers { HasNumbers argument }
+    requires items { HasItems argument }
     ensures eight { length args.new ≡ 8 }
     ensures values { take result args.new ≡ take place args.old ++ values_in (argument ∷ []) }
     ensures zeros { args.old ≡ padded (take place args.old) → args.new ≡ padded (take result args.new) }
-    ensures fit { (kind : CallKind) → AreArguments kind 0 args.old → AreArguments kind 0 args.new }
+    ensures fit { (kind : CallKind) → FitsPlace kind place argument → AreArguments kind 0 args.old → AreArguments kind 0 args.new }
     ensures list { list.new ≡ list_behind list.old (argument ∷ []) }
     ensures all { All IsNumber list.old → All IsNumber list.new }
     ensures next { result ≤ place + 1 }
+    ensures behind { result ≡ place_after place argument }
 {
     match argument {
         Argument::Value(number) => {
-            set_argument(args, place, number);
+            set_number(args, place, number);
             place + 1
         }
         Argument::Attributes(numbers) => {
@@ -107,14 +139,15 @@ fn add_argument(args: &mut [i64], place: usize, list: &mut Numbers, argument: Ar
 }
 
 /// The call of arguments of these forms, with 0 for each variable; nothing where one has another form, or there are too few or too many.
-#[tactic(auto, unfolding(crate::specs::Arguments::call_of))]
+#[tactic(auto, unfolding(crate::specs::Arguments::call_of), using(crate::proofs::ArgumentLaws::has_items))]
 pub fn call_of(
     alloc: Global,
     kind: Kind,
     forms: &[Form],
     words: &[&[u8]],
 ) -> Result<Option<Call>, NoMemory>
-    requires { length forms.now ≤ 8 }
+    requires few { length forms.now ≤ 8 }
+    requires placed { are_placed kind 0 forms.now ≡ true }
     ensures value { IfOk result (λ c. c ≡ call_of kind forms.now (map (λ w. w.now) words.now)) }
     ensures kind { IfOk result (λ c. IfSome c (λ d. d.kind ≡ kind)) }
     ensures count { IfOk result (λ c. IfSome c (λ d. length words.now ≡ length forms.now)) }
@@ -139,12 +172,12 @@ pub fn call_of(
     }))
 }
 
-/// Whether each variable among the arguments is one that a line has assigned.
+/// Whether each reference among the arguments is one to a variable that a line assigns.
 pub fn are_known(variables: &Variables<'_>, words: &[&[u8]]) -> bool
     ensures { result ≡ list_all (is_known variables.now) (map (λ w. w.now) words.now) }
 {
     for word in words {
-        if begins_with(word, b'$') && variables.find(word).is_none() {
+        if is_reference(word) && used_in(variables, word).is_none() {
             return false;
         }
     }
@@ -159,17 +192,17 @@ fn push_reference(
 ) -> Result<(), NoMemory>
     requires { place < 8 }
     ensures added { OnOk result (uses.new ≡ uses.old ++ reference_at variables.now place word.now) }
-    ensures all { OnOk result (All (IsReferenceTo (length variables.now)) uses.old → All (IsReferenceTo (length variables.now)) uses.new) }
+    ensures all { OnOk result (All (IsNumberUse (length variables.now)) uses.old → All (IsNumberUse (length variables.now)) uses.new) }
 {
-    if !begins_with(word, b'$') {
+    if !is_reference(word) {
         return Ok(());
     }
-    match variables.find(word) {
-        Some(variable) => uses.push(Reference {
+    match used_in(variables, word) {
+        Some(used) => uses.push(Reference {
             in_list: false,
             place,
-            variable,
-            item: None,
+            variable: used.variable,
+            item: used.item,
         }),
         None => Ok(()),
     }
@@ -182,7 +215,8 @@ fn place_behind(place: u32, form: Form) -> u32
     ensures near { result ≤ place + 1 }
 {
     match form {
-        Form::Number | Form::NumberOrVariable | Form::NoShare => place + 1,
+        Form::Number | Form::NumberOrVariable | Form::PostNumber | Form::Timeout | Form::NoShare =>
+            place + 1,
         Form::AttributeList => place,
     }
 }
@@ -197,7 +231,7 @@ pub fn references(
     requires few { length forms.now ≤ 8 }
     requires count { length words.now ≡ length forms.now }
     ensures value { IfOk result (λ u. u ≡ references variables.now 0 forms.now (map (λ w. w.now) words.now)) }
-    ensures all { IfOk result (All (IsReferenceTo (length variables.now))) }
+    ensures all { IfOk result (All (IsNumberUse (length variables.now))) }
 {
     let mut uses = Uses::new(alloc);
     let mut place = 0u32;

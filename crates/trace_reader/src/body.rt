@@ -1,7 +1,8 @@
 //! Body lines.
-ghost use Rattle.std.specs.Prelude.{◌≡◌, ℕ, ◌+◌, ◌-◌, ◌<◌, ◌≤◌, ◌^◌, [], ◌∷◌, ◌++◌, length, map, true, IfOk, OnOk, option_to_list};
+ghost use Rattle.std.specs.Prelude.{◌≡◌, ◌<◌, ◌≤◌, length, map, true, IfOk, OnOk};
 ghost use Rattle.std.specs.Option.{option_map};
 ghost use Rattle.trace_reader.specs.CallRows.{result_of};
+ghost use Rattle.trace_reader.specs.Arguments.{are_placed};
 ghost use Rattle.trace_reader.specs.Body.{target_of, thread_of, signature_in, is_assignable, assigned, line_in, body_of};
 ghost use Rattle.trace_reader.specs.Reading.{GivesLine};
 ghost use Rattle.trace_reader.specs.Order.{IsNext, IsLineAt, more_variables};
@@ -42,6 +43,7 @@ fn signature_in(call: &[u8], arguments: &[&[u8]]) -> Result<(Kind, &'static [For
     ensures value { result_of result ≡ signature_in call.now (map (λ w. w.now) arguments.now) }
     ensures built { IfOk result (λ s. is_built s.0 ≡ true) }
     ensures few { IfOk result (λ s. length s.1.now ≤ 8) }
+    ensures placed { IfOk result (λ s. are_placed s.0 0 s.1.now ≡ true) }
 {
     if have_unknown_name(arguments) {
         return Err(Reason::Name);
@@ -52,22 +54,32 @@ fn signature_in(call: &[u8], arguments: &[&[u8]]) -> Result<(Kind, &'static [For
     }
 }
 
-/// Whether nothing is assigned, or a variable that no line before has assigned.
-fn is_assignable(variables: &Variables<'_>, target: Option<&[u8]>) -> bool
-    ensures { result ≡ is_assignable variables.now (option_map (λ w. w.now) target.entry) }
+/// Whether nothing is assigned, or a variable that none of the lines before assigns, which assign so many.
+fn is_assignable(variables: &Variables<'_>, count: u32, target: Option<&[u8]>) -> bool
+    requires { count ≤ length variables.now }
+    ensures value { result ≡ is_assignable variables.now count (option_map (λ w. w.now) target.entry) }
+    ensures room { result ≡ true → more_variables count (assigned count (option_map (λ w. w.now) target.entry)) ≤ length variables.now }
 {
     match target {
-        Some(word) => is_variable(word) && variables.find(word).is_none(),
+        Some(word) => {
+            if !is_variable(word) {
+                return false;
+            }
+            match variables.find(word) {
+                Some(number) => number == count,
+                None => false,
+            }
+        }
         None => true,
     }
 }
 
-fn assigned(variables: &Variables<'_>, target: Option<&[u8]>) -> Option<u32>
-    ensures value { result ≡ assigned variables.now (option_map (λ w. w.now) target.entry) }
-    ensures next { IsNext (length variables.now) result }
+fn assigned(count: u32, target: Option<&[u8]>) -> Option<u32>
+    ensures value { result ≡ assigned count (option_map (λ w. w.now) target.entry) }
+    ensures next { IsNext count result }
 {
     match target {
-        Some(_) => Some(variables.len()),
+        Some(_) => Some(count),
         None => None,
     }
 }
@@ -77,6 +89,7 @@ fn assigned(variables: &Variables<'_>, target: Option<&[u8]>) -> Option<u32>
 fn line_in(
     alloc: Global,
     variables: &Variables<'_>,
+    count: u32,
     number: u64,
     thread: u32,
     kind: Kind,
@@ -86,11 +99,14 @@ fn line_in(
 ) -> Result<Line, LineError>
     requires built { is_built kind ≡ true }
     requires few { length forms.now ≤ 8 }
-    ensures line { GivesLine result (line_in variables.now number thread (record { kind = kind; forms = forms.now }) (option_map (λ w. w.now) target.entry) (map (λ w. w.now) arguments.now)) }
-    ensures assignable { OnOk result (is_assignable variables.now (option_map (λ w. w.now) target.entry) ≡ true) }
+    requires placed { are_placed kind 0 forms.now ≡ true }
+    requires count { count ≤ length variables.now }
+    ensures line { GivesLine result (line_in variables.now count number thread (record { kind = kind; forms = forms.now }) (option_map (λ w. w.now) target.entry) (map (λ w. w.now) arguments.now)) }
+    ensures assignable { OnOk result (is_assignable variables.now count (option_map (λ w. w.now) target.entry) ≡ true) }
+    ensures assigns { IfOk result (λ l. l.assigns ≡ assigned count (option_map (λ w. w.now) target.entry)) }
     ensures thread { IfOk result (λ l. l.thread ≡ thread) }
-    ensures order { IfOk result (IsLineAt number (length variables.now)) }
-    ensures count { IfOk result (λ l. more_variables (length variables.now) l.assigns ≡ length (variables.now ++ option_to_list (option_map (λ w. w.now) target.entry))) }
+    ensures order { IfOk result (IsLineAt (length variables.now) number count) }
+    ensures count { IfOk result (λ l. more_variables count l.assigns ≤ length variables.now) }
 {
     let Ok(found) = call_of(alloc, kind, forms, arguments) else {
         return Err(LineError::NoMemory);
@@ -98,7 +114,7 @@ fn line_in(
     let Some(call) = found else {
         return Err(LineError::Defective(Reason::Argument));
     };
-    if !is_assignable(variables, target) {
+    if !is_assignable(variables, count, target) {
         return Err(LineError::Defective(Reason::Variable));
     }
     if !are_known(variables, arguments) {
@@ -110,27 +126,30 @@ fn line_in(
     Ok(Line {
         number,
         thread,
-        assigns: assigned(variables, target),
+        assigns: assigned(count, target),
         call,
         uses,
     })
 }
 
-/// The body line of these words, or its first defect.
+/// The body line of these words, behind lines that assign so many variables, or its first defect.
 #[tactic(auto, unfolding(crate::specs::Body::body_of))]
 pub fn body_of(
     alloc: Global,
     threads: u32,
     variables: &Variables<'_>,
+    count: u32,
     number: u64,
     words: &BodyWords<'_, '_>,
 ) -> Result<Line, LineError>
-    requires { 0 < threads }
-    ensures line { GivesLine result (body_of threads variables.now number (map (λ w. w.now) words.now.words.now)) }
-    ensures assignable { OnOk result (is_assignable variables.now (target_of (map (λ w. w.now) words.now.words.now)) ≡ true) }
+    requires some { 0 < threads }
+    requires count { count ≤ length variables.now }
+    ensures line { GivesLine result (body_of threads variables.now count number (map (λ w. w.now) words.now.words.now)) }
+    ensures assignable { OnOk result (is_assignable variables.now count (target_of (map (λ w. w.now) words.now.words.now)) ≡ true) }
+    ensures assigns { IfOk result (λ l. l.assigns ≡ assigned count (target_of (map (λ w. w.now) words.now.words.now))) }
     ensures thread { IfOk result (λ l. l.thread < threads) }
-    ensures order { IfOk result (IsLineAt number (length variables.now)) }
-    ensures count { IfOk result (λ l. more_variables (length variables.now) l.assigns ≡ length (variables.now ++ option_to_list (target_of (map (λ w. w.now) words.now.words.now)))) }
+    ensures order { IfOk result (IsLineAt (length variables.now) number count) }
+    ensures count { IfOk result (λ l. more_variables count l.assigns ≤ length variables.now) }
 {
     let thread = match thread_of(threads, word_at(words.words, 0)) {
         Ok(thread) => thread,
@@ -141,6 +160,7 @@ pub fn body_of(
         Ok((kind, forms)) => line_in(
             alloc,
             variables,
+            count,
             number,
             thread,
             kind,

@@ -5,6 +5,7 @@ ghost use Rattle.egl_calls.specs.Kinds.{is_built};
 ghost use Rattle.egl_names.specs.Names.{value_in};
 ghost use Rattle.trace_reader.specs.CallNames.{signature, call_named};
 ghost use Rattle.trace_reader.specs.CallRows.{signature_of};
+ghost use Rattle.trace_reader.specs.Arguments.{are_placed};
 
 use egl_calls::{EglKind, GlKind, Kind, OwnKind};
 
@@ -15,6 +16,10 @@ pub enum Form {
     Number,
     /// A number or a variable.
     NumberOrVariable,
+    /// The number of a post: from 0 to 2,147,483,647.
+    PostNumber,
+    /// A number that may have more than 32 bits: a timeout in nanoseconds.
+    Timeout,
     /// The context to share with: `0` alone, since share contexts aren't built.
     NoShare,
     /// Names of attributes and their values in brackets.
@@ -32,7 +37,7 @@ macro_rules! rows {
 }
 
 /// The calls that a trace may make.
-static CALLS: [Row; 30] = rows![
+static CALLS: [Row; 39] = rows![
     "eglGetError": Kind::Egl(EglKind::GetError) [];
     "eglGetDisplay": Kind::Egl(EglKind::GetDisplay) [Number];
     "eglInitialize": Kind::Egl(EglKind::Initialize) [NumberOrVariable];
@@ -57,9 +62,18 @@ static CALLS: [Row; 30] = rows![
     "eglSwapBuffers": Kind::Egl(EglKind::SwapBuffers) [NumberOrVariable, NumberOrVariable];
     "eglWaitClient": Kind::Egl(EglKind::WaitClient) [];
     "eglReleaseThread": Kind::Egl(EglKind::ReleaseThread) [];
+    "eglCreateSync": Kind::Egl(EglKind::CreateSync) [NumberOrVariable, Number, AttributeList];
+    "eglDestroySync": Kind::Egl(EglKind::DestroySync) [NumberOrVariable, NumberOrVariable];
+    "eglClientWaitSync": Kind::Egl(EglKind::ClientWaitSync) [NumberOrVariable, NumberOrVariable, Number, Timeout];
+    "eglWaitSync": Kind::Egl(EglKind::WaitSync) [NumberOrVariable, NumberOrVariable, Number];
+    "eglGetSyncAttrib": Kind::Egl(EglKind::GetSyncAttrib) [NumberOrVariable, NumberOrVariable, Number];
+    "post": Kind::Own(OwnKind::Post) [PostNumber];
+    "await": Kind::Own(OwnKind::Await) [PostNumber];
     "census": Kind::Own(OwnKind::Census) [];
     "readFront": Kind::Own(OwnKind::ReadFront) [Number];
     "glGetError": Kind::Gl(GlKind::GetError) [];
+    "glFlush": Kind::Gl(GlKind::Flush) [];
+    "glFinish": Kind::Gl(GlKind::Finish) [];
     "glClearColorx": Kind::Gl(GlKind::ClearColorx) [Number, Number, Number, Number];
     "glClear": Kind::Gl(GlKind::Clear) [Number];
     "glReadPixels": Kind::Gl(GlKind::ReadPixels) [Number, Number, Number, Number, Number, Number];
@@ -82,6 +96,7 @@ pub fn call_named(word: &[u8]) -> Option<(Kind, &'static [Form])>
     ensures value { option_map signature_of result ≡ call_named word.now }
     ensures built { IfSome result (λ s. is_built s.0 ≡ true) }
     ensures few { IfSome result (λ s. length s.1.now ≤ 8) }
+    ensures placed { IfSome result (λ s. are_placed s.0 0 s.1.now ≡ true) }
 {
     beside(&CALLS, word)
 }

@@ -6,8 +6,8 @@ use crate::numerals::{is_numeral, numeral};
 use crate::traces::Reason;
 use crate::word_cuts::word_at;
 
-/// How many threads a trace may have so far.
-const MOST_THREADS: u64 = 1;
+/// How many threads a trace may have.
+const MOST_THREADS: u64 = 16;
 
 #[tactic(auto, unfolding(crate::specs::Header::thread_count))]
 fn thread_count(word: &[u8]) -> Result<u32, Reason>

@@ -5,7 +5,8 @@ ghost use Rattle.surface_store.specs.Windows.{is_spec};
 ghost use Rattle.trace_reader.specs.Header.{most_threads};
 ghost use Rattle.trace_reader.specs.Heads.{bare, has_room, head_line, head_said, is_bare, most_video, video_line, video_of, window_line};
 ghost use Rattle.trace_reader.specs.Body.{read_body};
-ghost use Rattle.trace_reader.specs.Order.{AreInOrder};
+ghost use Rattle.trace_reader.specs.Assigned.{assigned_names};
+ghost use Rattle.trace_reader.specs.Order.{AreInOrder, variables_of};
 ghost use Rattle.trace_reader.specs.Grammar.{read_on, traced, with_lines};
 ghost use Rattle.trace_reader.specs.Reading.{FailsWith, GivesHead, GivesMore};
 
@@ -167,7 +168,7 @@ impl Head {
 
     /// The trace of this head and these body lines.
     pub fn into_trace(self, lines: Vec<Line>) -> Trace
-        requires { AreInOrder self.threads 2 0 lines.items }
+        requires { AreInOrder self.threads (variables_of lines.items) 2 0 lines.items }
         ensures { result ≡ traced self lines.items }
     {
         Trace {
@@ -191,7 +192,8 @@ pub struct Start<'a> {
 pub fn read_head(alloc: Global, threads: u32, bytes: &[u8]) -> Result<Start<'_>, TraceError>
     requires some { 0 < threads }
     requires few { threads ≤ most_threads }
-    ensures value { MatchResult result (λ s. read_on (bare threads) 2 (lines bytes.now) ≡ with_lines s.head (read_body s.head s.number [] 0 [] (lines s.rest.now))) (λ e. FailsWith e (read_on (bare threads) 2 (lines bytes.now))) }
+    ensures value { MatchResult result (λ s. read_on (assigned_names (lines bytes.now)) (bare threads) 2 (lines bytes.now) ≡ with_lines s.head (read_body s.head (assigned_names (lines bytes.now)) s.number 0 0 [] (lines s.rest.now))) (λ e. FailsWith e (read_on (assigned_names (lines bytes.now)) (bare threads) 2 (lines bytes.now))) }
+    ensures names { IfOk result (λ s. assigned_names (lines s.rest.now) ≡ assigned_names (lines bytes.now)) }
     ensures number { IfOk result (λ s. (2 ≤ s.number) × (s.number + length s.rest.now ≤ length bytes.now + 2)) }
 {
     let mut head = Head::new(alloc, threads);

@@ -2,6 +2,7 @@
 #![tactic(auto)]
 
 mod arguments;
+mod assigned;
 mod body;
 mod body_words;
 mod call_names;
@@ -15,6 +16,7 @@ mod number_words;
 mod numerals;
 mod pixels;
 mod reading;
+mod references;
 mod traces;
 mod variables;
 mod windows;

@@ -1,13 +1,16 @@
 //! Whole traces.
-ghost use Rattle.std.specs.Prelude.{◌≡◌, ℕ, ◌+◌, ◌<◌, ◌≤◌, ◌^◌, [], ◌∷◌, ◌++◌, length, true, IfOk, OnOk, option_to_list};
-ghost use Rattle.std.specs.Option.{option_map};
+ghost use Rattle.std.specs.Prelude.{◌≡◌, ◌+◌, ◌<◌, ◌≤◌, ◌^◌, [], length, take, IfOk, OnOk};
 ghost use Rattle.std.specs.Str.Lines.{lines};
-ghost use Rattle.trace_reader.specs.Body.{is_assignable, read_body};
-ghost use Rattle.trace_reader.specs.Grammar.{trace};
+ghost use Rattle.trace_reader.specs.Assigned.{assigned_in, assigned_names, with_assigned};
+ghost use Rattle.trace_reader.specs.Body.{read_body};
+ghost use Rattle.trace_reader.specs.Grammar.{read_on, trace};
+ghost use Rattle.trace_reader.specs.Header.{most_threads};
+ghost use Rattle.trace_reader.specs.Heads.{bare};
 ghost use Rattle.trace_reader.specs.Pixels.{most_pixel_bytes};
 ghost use Rattle.trace_reader.specs.Reading.{Gives, GivesNext};
-ghost use Rattle.trace_reader.specs.Order.{AreInOrder, AreBefore};
+ghost use Rattle.trace_reader.specs.Order.{AreInOrder, AreBefore, more_variables, variables_of};
 
+use crate::assigned::assigned_names;
 use crate::body::{LineError, body_of};
 use crate::body_words::BodyWords;
 use crate::header::header_of;
@@ -26,36 +29,38 @@ const MOST_BODY_LINES: usize = 100_000;
 /// How many bytes of pixels all lines may ask for.
 const MOST_PIXEL_BYTES: u64 = 134_217_728;
 
-/// Adds the variable that a line assigns.
-fn add_target<'a>(variables: &mut Variables<'a>, target: Option<&'a [u8]>) -> Result<(), NoMemory>
-    requires few { length variables.old < 100000 }
-    requires new { is_assignable variables.old (option_map (λ w. w.now) target) ≡ true }
-    ensures { OnOk result (variables.new ≡ variables.old ++ option_to_list (option_map (λ w. w.now) target.entry)) }
+/// How many variables lines assign, with one that does or doesn't assign the next.
+fn more_variables(count: u32, assigns: Option<u32>) -> u32
+    requires { more_variables count assigns < 2 ^ 32 }
+    ensures { result ≡ more_variables count assigns }
 {
-    match target {
-        Some(word) => variables.add(word),
-        None => Ok(()),
+    match assigns {
+        Some(_) => count + 1,
+        None => count,
     }
 }
 
-/// Reads a line behind the header.
+/// Reads a line behind the header, where `variables` are assigned by any lines and `count` of them by those before.
 #[tactic(auto, using(crate::proofs::BodyLaws::next_skipped, crate::proofs::BodyLaws::next_taken, crate::proofs::BodyLaws::next_defective, crate::proofs::BodyLaws::next_past_lines, crate::proofs::BodyLaws::next_past_pixels, crate::proofs::OrderLaws::before_more, crate::proofs::OrderLaws::before_skipped))]
-fn next_line<'a>(
+fn next_line(
     alloc: Global,
     head: &Head,
+    variables: &Variables<'_>,
     number: u64,
-    line: &'a [u8],
-    variables: &mut Variables<'a>,
+    line: &[u8],
+    count: &mut u32,
     pixels: &mut u64,
     read: &mut Vec<Line>,
 ) -> Result<(), TraceError>
     requires pixels { pixels.old ≤ most_pixel_bytes }
-    requires few { length variables.old ≤ length read.old.items }
-    requires order { AreBefore head.now.threads number (length variables.old) read.old.items }
-    ensures next { GivesNext head.now number line.now variables.old pixels.old read.old.items variables.new pixels.new read.new.items result }
+    requires few { count.old ≤ length variables.now }
+    requires variables { length variables.now < 2 ^ 32 }
+    requires order { AreBefore head.now.threads (length variables.now) number count.old read.old.items }
+    ensures next { GivesNext head.now variables.now number line.now count.old pixels.old read.old.items count.new pixels.new read.new.items result }
+    ensures names { OnOk result (with_assigned (take count.old variables.now) (assigned_in line.now) ≡ take count.new variables.now) }
     ensures pixels { OnOk result (pixels.new ≤ most_pixel_bytes) }
-    ensures few { OnOk result (length variables.new ≤ length read.new.items) }
-    ensures order { OnOk result (AreBefore head.now.threads (number + 1) (length variables.new) read.new.items) }
+    ensures few { OnOk result (count.new ≤ length variables.now) }
+    ensures order { OnOk result (AreBefore head.now.threads (length variables.now) (number + 1) count.new read.new.items) }
 {
     let Ok(parts) = words(alloc, line) else {
         return Err(TraceError::NoMemory);
@@ -64,7 +69,14 @@ fn next_line<'a>(
         return Ok(());
     }
     let body_words = BodyWords::new(&parts);
-    match body_of(alloc, head.threads(), variables, number, &body_words) {
+    match body_of(
+        alloc,
+        head.threads(),
+        variables,
+        *count,
+        number,
+        &body_words,
+    ) {
         Ok(body) => {
             let asked = pixel_bytes(head.windows(), &body.call);
             if read.len() >= MOST_BODY_LINES || asked > (MOST_PIXEL_BYTES - *pixels) as u128 {
@@ -73,12 +85,11 @@ fn next_line<'a>(
                     reason: Reason::Limit,
                 });
             }
-            let Ok(()) = add_target(variables, body_words.target()) else {
-                return Err(TraceError::NoMemory);
-            };
+            let behind = more_variables(*count, body.assigns);
             let Ok(()) = read.push(body) else {
                 return Err(TraceError::NoMemory);
             };
+            *count = behind;
             *pixels += asked as u64;
             Ok(())
         }
@@ -90,14 +101,22 @@ fn next_line<'a>(
     }
 }
 
-/// Reads the body, each line as it is cut off.
-fn read_lines(alloc: Global, head: &Head, first: u64, bytes: &[u8]) -> Result<Vec<Line>, TraceError>
+/// Reads the body, each line as it is cut off, where these are the variables that its lines assign.
+fn read_lines(
+    alloc: Global,
+    head: &Head,
+    variables: &Variables<'_>,
+    first: u64,
+    bytes: &[u8],
+) -> Result<Vec<Line>, TraceError>
     requires first { 2 ≤ first }
     requires fits { first + length bytes.now < 2 ^ 64 }
-    ensures value { Gives (λ v. v.items) result (read_body head.now first [] 0 [] (lines bytes.now)) }
-    ensures order { IfOk result (λ v. AreInOrder head.now.threads 2 0 v.items) }
+    requires names { variables.now ≡ assigned_names (lines bytes.now) }
+    requires variables { length variables.now < 2 ^ 32 }
+    ensures value { Gives (λ v. v.items) result (read_body head.now variables.now first 0 0 [] (lines bytes.now)) }
+    ensures order { IfOk result (λ v. AreInOrder head.now.threads (variables_of v.items) 2 0 v.items) }
 {
-    let mut variables = Variables::new(alloc);
+    let mut count = 0u32;
     let mut read = Vec::new(alloc);
     let mut pixels = 0u64;
     let mut number = first;
@@ -106,9 +125,10 @@ fn read_lines(alloc: Global, head: &Head, first: u64, bytes: &[u8]) -> Result<Ve
         next_line(
             alloc,
             head,
+            variables,
             number,
             line,
-            &mut variables,
+            &mut count,
             &mut pixels,
             &mut read,
         )?;
@@ -118,9 +138,24 @@ fn read_lines(alloc: Global, head: &Head, first: u64, bytes: &[u8]) -> Result<Ve
     Ok(read)
 }
 
+/// Reads the lines behind the header.
+fn read_behind(alloc: Global, threads: u32, bytes: &[u8]) -> Result<Trace, TraceError>
+    requires some { 0 < threads }
+    requires few { threads ≤ most_threads }
+    requires fits { length bytes.now + 2 < 2 ^ 64 }
+    ensures { Gives (λ t. t) result (read_on (assigned_names (lines bytes.now)) (bare threads) 2 (lines bytes.now)) }
+{
+    let start = read_head(alloc, threads, bytes)?;
+    let Ok(variables) = assigned_names(alloc, start.rest) else {
+        return Err(TraceError::NoMemory);
+    };
+    let lines = read_lines(alloc, &start.head, &variables, start.number, start.rest)?;
+    Ok(start.head.into_trace(lines))
+}
+
 impl Trace {
     /// Reads a trace: the one that the bytes spell, or its first defective line and what is wrong with that first.
-    #[tactic(auto, unfolding(crate::specs::Grammar::trace))]
+    #[tactic(auto, unfolding(crate::specs::Grammar::trace), using(crate::proofs::HeadNames::trace_behind))]
     pub fn read(alloc: Global, bytes: &Bytes) -> Result<Trace, TraceError>
         ensures { Gives (λ t. t) result (trace bytes.now) }
     {
@@ -134,11 +169,7 @@ impl Trace {
             return Err(TraceError::NoMemory);
         };
         match header_of(&words) {
-            Ok(threads) => {
-                let start = read_head(alloc, threads, rest)?;
-                let lines = read_lines(alloc, &start.head, start.number, start.rest)?;
-                Ok(start.head.into_trace(lines))
-            }
+            Ok(threads) => read_behind(alloc, threads, rest),
             Err(reason) => Err(TraceError::Malformed { line: 1, reason }),
         }
     }

@@ -1,16 +1,20 @@
-//! Lines in front of the body: where each may stand, its defects and the limits.
+//! Lines in front of the body: where each may stand, its defects and the limits. Threads and variables.
 
 use super::*;
-use egl_calls::{Bytes, EglKind, Kind, OwnKind};
+use egl_calls::{Bytes, EglKind, GlKind, Kind, OwnKind};
 use std::alloc::Global;
 use std::process::Abort;
 use std::test::Fail;
 
+fn read_text(alloc: Global, text: &str) -> Result<Result<Trace, TraceError>, Fail> {
+    let bytes = Bytes::from_vec(Vec::from_slice(alloc, text.as_bytes())?);
+    Ok(Trace::read(alloc, &bytes))
+}
+
 /// What lines behind a header of one thread are.
 fn read(alloc: Global, lines: &str) -> Result<Result<Trace, TraceError>, Fail> {
     let text = format!(in alloc; "egl-trace 1 1\n{lines}")?;
-    let bytes = Bytes::from_vec(Vec::from_slice(alloc, text.as_bytes())?);
-    Ok(Trace::read(alloc, &bytes))
+    read_text(alloc, &text)
 }
 
 fn assert_malformed(
@@ -187,6 +191,109 @@ fn calls_of_windows_are_read(rt: HostRuntime) -> Result<(), Fail> {
     Ok(())
 }
 
+/// A line is read as a call of a kind with these numbers first.
+fn assert_read(
+    rt: &impl Abort,
+    alloc: Global,
+    line: &str,
+    kind: Kind,
+    numbers: [i64; 4],
+) -> Result<(), Fail> {
+    let trace = read(alloc, line)??;
+    let Some(read) = trace.line(0) else {
+        assert!(rt; false, "{line}");
+        return Ok(());
+    };
+    let args = read.call.args;
+    assert_eq!(rt; read.call.kind, kind, "{line}");
+    assert_eq!(rt; [args[0], args[1], args[2], args[3]], numbers, "{line}");
+    assert_eq!(rt; read.call.list.len(), 0, "{line}");
+    Ok(())
+}
+
+#[test]
+fn calls_of_fences_are_read(rt: HostRuntime) -> Result<(), Fail> {
+    for (line, kind, numbers) in [
+        (
+            "0 eglCreateSync 1 EGL_SYNC_FENCE []",
+            EglKind::CreateSync,
+            [1, 3_000_000_076, 0, 0],
+        ),
+        (
+            "0 eglCreateSync 1 2 [EGL_NONE]",
+            EglKind::CreateSync,
+            [1, 2, 0, 0],
+        ),
+        ("0 eglDestroySync 1 5", EglKind::DestroySync, [1, 5, 0, 0]),
+        ("0 eglWaitSync 1 5 1", EglKind::WaitSync, [1, 5, 1, 0]),
+        (
+            "0 eglGetSyncAttrib 1 5 EGL_SYNC_TYPE",
+            EglKind::GetSyncAttrib,
+            [1, 5, 3_000_000_077, 0],
+        ),
+    ] {
+        assert_read(&rt, rt.alloc(), line, Kind::Egl(kind), numbers)?;
+    }
+    for (line, kind) in [("0 glFlush", GlKind::Flush), ("0 glFinish", GlKind::Finish)] {
+        assert_read(&rt, rt.alloc(), line, Kind::Gl(kind), [0, 0, 0, 0])?;
+    }
+    for line in [
+        "0 eglCreateSync 1 2",
+        "0 eglCreateSync 1 2 [1]",
+        "0 eglDestroySync 1",
+        "0 eglWaitSync 1 5",
+        "0 eglGetSyncAttrib 1 5 6 7",
+        "0 glFlush 0",
+    ] {
+        assert_malformed(&rt, rt.alloc(), line, 2, Reason::Argument)?;
+    }
+    Ok(())
+}
+
+#[test]
+fn posts_and_timeouts_have_their_ranges(rt: HostRuntime) -> Result<(), Fail> {
+    for (line, kind, number) in [
+        ("0 post 0", OwnKind::Post, 0),
+        ("0 post 2147483647", OwnKind::Post, 2_147_483_647),
+        ("0 await 0x7fffffff", OwnKind::Await, 2_147_483_647),
+        ("0 await EGL_TRUE", OwnKind::Await, 1),
+    ] {
+        assert_read(&rt, rt.alloc(), line, Kind::Own(kind), [number, 0, 0, 0])?;
+    }
+    for (timeout, number) in [
+        ("0", 0),
+        ("9223372036854775807", 9_223_372_036_854_775_807),
+        ("4294967296", 4_294_967_296),
+        ("-2147483648", -2_147_483_648),
+        ("0xffffffff", 4_294_967_295),
+        ("EGL_FOREVER", -1),
+    ] {
+        let line = format!(in rt.alloc(); "0 eglClientWaitSync 1 5 1 {timeout}")?;
+        let kind = Kind::Egl(EglKind::ClientWaitSync);
+        assert_read(&rt, rt.alloc(), &line, kind, [1, 5, 1, number])?;
+    }
+    for line in [
+        "0 post -1",
+        "0 post 2147483648",
+        "0 post EGL_DONT_CARE",
+        "0 post",
+        "0 post 1 2",
+        "0 await 2147483648",
+        "0 await -1",
+        "0 await 01",
+        "0 eglClientWaitSync 1 5 1 9223372036854775808",
+        "0 eglClientWaitSync 1 5 1 -2147483649",
+        "0 eglClientWaitSync 1 5 1 00",
+        "0 eglClientWaitSync 1 5 1 0x100000000",
+        "0 eglClientWaitSync 1 5 4294967296 0",
+        "0 eglClientWaitSync 1 5 1",
+    ] {
+        assert_malformed(&rt, rt.alloc(), line, 2, Reason::Argument)?;
+    }
+    let variable = "0 $v = census\n0 await $v";
+    assert_malformed(&rt, rt.alloc(), variable, 3, Reason::Argument)
+}
+
 #[test]
 fn fronts_count_among_the_pixels_asked_for(rt: HostRuntime) -> Result<(), Fail> {
     let alloc = rt.alloc();
@@ -199,4 +306,151 @@ fn fronts_count_among_the_pixels_asked_for(rt: HostRuntime) -> Result<(), Fail> 
     assert_eq!(rt; read(alloc, &lines)??.lines().len(), 10);
     lines.push_str("0 readFront 4")?;
     assert_malformed(&rt, alloc, &lines, 16, Reason::Limit)
+}
+
+/// What a line's reference at a place is: the place in the call, the variable, and the place in its list.
+fn reference(trace: &Trace, line: u64, k: u64) -> Option<(u32, u32, Option<u32>)> {
+    let line = trace.line(line)?;
+    let used = line.uses.at(k)?;
+    Some((used.place, used.variable, used.item))
+}
+
+#[test]
+fn variables_are_numbered_by_the_lines_that_assign_them(rt: HostRuntime) -> Result<(), Fail> {
+    let lines =
+        "0 eglMakeCurrent $a $b.1023 5 $c.0\n0 $c = eglTerminate $c\n\n# $d = census\n0   $a =  eglGetError\n0 $b = eglInitialize $a";
+    let trace = read(rt.alloc(), lines)??;
+    let uses = [
+        reference(&trace, 0, 0),
+        reference(&trace, 0, 1),
+        reference(&trace, 0, 2),
+        reference(&trace, 0, 3),
+        reference(&trace, 1, 0),
+        reference(&trace, 3, 0),
+    ];
+    assert_eq!(rt;
+        uses,
+        [
+            Some((0, 1, None)),
+            Some((1, 2, Some(1023))),
+            Some((3, 0, Some(0))),
+            None,
+            Some((0, 0, None)),
+            Some((0, 1, None)),
+        ]
+    );
+    for (k, assigns) in [None, Some(0), Some(1), Some(2)].into_iter().enumerate() {
+        assert_eq!(rt;
+            trace.line(k as u64).map(|line| line.assigns),
+            Some(assigns)
+        );
+    }
+    Ok(())
+}
+
+#[test]
+fn wrong_variables_are_named(rt: HostRuntime) -> Result<(), Fail> {
+    for (lines, line, reason) in [
+        ("0 eglInitialize $v", 2, Reason::Variable),
+        (
+            "0 eglInitialize $v\n0 nocall\n0 $w = census",
+            2,
+            Reason::Variable,
+        ),
+        ("0 eglInitialize $v\n# $v = census", 2, Reason::Variable),
+        ("0 eglInitialize $v\n0 $v == census", 2, Reason::Variable),
+        ("0 eglInitialize $v\n$v = census", 2, Reason::Variable),
+        ("0 eglInitialize $v\n0 $v = nocall", 3, Reason::Name),
+        ("0 eglInitialize $v\n1 $v = census", 3, Reason::Thread),
+        ("0 eglInitialize $v\n0 $v =", 3, Reason::Name),
+        (
+            "0 nocall\n0 eglInitialize $v\n0 $v = census",
+            2,
+            Reason::Name,
+        ),
+        (
+            "0 eglInitialize $v\n0 nocall\n0 $v = census",
+            3,
+            Reason::Name,
+        ),
+        ("0 $v = census\n0 $v = census", 3, Reason::Variable),
+        (
+            "0 $v = census\n0 $w = census\n0 $v = census",
+            4,
+            Reason::Variable,
+        ),
+        (
+            "0 $v = eglInitialize $w\n0 $v = census\n0 $w = census",
+            3,
+            Reason::Variable,
+        ),
+        ("0 $V = census", 2, Reason::Variable),
+        ("0 $v.0 = census", 2, Reason::Variable),
+        (
+            "0 eglInitialize $v.1024\n0 $v = census",
+            2,
+            Reason::Variable,
+        ),
+        ("0 eglInitialize $v.01\n0 $v = census", 2, Reason::Variable),
+        ("0 eglInitialize $v.-1\n0 $v = census", 2, Reason::Variable),
+        ("0 eglInitialize $v.0.0\n0 $v = census", 2, Reason::Variable),
+        ("0 eglInitialize $v.\n0 $v = census", 2, Reason::Variable),
+        ("0 eglInitialize $w.0\n0 $v = census", 2, Reason::Variable),
+        ("0 eglInitialize $\n0 $v = census", 2, Reason::Variable),
+        ("0 eglInitialize $A\n0 $v = census", 2, Reason::Variable),
+        ("0 eglGetDisplay $v.0\n0 $v = census", 2, Reason::Argument),
+        ("0 eglGetDisplay $A\n0 $v = census", 2, Reason::Argument),
+        ("0 eglGetDisplay $\n0 $v = census", 2, Reason::Argument),
+    ] {
+        assert_malformed(&rt, rt.alloc(), lines, line, reason)?;
+    }
+    Ok(())
+}
+
+#[test]
+fn lines_past_the_limit_assign_too(rt: HostRuntime) -> Result<(), Fail> {
+    let mut lines = String::from_str(rt.alloc(), "0 eglInitialize $v\n")?;
+    for _ in 0..100_000 {
+        lines.push_str("0 census\n")?;
+    }
+    assert_malformed(&rt, rt.alloc(), &lines, 2, Reason::Variable)?;
+    lines.push_str("0 $v = census")?;
+    assert_malformed(&rt, rt.alloc(), &lines, 100_002, Reason::Limit)
+}
+
+#[test]
+fn threads_are_counted(rt: HostRuntime) -> Result<(), Fail> {
+    let alloc = rt.alloc();
+    for (text, line, reason) in [
+        ("egl-trace 1 0", 1, Reason::Limit),
+        ("egl-trace 1 17", 1, Reason::Limit),
+        ("egl-trace 1 99999999999999999999", 1, Reason::Limit),
+        ("egl-trace 1 01", 1, Reason::Header),
+        ("egl-trace 1 -1", 1, Reason::Header),
+        ("egl-trace 1 x", 1, Reason::Header),
+        ("egl-trace 1 0x2", 1, Reason::Header),
+        ("egl-trace 1 16\n15 census\n16 census", 3, Reason::Thread),
+        ("egl-trace 1 2\n1 census\n01 census", 3, Reason::Thread),
+        (
+            "egl-trace 1 2\n1 $v = census\n0 $v = census",
+            3,
+            Reason::Variable,
+        ),
+        (
+            "egl-trace 1 2\n1 eglInitialize $v\n2 $v = census",
+            3,
+            Reason::Thread,
+        ),
+    ] {
+        let wanted = TraceError::Malformed { line, reason };
+        assert_eq!(rt; read_text(alloc, text)?.err(), Some(wanted), "{text}");
+    }
+    let trace = read_text(
+        alloc,
+        " egl-trace  1 16 \n15 eglInitialize $v.7\n0 $v = census\n",
+    )??;
+    assert_eq!(rt; trace.threads(), 16);
+    assert_eq!(rt; trace.line(0).map(|line| line.thread), Some(15));
+    assert_eq!(rt; reference(&trace, 0, 0), Some((0, 0, Some(7))));
+    Ok(())
 }

@@ -1,6 +1,6 @@
 //! The words of a line.
-ghost use Rattle.std.specs.Prelude.{◌≡◌, [], slice_index_or, IfOk, map};
-ghost use Rattle.trace_reader.specs.Words.{words, words as words_in, begins_with, is_skipped};
+ghost use Rattle.std.specs.Prelude.{◌≡◌, ◌<◌, [], ◌∷◌, length, position, slice_index_or, IfOk, IfSome, MatchOption, map};
+ghost use Rattle.trace_reader.specs.Words.{words, words as words_in, begins_with, is_skipped, is_space};
 
 use std::alloc::{AllocError, Global};
 
@@ -11,6 +11,34 @@ pub fn words<'a>(alloc: Global, line: &'a [u8]) -> Result<Vec<&'a [u8]>, AllocEr
     line.split(|b| *b == b' ')
         .filter(|word| !word.is_empty())
         .collect(alloc)
+}
+
+fn space_in(text: &[u8]) -> Option<usize>
+    ensures place { result ≡ position is_space text.now }
+    ensures within { IfSome result (λ n. n < length text.now) }
+{
+    text.iter().position(|b| *b == b' ')
+}
+
+/// The first word of a text, and what stands behind it.
+#[tactic(auto, using(crate::proofs::WordLaws::last_word, crate::proofs::WordLaws::no_word, crate::proofs::WordLaws::word_and_more, crate::proofs::WordLaws::space_and_more))]
+pub fn cut_word(text: &[u8]) -> Option<(&[u8], &[u8])>
+    ensures { MatchOption result (words text.now ≡ []) (λ cut. words text.now ≡ cut.0.now ∷ words cut.1.now) }
+{
+    let mut rest = text;
+    'each: while let Some(at) = space_in(rest) {
+        let (word, _) = rest.split_at(at);
+        let (_, more) = rest.split_at(at + 1);
+        if !word.is_empty() {
+            return Some((word, more));
+        }
+        rest = more;
+    }
+    if rest.is_empty() {
+        None
+    } else {
+        Some((rest, b""))
+    }
 }
 
 /// The word at a place, and the empty text past the last.

@@ -1,0 +1,58 @@
+//! The lines at which the threads of a stalled run wait.
+ghost use Rattle.std.specs.Prelude.{◌≡◌, ◌++◌, IfOk, OnOk};
+ghost use Rattle.trace_session.specs.Sessions.{Knows};
+ghost use Rattle.egl_cli.specs.StalledLines.{stalled_line, stalled_lines};
+
+use crate::texts::{put_decimal, put_text};
+use egl_calls::{Bytes, Journal, NoMemory};
+use std::alloc::Global;
+use trace_reader::Trace;
+use trace_session::Session;
+
+/// A session that has learnt a journal's entries.
+fn session_behind<'a>(
+    alloc: Global,
+    trace: &'a Trace,
+    journal: &Journal,
+) -> Result<Session<'a>, NoMemory>
+    ensures trace { IfOk result (λ s. s.trace ≡ trace.now) }
+    ensures learnt { IfOk result (Knows journal.now.entries) }
+{
+    let mut session = Session::new(alloc, trace)?;
+    'each: for entry in journal.as_slice() {
+        session.learn(alloc, entry)?;
+    }
+    Ok(session)
+}
+
+/// The line of a thread whose next line has this number.
+fn put_stalled_line(out: &mut Bytes, thread: u32, number: Option<u64>) -> Result<(), NoMemory>
+    ensures { OnOk result (out.new ≡ out.old ++ stalled_line thread number) }
+{
+    let Some(number) = number else {
+        return Ok(());
+    };
+    put_text(out, "stalled ")?;
+    put_decimal(out, u64::from(thread))?;
+    put_text(out, " ")?;
+    put_decimal(out, number)?;
+    put_text(out, "\n")
+}
+
+/// The lines of the threads that aren't at their end behind a journal.
+#[tactic(auto, unfolding(crate::specs::StalledLines::stalled_lines))]
+pub fn put_stalled(
+    alloc: Global,
+    out: &mut Bytes,
+    trace: &Trace,
+    journal: &Journal,
+) -> Result<(), NoMemory>
+    ensures { OnOk result (out.new ≡ out.old ++ stalled_lines trace.now journal.now.entries) }
+{
+    let session = session_behind(alloc, trace, journal)?;
+    let threads = session.threads();
+    'each: for thread in 0..threads {
+        put_stalled_line(out, thread, session.next(thread))?;
+    }
+    Ok(())
+}

@@ -1,0 +1,6 @@
+pub mod TraceFacts
+pub mod PlaceLaws
+pub mod LearnLaws
+pub mod KnownLaws
+pub mod RunLaws
+pub mod NewLaws
