@@ -9,5 +9,3 @@ mod faults;
 mod library;
 #[cfg(test)]
 mod playing;
-#[cfg(test)]
-mod waits;
