@@ -1,0 +1,118 @@
+-- What may move to another thread, or be lent to one. A caller that lends tokens to threads cites `thread_send` and `shared_sync`:
+-- a search that goes down through the whole driver runs out of steps.
+use denote.Param.Send.{IsSend, IsSync, recorded_send, sendable, struct_send, view_send}
+use denote.Struct.Declared as declared
+use Rattle.std.proofs.Crossing.{crosses}
+use Rattle.atomic_table.proofs.send_lease.SendLease.TheSendSync as lease
+use Rattle.atomic_table.proofs.shared.Seat.TheSendSync as seat
+use Rattle.atomic_table.proofs.shared.Shared.TheSendSync as table
+use Rattle.turn_lock.specs.contracts.bells.Bells as bells
+use Rattle.egl_calls.specs.contracts.number_list.Numbers as numbers
+use Rattle.egl_calls.specs.contracts.byte_list.Bytes as bytes
+use Rattle.std.specs.contracts.option.Option as option
+use Rattle.egl_calls.specs.contracts.kinds.Kind as kind
+use Rattle.egl_calls.specs.contracts.calls.Call as call
+use Rattle.egl_calls.specs.contracts.calls.Call.TheInside as inside
+use Rattle.egl_calls.specs.contracts.replies.Reply as reply
+use Rattle.egl_calls.specs.contracts.entries.Entry as entry
+use Rattle.egl_calls.specs.contracts.entries.Journal as journal
+use Rattle.display_table.specs.contracts.displays.Displays as displays
+use Rattle.driver_objects.specs.contracts.contexts.Context as context
+use Rattle.driver_objects.specs.contracts.fences.Fence as fence
+use Rattle.driver_objects.specs.contracts.objects.Object as object
+use Rattle.driver_objects.specs.contracts.storages.Storage as storage
+use Rattle.driver_objects.specs.contracts.surfaces.BackedSurface as surface
+use Rattle.object_table.specs.contracts.stored.Stored as stored
+use Rattle.object_table.specs.contracts.table.ObjectTable as objects
+use Rattle.surface_store.specs.contracts.window_tables.WindowTable as windows
+use Rattle.driver_core.specs.contracts.threads.ThreadTable as threads
+use Rattle.driver_core.specs.contracts.machine.Driver as driver
+use Rattle.shared_driver.specs.contracts.cores.Core as core
+use Rattle.shared_driver.specs.contracts.news.News as news
+use Rattle.shared_driver.specs.contracts.tokens.Shared as shared
+use Rattle.shared_driver.specs.contracts.tokens.Thread as thread
+
+pub numbers_send : IsSend numbers.the_row
+numbers_send = search (sendable, crosses) depth 60
+
+pub bytes_send : IsSend bytes.the_row
+bytes_send = search (sendable, crosses) depth 60
+
+pub kind_send : IsSend (kind.the_field).row
+kind_send = search (sendable, crosses) depth 60 fits 20000
+
+pub some_bytes_send : IsSend (option.the_field bytes.the_row).row
+some_bytes_send = let a = bytes_send in search (sendable, crosses) depth 60 fits 20000
+
+pub inside_send : IsSend inside.the_row
+inside_send = recorded_send _ inside.the_type.D inside.the_type.to inside.the_type.to_one (struct_send (declared.shape inside.the_type) (kind_send, (search sendable depth 20, (numbers_send, (some_bytes_send, tt)))))
+
+pub call_send : IsSend call.the_row
+call_send = view_send _ _ _ _ _ inside_send
+
+pub reply_send : IsSend reply.the_row
+reply_send = let a = numbers_send in let b = bytes_send in search (sendable, crosses) depth 60
+
+pub entry_send : IsSend entry.the_row
+entry_send = let a = call_send in let b = reply_send in search (sendable, crosses) depth 60
+
+pub journal_send : IsSend journal.the_row
+journal_send = let a = entry_send in search (sendable, crosses) depth 60
+
+pub displays_send : IsSend displays.the_row
+displays_send = search (sendable, crosses) depth 60
+
+pub context_send : IsSend context.the_row
+context_send = search (sendable, crosses) depth 60 fits 20000
+
+pub surface_send : IsSend surface.the_row
+surface_send = search (sendable, crosses) depth 60 fits 20000
+
+pub storage_send : IsSend storage.the_row
+storage_send = search (sendable, crosses) depth 60 fits 20000
+
+pub fence_send : IsSend fence.the_row
+fence_send = search (sendable, crosses) depth 60 fits 20000
+
+pub object_send : IsSend object.the_row
+object_send = let a = context_send in let b = surface_send in let d = storage_send in let e = fence_send in search (sendable, crosses) depth 60 fits 20000
+
+pub stored_send : IsSend stored.the_row
+stored_send = let a = object_send in search (sendable, crosses) depth 60 fits 20000
+
+pub objects_send : IsSend objects.the_row
+objects_send = let a = stored_send in search (sendable, crosses) depth 60 fits 20000
+
+pub windows_send : IsSend windows.the_row
+windows_send = search (sendable, crosses) depth 60
+
+pub threads_send : IsSend threads.the_row
+threads_send = search (sendable, crosses) depth 60
+
+pub driver_send : IsSend driver.the_row
+driver_send = let a = displays_send in let b = objects_send in let d = windows_send in let e = threads_send in search sendable depth 20
+
+pub core_send : IsSend core.the_row
+core_send = let a = driver_send in let b = journal_send in search (sendable, crosses) depth 60
+
+pub news_send : IsSend news.the_row
+news_send = search (sendable, crosses) depth 60
+
+pub news_sync : IsSync news.the_row
+news_sync = search (sendable, crosses) depth 60
+
+pub bells_send : IsSend bells.the_row
+bells_send = search (sendable, crosses) depth 60
+
+pub bells_sync : IsSync bells.the_row
+bells_sync = search (sendable, crosses) depth 60
+
+-- a token may move to another thread, and the shared driver may move and be lent to one
+pub thread_send : IsSend thread.the_row
+thread_send = let a = core_send in search (sendable, crosses, seat.the_send) depth 60 fits 20000
+
+pub shared_send : IsSend shared.the_row
+shared_send = let a = core_send in let b = bells_send in let d = news_send in search (sendable, crosses, table.the_send, lease.the_send) depth 60 fits 20000
+
+pub shared_sync : IsSync shared.the_row
+shared_sync = let a = core_send in let b = bells_sync in let d = news_sync in search (sendable, crosses, table.the_sync, lease.the_sync) depth 60 fits 20000

@@ -1,0 +1,12 @@
+use denote.Param.Send.{sendable}
+use Rattle.shared_driver.proofs.Sending.{shared_send, shared_sync, thread_send}
+use Rattle.shared_driver.proofs.threads.finish_all.Goals as goal
+
+pub needs_send-requires-send-T : goal.needs_send-requires-send-T
+needs_send-requires-send-T g c κs = let a = shared_send in search sendable depth 20
+
+pub for_each_mut-requires-send-T : goal.for_each_mut-requires-send-T
+for_each_mut-requires-send-T g c κs within = let a = thread_send in search sendable depth 20
+
+pub for_each_mut-requires-sync-F : goal.for_each_mut-requires-sync-F
+for_each_mut-requires-sync-F g c κs within = let a = shared_sync in let b = c.type_bounds.sync-R in search sendable depth 20

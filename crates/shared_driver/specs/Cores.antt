@@ -1,0 +1,107 @@
+-- What stands under the lock, and what it means.
+use Rattle.std.specs.Prelude.{map, ◌∷◌, ◌≡◌, ℕ, ◌-◌, ◌<◌, ◌≤◌, ◌==◌, Bool, true, false, List, [], Some, None, replicate, pos}
+use Rattle.std.specs.Prelude as std
+use Rattle.std.specs.List.{sum_by, filter}
+use Rattle.std.specs.declared.snapshot.Snapshot.{Snapshot}
+use Rattle.egl_calls.specs.Calls.{CallValue, ReplyValue}
+use Rattle.egl_calls.specs.Journals.{are_halted}
+use Rattle.egl_calls.specs.declared.entries.Entry.{Entry}
+use Rattle.egl_calls.specs.declared.errors.Outcome.{Outcome}
+use Rattle.egl_calls.specs.declared.errors.Outcome.TheVariants.{Done, Waiting}
+use Rattle.egl_calls.specs.declared.kinds.Kind.TheVariants.{Own}
+use Rattle.egl_calls.specs.declared.kinds.OwnKind.{OwnKind}
+use Rattle.egl_calls.specs.declared.kinds.OwnKind.TheVariants.{Halt, WaitEnd}
+use Rattle.egl_names.specs.declared.codes.TheConstants.{EGL_CONDITION_SATISFIED}
+use Rattle.egl_model.specs.State.{State, opening}
+use Rattle.egl_model.specs.Step.{step}
+use Rattle.turn_lock.specs.Meaning.{Meaning}
+use Rattle.shared_driver.specs.declared.cores.Core.{Core}
+use Rattle.shared_driver.specs.declared.tokens.AttachError.{AttachError}
+use Rattle.shared_driver.specs.declared.tokens.AttachError.TheVariants.{Full, NoMemory}
+
+abbrev pub entry : ℕ → ℕ → CallValue → ReplyValue → Entry
+entry number mark call reply = record { thread = number; mark = mark; call = call; reply = reply }
+
+-- a call of this project's own, which has nothing but its kind
+abbrev pub own_call : OwnKind → CallValue
+own_call k = record { kind = Own k; args = replicate 8 (pos 0); list = []; bytes = None }
+
+-- the call by which a thread gives up
+abbrev pub halt_call : CallValue
+halt_call = own_call Halt
+
+-- the call that ends a wait, and its reply where the sync is signalled (EGL 1.5, section 3.8.1)
+abbrev pub wait_end_call : CallValue
+wait_end_call = own_call WaitEnd
+
+abbrev pub wait_ended : ReplyValue
+wait_ended = record { outcome = Done; value = pos EGL_CONDITION_SATISFIED; list = []; bytes = [] }
+
+-- whether a reply says that the thread now waits for a sync
+abbrev pub is_waiting : Outcome → Bool
+is_waiting Waiting = true
+is_waiting o = false
+
+-- the entries of a token's own number
+abbrev pub of_number : ℕ → List Entry → List Entry
+of_number n es = filter (λ e. e.thread == n) es
+
+-- whether the token of a number gave up
+unfoldable pub has_halted : ℕ → List Entry → Bool
+has_halted n es = are_halted (of_number n es)
+
+-- a token is live, and may halt once: its room is at least this
+abbrev pub room_for : Bool → ℕ
+room_for true = 1
+room_for false = 2
+
+-- the place in the journal that a wait which was begun keeps for its end
+abbrev pub place_for : Bool → ℕ
+place_for true = 1
+place_for false = 0
+
+-- how many entries the rooms promise: each one fewer than it is
+unfoldable pub owed : List ℕ → ℕ
+owed rooms = sum_by (λ r. r - 1) rooms
+
+-- the value keeps the state, and its journal has room for all that is promised
+pub record Stands (x : Core) (s : State) : Type 0 where
+  pub driver : x.driver.state ≡ s
+  pub promised : x.promised ≡ owed x.rooms.items
+  pub spare : x.promised ≤ x.journal.spare
+
+-- the state before the first call, in the lock that begins with this value
+abbrev pub origin : Core → State
+origin x = record (opening [] x.driver.state.video) { windows = x.driver.state.windows }
+
+-- the driver stands for the state, and an entry is a legal step
+abbrev pub meaning : Meaning Core Entry
+meaning = record {
+  Content = State;
+  Keeps = λ x s. Stands x s;
+  Acts = λ s e a. (e.reply ≡ (step s e.thread e.call).reply) × (a ≡ (step s e.thread e.call).state);
+  opening = λ x. origin x;
+  history = λ x. x.journal.entries;
+  number = λ e. e.thread;
+  made = λ x. x.driver.made;
+  live = λ x. x.live;
+  rooms = λ x. x.rooms.items;
+}
+
+-- the replies that the steps give, from a state on
+abbrev pub replies_from : State → List Entry → List ReplyValue
+replies_from s [] = []
+replies_from s (e ∷ es) = (step s e.thread e.call).reply ∷ replies_from (step s e.thread e.call).state es
+
+abbrev pub replies_in : std.Option (Snapshot Core) → List Entry → List ReplyValue
+replies_in None es = []
+replies_in (Some first) es = replies_from (origin first.value) es
+
+-- Legal in the lock that began with this value. It is an equation, so that a struct can keep it
+abbrev pub IsLegalIn : std.Option (Snapshot Core) → List Entry → Type 0
+IsLegalIn first es = replies_in first es ≡ map (λ (e : Entry). e.reply) es
+
+-- it says that it is full exactly where 65,536 tokens were made
+abbrev pub IsFull : ℕ → AttachError → Type 0
+IsFull made (Full m) = (m ≡ 65536) × (made ≡ 65536)
+IsFull made NoMemory = made < 65536

@@ -1,0 +1,46 @@
+-- What comes of picks.
+use Rattle.std.specs.Prelude.{◌≡◌, ℕ, Bool, true, false, List, [], ◌∷◌, ◌++◌}
+use Rattle.egl_calls.specs.Journals.{is_halt_kind}
+use Rattle.egl_calls.specs.Kinds.{is_built}
+use Rattle.egl_calls.specs.declared.entries.Entry.{Entry}
+use Rattle.egl_model.specs.Step.{step}
+use Rattle.shared_driver.specs.declared.cores.Core.{Core}
+use Rattle.shared_driver.specs.declared.picks.Pick.{Pick}
+use Rattle.shared_driver.specs.declared.picks.Pick.TheVariants.{Call, Wait, Stop}
+use Rattle.shared_driver.specs.declared.picks.Picked.{Picked}
+use Rattle.shared_driver.specs.declared.picks.Picked.TheVariants.{Replied, Waited, Stopped}
+use Rattle.shared_driver.specs.Cores.{entry}
+use Rattle.shared_driver.specs.Tokens.{AreOthers, Token}
+
+-- a call that is picked is of a kind that the driver plays
+abbrev pub IsBuiltPick : Pick → Type 0
+IsBuiltPick (Call mark call) = is_built call.kind ≡ true
+IsBuiltPick p = Unit {0}
+
+abbrev pub halts : Pick → Bool
+halts (Call mark call) = is_halt_kind call.kind
+halts p = false
+
+-- the entries that come of a pick of the token n
+abbrev pub picked_entries : ℕ → Pick → Picked → List Entry
+picked_entries n (Call mark call) (Replied reply) = entry n mark call reply ∷ []
+picked_entries n p r = []
+
+-- each answer comes exactly by its pick
+abbrev pub IsAnswer : Pick → Picked → Type 0
+IsAnswer (Call mark call) (Replied reply) = Unit {0}
+IsAnswer Wait Waited = Unit {0}
+IsAnswer Stop Stopped = Unit {0}
+IsAnswer p r = ⊥
+
+-- the value y is x, with the entry of the picked call, if one was picked
+abbrev pub IsDone : Core → ℕ → Pick → Picked → Core → Type 0
+IsDone x n (Call mark call) (Replied reply) y =
+    (y.journal.entries ≡ x.journal.entries ++ entry n mark call reply ∷ []) × (reply ≡ (step x.driver.state n call).reply) × (y.driver ≡ record x.driver { state = (step x.driver.state n call).state })
+IsDone x n Wait Waited y = (y.journal.entries ≡ x.journal.entries) × (y.driver ≡ x.driver)
+IsDone x n Stop Stopped y = (y.journal.entries ≡ x.journal.entries) × (y.driver ≡ x.driver)
+IsDone x n p r y = ⊥
+
+-- the journal in a token's turn, in which it has handed in
+abbrev pub IsAtTurn : Token → List Entry → Type 0
+IsAtTurn t es = (between : List Entry) × AreOthers t between × (es ≡ (t.seen ++ between) ++ t.tail)

@@ -1,0 +1,96 @@
+-- A token as a value.
+use Rattle.std.specs.Prelude.{slice_index, ◌≡◌, ◌+◌, ◌≤◌, true, false, ◌⊎◌, ℕ, Bool, List, [], ◌∷◌, ◌++◌, All, Contains}
+use Rattle.egl_calls.specs.declared.entries.Entry.{Entry}
+use Rattle.egl_calls.specs.Calls.{CallValue, ReplyValue}
+use Rattle.egl_model.specs.State.{State}
+use Rattle.turn_lock.specs.Passes as passes
+use Rattle.shared_driver.specs.Cores.{entry, halt_call, has_halted, is_waiting, of_number, origin, room_for, wait_end_call, wait_ended}
+use Rattle.shared_driver.specs.declared.tokens.Shared.{Shared}
+use Rattle.shared_driver.specs.declared.tokens.Thread.{Thread}
+
+pub record Token : Type 0 where
+  pub number : ℕ
+  -- a prefix of the history, with all entries of its number
+  pub seen : List Entry
+  -- its own calls that it hasn't handed in
+  pub tail : List Entry
+  -- the numbers of the tokens that were joined into it, or into one that was
+  pub ended : List ℕ
+  -- the tokens made and the live ones, as at its last turn
+  pub made : ℕ
+  pub live : ℕ
+  pub sole : Bool
+
+abbrev pub token_of : Thread → Token
+token_of t = let v = passes.view_of t.pass in record { number = v.number; seen = v.seen; tail = []; ended = v.ended; made = v.counts.made; live = v.counts.live; sole = t.sole }
+
+-- the token came from this driver's `open` or `attach`
+abbrev pub IsOf : Shared → Thread → Type 0
+IsOf s t = passes.IsOf s.turns t.pass
+
+-- the state that the history starts at
+abbrev pub opening_of : Shared → State
+opening_of s = origin (passes.first_of s.turns).value
+
+-- the number is the token's own, or of a token that ended in it
+abbrev pub Owns : Token → ℕ → Type 0
+Owns t n = (n ≡ t.number) ⊎ (Contains t.ended n)
+
+abbrev pub AreOthers : Token → List Entry → Type 0
+AreOthers t es = All (λ e. ¬ (Owns t e.thread)) es
+
+-- the token's own entries
+abbrev pub mine : Token → List Entry
+mine t = of_number t.number (t.seen ++ t.tail)
+
+-- one of its own entries is a Halt
+abbrev pub has_given_up : Token → Bool
+has_given_up t = has_halted t.number (t.seen ++ t.tail)
+
+-- it is the same token, and nothing ended in it
+abbrev pub IsSame : Token → Token → Type 0
+IsSame t u = (u.number ≡ t.number) × (u.ended ≡ t.ended)
+
+-- the token has now seen entries of others more, then has handed in its own calls, and then these
+abbrev pub Goes : Token → List Entry → Token → Type 0
+Goes t more u = (between : List Entry) × AreOthers t between × (u.seen ≡ ((t.seen ++ between) ++ t.tail) ++ more) × (u.tail ≡ [])
+
+-- the token has now seen entries of others more
+abbrev pub Learns : Token → Token → Type 0
+Learns t u = (between : List Entry) × AreOthers t between × (u.seen ≡ t.seen ++ between) × (u.tail ≡ t.tail)
+
+-- ---- What a call adds.
+
+-- it was answered in one turn, by the reply of its entry
+abbrev pub AnswersAtOnce : Token → ℕ → CallValue → ReplyValue → Token → Type 0
+AnswersAtOnce t mark call reply u =
+    (is_waiting reply.outcome ≡ false) × Goes t (entry t.number mark call reply ∷ []) u × (mine u ≡ mine t ++ entry t.number mark call reply ∷ [])
+
+-- Its entry began a wait, and its reply is that of the entry that ended the wait. Between the two stand entries of others
+abbrev pub AnswersAfterWait : Token → ℕ → CallValue → ReplyValue → Token → Type 0
+AnswersAfterWait t mark call reply u =
+    (begun : ReplyValue) × (between : List Entry) × (is_waiting begun.outcome ≡ true) × (reply ≡ wait_ended) × AreOthers t between
+    × Goes t (entry t.number mark call begun ∷ between ++ entry t.number mark wait_end_call reply ∷ []) u
+    × (mine u ≡ mine t ++ entry t.number mark call begun ∷ entry t.number mark wait_end_call reply ∷ [])
+
+-- the token hands in, and then halts
+abbrev pub Halts : Token → Token → Type 0
+Halts t u = (r : ReplyValue) × Goes t (entry t.number 0 halt_call r ∷ []) u × (mine u ≡ mine t ++ entry t.number 0 halt_call r ∷ [])
+
+-- ---- Tokens that begin and end.
+
+-- The new token has seen what its maker has, and has nothing of its own. Its number is that of the tokens made before
+abbrev pub IsNew : Token → Token → Type 0
+IsNew from t = (t.number + 1 ≡ from.made) × (from.made ≤ 65536) × (t.seen ≡ from.seen) × (t.tail ≡ []) × (t.ended ≡ []) × (t.sole ≡ false)
+
+-- it has seen all that this token had seen, and its tail, which was handed in, and else entries of others
+abbrev pub Includes : Token → List Entry → Type 0
+Includes t seen = (before after : List Entry) × AreOthers t before × AreOthers t after × (seen ≡ ((t.seen ++ before) ++ t.tail) ++ after)
+
+-- of a number that ended in the token, there are the entries that it has seen, and no others
+abbrev pub KnowsEnded : Token → List Entry → Type 0
+KnowsEnded t seen = (n : ℕ) → Contains t.ended n → of_number n seen ≡ of_number n t.seen
+
+-- its room has a place more than it needs to halt
+abbrev pub HasPlace : Thread → Type 0
+HasPlace t = let v = passes.view_of t.pass in room_for t.halted + 1 ≤ slice_index v.rooms v.number

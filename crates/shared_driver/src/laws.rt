@@ -1,0 +1,12 @@
+//! What holds of every token.
+ghost use Rattle.std.specs.Prelude.{◌++◌};
+ghost use Rattle.egl_model.specs.History.{IsLegalFrom};
+ghost use Rattle.shared_driver.specs.Tokens.{IsOf, opening_of, token_of};
+
+use crate::tokens::{Shared, Thread};
+
+/// What a token has seen, with its own calls after it, is legal: each reply is the step's at its place, from the opening on. This is a law: there is nothing to run.
+pub fn what_a_token_has_seen_is_legal(shared: &Shared, thread: &Thread)
+    requires owns { IsOf shared.now thread.now }
+    ensures { IsLegalFrom (opening_of shared.now) ((token_of thread.now).seen ++ (token_of thread.now).tail) }
+{}

@@ -1,0 +1,19 @@
+//! A driver and its journal behind a lock: the calls of all threads stand in one legal history.
+#![tactic(auto)]
+
+mod calls;
+mod cores;
+mod joins;
+mod laws;
+mod news;
+mod picks;
+#[cfg(test)]
+mod tests;
+mod threads;
+mod tokens;
+mod waits;
+
+pub use laws::what_a_token_has_seen_is_legal;
+pub use picks::{Pick, Picked, Picker};
+pub use threads::finish_all;
+pub use tokens::{AttachError, Closed, Opened, Shared, Thread};

@@ -1,0 +1,68 @@
+//! A wait for a sync, until it ends.
+ghost use Rattle.std.specs.Prelude.{◌≡◌, ◌∷◌, ◌++◌, [], IfSome, IfNone, OnSome};
+ghost use Rattle.shared_driver.specs.Cores.{entry, wait_end_call, wait_ended};
+ghost use Rattle.shared_driver.specs.Tokens.{Goes, HasPlace, IsOf, IsSame, Learns, mine, token_of};
+
+use crate::tokens::{Shared, Thread};
+use egl_calls::Reply;
+use std::alloc::Global;
+use std::sync::Wait;
+
+impl Shared {
+    // One turn of a wait.
+    fn try_end<R: Wait>(
+        &self,
+        thread: &mut Thread,
+        rt: &R,
+        alloc: Global,
+        mark: u64,
+    ) -> Option<Reply>
+        requires owns { IsOf self.now thread.old }
+        requires place { HasPlace thread.old }
+        ensures owns { IsOf self.now thread.new }
+        ensures same { IsSame (token_of thread.old) (token_of thread.new) }
+        ensures sole { (token_of thread.new).sole ≡ (token_of thread.old).sole }
+        ensures reply { IfSome result (λ r. r ≡ wait_ended) }
+        ensures ended { OnSome result (Goes (token_of thread.old) (entry (token_of thread.old).number mark wait_end_call wait_ended ∷ []) (token_of thread.new)) }
+        ensures none { IfNone result (Learns (token_of thread.old) (token_of thread.new) × HasPlace thread.new) }
+    {
+        let mut held = self.turns.take_turn(&mut thread.pass, rt);
+        match held.value().try_end(alloc, thread.number, mark) {
+            Some(reply) => {
+                self.turns.give_back(&mut thread.pass, held);
+                self.news.tell();
+                Some(reply)
+            }
+            None => {
+                self.turns.give_back(&mut thread.pass, held);
+                None
+            }
+        }
+    }
+
+    /// Waits until the token's wait can end, and ends it. Between two looks it sleeps until another turn has added an entry. It takes no memory.
+    pub(crate) fn end_wait<R: Wait>(
+        &self,
+        thread: &mut Thread,
+        rt: &R,
+        alloc: Global,
+        mark: u64,
+    ) -> Reply
+        requires owns { IsOf self.now thread.old }
+        requires place { HasPlace thread.old }
+        ensures owns { IsOf self.now thread.new }
+        ensures same { IsSame (token_of thread.old) (token_of thread.new) }
+        ensures sole { (token_of thread.new).sole ≡ (token_of thread.old).sole }
+        ensures reply { result ≡ wait_ended }
+        ensures ended { Goes (token_of thread.old) (entry (token_of thread.old).number mark wait_end_call wait_ended ∷ []) (token_of thread.new) }
+    {
+        'waiting: for _ in rt.forever() {
+            let heard = self.news.heard();
+            if let Some(reply) = self.try_end(thread, rt, alloc, mark) {
+                return reply;
+            }
+            self.news.sleep(rt, heard);
+        }
+        unreachable!()
+    }
+}
