@@ -1,0 +1,13 @@
+//! Threads that share a driver. All of it is tests: they stand here, so that the driver's own crate isn't proved again for each of them.
+#![tactic(auto)]
+
+#[cfg(test)]
+mod crowds;
+#[cfg(test)]
+mod draws;
+#[cfg(test)]
+mod replays;
+#[cfg(test)]
+mod sides;
+#[cfg(test)]
+mod tests;
