@@ -1,10 +1,11 @@
 //! Fences of as many contexts.
 
+use crate::timing::{tables_of, time, time_each};
 use anyhow::{Result, bail};
 use egl_calls::NoMemory;
 use fence_sync::Fences;
 use std::rt::Clock;
-use std::time::{Duration, Instant};
+use std::time::Duration;
 
 fn create_in(fences: &mut Fences, n: u32) -> Result<()> {
     'fences: for k in 0..n {
@@ -16,23 +17,27 @@ fn create_in(fences: &mut Fences, n: u32) -> Result<()> {
     Ok(())
 }
 
-pub fn create<R: Clock + AllocGlobal>(rt: &R, n: u32) -> Result<Duration> {
-    let mut fences = Fences::new(rt.alloc());
-    let start = Instant::now(rt)?;
-    create_in(&mut fences, n)?;
-    Ok(start.elapsed(rt)?)
-}
-
 // Flushes each context, beside all the fences of the others.
-pub fn flush<R: Clock + AllocGlobal>(rt: &R, n: u32) -> Result<Duration> {
-    let mut fences = Fences::new(rt.alloc());
-    create_in(&mut fences, n)?;
-    let start = Instant::now(rt)?;
+fn flush_in(fences: &mut Fences, n: u32) -> Result<()> {
     'contexts: for k in 0..n {
         fences.flush_context(u64::from(k));
         if !fences.is_signalled(u64::from(k)) {
             bail!("fence {k} isn't signalled");
         }
     }
-    Ok(start.elapsed(rt)?)
+    Ok(())
+}
+
+pub fn create<R: Clock + AllocGlobal>(rt: &R, n: u32) -> Result<Duration> {
+    let mut tables = Vec::new(rt.alloc());
+    'tables: for _ in 0..tables_of(n) {
+        tables.push(Fences::new(rt.alloc()))?;
+    }
+    time_each(rt, &mut tables, n, create_in)
+}
+
+pub fn flush<R: Clock + AllocGlobal>(rt: &R, n: u32) -> Result<Duration> {
+    let mut fences = Fences::new(rt.alloc());
+    create_in(&mut fences, n)?;
+    time(rt, &mut fences, n, flush_in)
 }

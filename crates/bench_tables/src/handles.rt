@@ -1,9 +1,10 @@
 //! Handles of two displays by turns.
 
+use crate::timing::{tables_of, time, time_each};
 use anyhow::{Result, bail};
 use display_table::{Displays, HandleKind};
 use std::rt::Clock;
-use std::time::{Duration, Instant};
+use std::time::Duration;
 
 const FIRST: u32 = 3;
 
@@ -19,17 +20,7 @@ fn make_in(displays: &mut Displays, n: u32) -> Result<()> {
     Ok(())
 }
 
-pub fn make<R: Clock + AllocGlobal>(rt: &R, n: u32) -> Result<Duration> {
-    let mut displays = Displays::new(rt.alloc());
-    let start = Instant::now(rt)?;
-    make_in(&mut displays, n)?;
-    Ok(start.elapsed(rt)?)
-}
-
-pub fn find<R: Clock + AllocGlobal>(rt: &R, n: u32) -> Result<Duration> {
-    let mut displays = Displays::new(rt.alloc());
-    make_in(&mut displays, n)?;
-    let start = Instant::now(rt)?;
+fn find_in(displays: &mut Displays, n: u32) -> Result<()> {
     let mut found = 0u32;
     'handles: for k in 0..n {
         let handle = i64::from(FIRST.wrapping_add(k));
@@ -44,34 +35,25 @@ pub fn find<R: Clock + AllocGlobal>(rt: &R, n: u32) -> Result<Duration> {
     if found != n {
         bail!("{found} of {n} handles were found");
     }
-    Ok(start.elapsed(rt)?)
+    Ok(())
 }
 
-pub fn remove_in_order<R: Clock + AllocGlobal>(rt: &R, n: u32) -> Result<Duration> {
-    let mut displays = Displays::new(rt.alloc());
-    make_in(&mut displays, n)?;
-    let start = Instant::now(rt)?;
+fn remove_in_order_of(displays: &mut Displays, n: u32) -> Result<()> {
     'handles: for k in 0..n {
         displays.remove(i64::from(FIRST.wrapping_add(k)));
     }
-    Ok(start.elapsed(rt)?)
+    Ok(())
 }
 
-pub fn remove_backwards<R: Clock + AllocGlobal>(rt: &R, n: u32) -> Result<Duration> {
-    let mut displays = Displays::new(rt.alloc());
-    make_in(&mut displays, n)?;
-    let start = Instant::now(rt)?;
+fn remove_backwards_of(displays: &mut Displays, n: u32) -> Result<()> {
     'handles: for k in 0..n {
         displays.remove(i64::from(FIRST.wrapping_add(n - 1 - k)));
     }
-    Ok(start.elapsed(rt)?)
+    Ok(())
 }
 
 // Takes the handles of the first display, which has half of all.
-pub fn take<R: Clock + AllocGlobal>(rt: &R, n: u32) -> Result<Duration> {
-    let mut displays = Displays::new(rt.alloc());
-    make_in(&mut displays, n)?;
-    let start = Instant::now(rt)?;
+fn take_of(displays: &mut Displays, n: u32) -> Result<()> {
     let mut taken = 0u32;
     'handles: for _ in 0..n {
         if displays.take_handle(1).is_none() {
@@ -82,7 +64,37 @@ pub fn take<R: Clock + AllocGlobal>(rt: &R, n: u32) -> Result<Duration> {
     if taken != n.div_ceil(2) {
         bail!("{taken} handles were taken");
     }
-    Ok(start.elapsed(rt)?)
+    Ok(())
+}
+
+fn filled<R: AllocGlobal>(rt: &R, n: u32) -> Result<Displays> {
+    let mut displays = Displays::new(rt.alloc());
+    make_in(&mut displays, n)?;
+    Ok(displays)
+}
+
+pub fn make<R: Clock + AllocGlobal>(rt: &R, n: u32) -> Result<Duration> {
+    let mut tables = Vec::new(rt.alloc());
+    'tables: for _ in 0..tables_of(n) {
+        tables.push(Displays::new(rt.alloc()))?;
+    }
+    time_each(rt, &mut tables, n, make_in)
+}
+
+pub fn find<R: Clock + AllocGlobal>(rt: &R, n: u32) -> Result<Duration> {
+    time(rt, &mut filled(rt, n)?, n, find_in)
+}
+
+pub fn remove_in_order<R: Clock + AllocGlobal>(rt: &R, n: u32) -> Result<Duration> {
+    time(rt, &mut filled(rt, n)?, n, remove_in_order_of)
+}
+
+pub fn remove_backwards<R: Clock + AllocGlobal>(rt: &R, n: u32) -> Result<Duration> {
+    time(rt, &mut filled(rt, n)?, n, remove_backwards_of)
+}
+
+pub fn take<R: Clock + AllocGlobal>(rt: &R, n: u32) -> Result<Duration> {
+    time(rt, &mut filled(rt, n)?, n, take_of)
 }
 
 pub fn one_at_a_time<R: AllocGlobal>(rt: &R, n: u32) -> Result<()> {

@@ -1,15 +1,16 @@
 //! Makes, finds and frees names, handles and fences, and says how long each took.
 //!
-//! With no word it does so with 1,000 and prints what was done. With a word, as `time`, it does so with 1,000, 10,000
-//! and 100,000, and prints the nanoseconds each in the fastest of five runs. With two words it makes and removes
-//! 10,000,000 handles one after another, of which never more than one is there.
+//! With no word it does so with 1,000 and prints what was done. With two words, one of these lines up to its number and a
+//! size, it does that alone, and prints the nanoseconds that so many took. With one word, as `passing`, it makes and
+//! removes 10,000,000 handles one after another, of which never more than one is there.
 #![tactic(auto)]
 
 mod fences;
 mod handles;
 mod names;
+mod timing;
 
-use anyhow::Result;
+use anyhow::{Context, Result, bail};
 use std::env;
 use std::rt::Clock;
 use std::time::Duration;
@@ -30,6 +31,48 @@ enum Phase {
     Flush,
 }
 
+const PHASES: [Phase; 12] = [
+    Phase::Generate,
+    Phase::LookUp,
+    Phase::LowestAgain,
+    Phase::Edges,
+    Phase::Free,
+    Phase::Make,
+    Phase::Find,
+    Phase::RemoveInOrder,
+    Phase::RemoveBackwards,
+    Phase::Take,
+    Phase::Create,
+    Phase::Flush,
+];
+
+impl Phase {
+    fn name(self) -> &'static str {
+        match self {
+            Phase::Generate => "names generated",
+            Phase::LookUp => "names looked up",
+            Phase::LowestAgain => "lowest names freed and generated again",
+            Phase::Edges => "objects read by rising names",
+            Phase::Free => "names freed",
+            Phase::Make => "handles made",
+            Phase::Find => "handles found",
+            Phase::RemoveInOrder => "handles removed in the order of making",
+            Phase::RemoveBackwards => "handles removed in the other order",
+            Phase::Take => "handles of one display taken",
+            Phase::Create => "fences made",
+            Phase::Flush => "contexts with a fence each flushed",
+        }
+    }
+
+    // What takes memory runs once, as later runs would find some that was written to before.
+    fn runs(self) -> u32 {
+        match self {
+            Phase::Generate | Phase::Make | Phase::Create => 1,
+            _ => 5,
+        }
+    }
+}
+
 fn run<R: Clock + AllocGlobal>(rt: &R, phase: Phase, n: u32) -> Result<Duration> {
     match phase {
         Phase::Generate => names::generate(rt, n),
@@ -47,81 +90,36 @@ fn run<R: Clock + AllocGlobal>(rt: &R, phase: Phase, n: u32) -> Result<Duration>
     }
 }
 
-fn least_time<R: Clock + AllocGlobal>(rt: &R, phase: Phase, n: u32) -> Result<u128> {
-    let mut least = u128::MAX;
-    'runs: for _ in 0..5 {
-        let took = run(rt, phase, n)?;
-        least = least.min(took.as_nanos());
-    }
-    Ok(least / u128::from(n.max(1)))
-}
-
-fn report<R: Clock + Print + AllocGlobal>(
-    rt: &R,
-    is_timed: bool,
-    phase: Phase,
-    name: &str,
-) -> Result<()> {
-    if !is_timed {
+fn report_all<R: Clock + Print + AllocGlobal>(rt: &R) -> Result<()> {
+    for phase in PHASES {
         let _took = run(rt, phase, 1_000)?;
-        println!(rt; "{name} 1000: done")?;
-        return Ok(());
+        println!(rt; "{} 1000: done", phase.name())?;
     }
-    let small = least_time(rt, phase, 1_000)?;
-    let middle = least_time(rt, phase, 10_000)?;
-    let large = least_time(rt, phase, 100_000)?;
-    println!(rt; "{name}: {small}, {middle} and {large} ns each")?;
     Ok(())
 }
 
-fn report_names<R: Clock + Print + AllocGlobal>(rt: &R, is_timed: bool) -> Result<()> {
-    report(rt, is_timed, Phase::Generate, "names generated")?;
-    report(rt, is_timed, Phase::LookUp, "names looked up")?;
-    report(
-        rt,
-        is_timed,
-        Phase::LowestAgain,
-        "lowest names freed and generated again",
-    )?;
-    report(rt, is_timed, Phase::Edges, "objects read by rising names")?;
-    report(rt, is_timed, Phase::Free, "names freed")
-}
-
-fn report_handles<R: Clock + Print + AllocGlobal>(rt: &R, is_timed: bool) -> Result<()> {
-    report(rt, is_timed, Phase::Make, "handles made")?;
-    report(rt, is_timed, Phase::Find, "handles found")?;
-    report(
-        rt,
-        is_timed,
-        Phase::RemoveInOrder,
-        "handles removed in the order of making",
-    )?;
-    report(
-        rt,
-        is_timed,
-        Phase::RemoveBackwards,
-        "handles removed in the other order",
-    )?;
-    report(rt, is_timed, Phase::Take, "handles of one display taken")
-}
-
-fn report_fences<R: Clock + Print + AllocGlobal>(rt: &R, is_timed: bool) -> Result<()> {
-    report(rt, is_timed, Phase::Create, "fences made")?;
-    report(
-        rt,
-        is_timed,
-        Phase::Flush,
-        "contexts with a fence each flushed",
-    )
+fn report_one<R: Clock + Print + AllocGlobal>(rt: &R, name: &str, n: u32) -> Result<()> {
+    'phases: for phase in PHASES {
+        if phase.name() == name {
+            let mut least = u128::MAX;
+            'runs: for _ in 0..phase.runs() {
+                least = least.min(run(rt, phase, n)?.as_nanos());
+            }
+            println!(rt; "{least}")?;
+            return Ok(());
+        }
+    }
+    bail!("nothing is called {name}")
 }
 
 fn main(rt: HostRuntime) -> Result<()> {
-    let words = env::args(&rt)?.count();
-    if words > 2 {
-        return handles::one_at_a_time(&rt, 10_000_000);
+    let mut words = env::args(&rt)?.skip(1);
+    match (words.next(), words.next()) {
+        (None, _) => report_all(&rt),
+        (Some(_), None) => handles::one_at_a_time(&rt, 10_000_000),
+        (Some(name), Some(size)) => {
+            let n = size.as_str().parse::<u32>().context("a size is a number")?;
+            report_one(&rt, name.as_str(), n)
+        }
     }
-    let is_timed = words == 2;
-    report_names(&rt, is_timed)?;
-    report_handles(&rt, is_timed)?;
-    report_fences(&rt, is_timed)
 }

@@ -1,10 +1,11 @@
 //! Names of textures.
 
+use crate::timing::{tables_of, time, time_each};
 use anyhow::{Result, bail};
 use egl_calls::NoMemory;
 use share_group::{Group, NameKind};
 use std::rt::Clock;
-use std::time::{Duration, Instant};
+use std::time::Duration;
 
 // What one call generates.
 const BATCH: u32 = 250;
@@ -31,17 +32,7 @@ fn bind_in(group: &mut Group, n: u32) -> Result<()> {
     Ok(())
 }
 
-pub fn generate<R: Clock + AllocGlobal>(rt: &R, n: u32) -> Result<Duration> {
-    let mut group = Group::new(rt.alloc());
-    let start = Instant::now(rt)?;
-    generate_in(&mut group, n)?;
-    Ok(start.elapsed(rt)?)
-}
-
-pub fn look_up<R: Clock + AllocGlobal>(rt: &R, n: u32) -> Result<Duration> {
-    let mut group = Group::new(rt.alloc());
-    bind_in(&mut group, n)?;
-    let start = Instant::now(rt)?;
+fn look_up_in(group: &mut Group, n: u32) -> Result<()> {
     let mut found = 0u32;
     'names: for name in 1..=n {
         if group.is_name(NameKind::Texture, name) {
@@ -51,14 +42,11 @@ pub fn look_up<R: Clock + AllocGlobal>(rt: &R, n: u32) -> Result<Duration> {
     if found != n {
         bail!("{found} of {n} names were found");
     }
-    Ok(start.elapsed(rt)?)
+    Ok(())
 }
 
 // Frees the lowest name, and generates it again.
-pub fn lowest_again<R: Clock + AllocGlobal>(rt: &R, n: u32) -> Result<Duration> {
-    let mut group = Group::new(rt.alloc());
-    generate_in(&mut group, n)?;
-    let start = Instant::now(rt)?;
+fn lowest_again_in(group: &mut Group, n: u32) -> Result<()> {
     'times: for _ in 0..n {
         let _object = group.delete(NameKind::Texture, 1);
         match group.generate(NameKind::Texture, 1) {
@@ -66,13 +54,10 @@ pub fn lowest_again<R: Clock + AllocGlobal>(rt: &R, n: u32) -> Result<Duration> 
             Err(NoMemory) => bail!("no memory for a name"),
         }
     }
-    Ok(start.elapsed(rt)?)
+    Ok(())
 }
 
-pub fn edges<R: Clock + AllocGlobal>(rt: &R, n: u32) -> Result<Duration> {
-    let mut group = Group::new(rt.alloc());
-    bind_in(&mut group, n)?;
-    let start = Instant::now(rt)?;
+fn edges_of(group: &mut Group, n: u32) -> Result<()> {
     let count = group.edge_count();
     let mut sum = 0u64;
     'edges: for k in 0..count {
@@ -81,15 +66,48 @@ pub fn edges<R: Clock + AllocGlobal>(rt: &R, n: u32) -> Result<Duration> {
     if count != n || sum == 0 {
         bail!("{count} objects of {n}");
     }
-    Ok(start.elapsed(rt)?)
+    Ok(())
 }
 
-pub fn free<R: Clock + AllocGlobal>(rt: &R, n: u32) -> Result<Duration> {
-    let mut group = Group::new(rt.alloc());
-    generate_in(&mut group, n)?;
-    let start = Instant::now(rt)?;
+fn free_in(group: &mut Group, n: u32) -> Result<()> {
     'names: for name in 1..=n {
         let _object = group.delete(NameKind::Texture, name);
     }
-    Ok(start.elapsed(rt)?)
+    Ok(())
+}
+
+fn generated<R: AllocGlobal>(rt: &R, n: u32) -> Result<Group> {
+    let mut group = Group::new(rt.alloc());
+    generate_in(&mut group, n)?;
+    Ok(group)
+}
+
+fn bound<R: AllocGlobal>(rt: &R, n: u32) -> Result<Group> {
+    let mut group = Group::new(rt.alloc());
+    bind_in(&mut group, n)?;
+    Ok(group)
+}
+
+pub fn generate<R: Clock + AllocGlobal>(rt: &R, n: u32) -> Result<Duration> {
+    let mut groups = Vec::new(rt.alloc());
+    'groups: for _ in 0..tables_of(n) {
+        groups.push(Group::new(rt.alloc()))?;
+    }
+    time_each(rt, &mut groups, n, generate_in)
+}
+
+pub fn look_up<R: Clock + AllocGlobal>(rt: &R, n: u32) -> Result<Duration> {
+    time(rt, &mut bound(rt, n)?, n, look_up_in)
+}
+
+pub fn lowest_again<R: Clock + AllocGlobal>(rt: &R, n: u32) -> Result<Duration> {
+    time(rt, &mut generated(rt, n)?, n, lowest_again_in)
+}
+
+pub fn edges<R: Clock + AllocGlobal>(rt: &R, n: u32) -> Result<Duration> {
+    time(rt, &mut bound(rt, n)?, n, edges_of)
+}
+
+pub fn free<R: Clock + AllocGlobal>(rt: &R, n: u32) -> Result<Duration> {
+    time(rt, &mut generated(rt, n)?, n, free_in)
 }
