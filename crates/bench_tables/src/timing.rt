@@ -6,8 +6,7 @@ use std::rt::Clock;
 use std::time::{Duration, Instant};
 
 /// What takes memory makes so many at each size, in tables of that size that are all kept until the clock stops: so each
-/// size writes to as much memory for the first time, which takes about as long as making the handles
-/// in it.
+/// size writes to as much memory for the first time, which takes about as long as making the handles in it.
 const MADE_IN_ALL: u32 = 100_000;
 
 /// How many tables of a size have all together.

@@ -85,6 +85,23 @@ fn a_flush_signals_what_was_made_before_it(rt: HostRuntime) -> Result<(), Fail> 
 }
 
 #[test]
+fn a_fence_goes_once_its_wait_has_ended(rt: HostRuntime) -> Result<(), Fail> {
+    let mut fences = Fences::new(rt.alloc());
+    let sync = fences.create(4)?;
+    fences.wait_begin(0, sync)?;
+    let early = fences.wait_end(0);
+    assert_eq!(rt; early, None);
+    fences.flush_context(4);
+    let ended = fences.wait_end(0);
+    assert_eq!(rt; ended, Some(sync));
+    fences.destroy(sync);
+    assert!(rt; !fences.is_signalled(sync));
+    assert_eq!(rt; fences.wait_of(0), None);
+    assert_eq!(rt; fences.create(4)?, 1);
+    Ok(())
+}
+
+#[test]
 fn unknown_numbers_name_nothing(rt: HostRuntime) -> Result<(), Fail> {
     let mut fences = Fences::new(rt.alloc());
     let first = fences.create(1)?;
