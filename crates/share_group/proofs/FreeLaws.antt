@@ -1,11 +1,11 @@
--- What it is to free a name, and to generate names.
-use Rattle.std.proofs.Common.{◌≡◌, ◌≢◌, ℕ, zero, suc, ◌==◌, if◌then◌else◌, List, [], ◌∷◌, Option, None, Some, refl, sym, ◌∙◌, ap, arith, inl, inr, length-append}
+-- What it is to free a name.
+use Rattle.std.proofs.Common.{◌≡◌, ◌≢◌, ℕ, ◌==◌, if◌then◌else◌, List, [], ◌∷◌, Option, None, Some, refl, sym, ◌∙◌, ap, inl, inr}
 use Rattle.std.specs.List.{find}
 use Rattle.std.specs.Option.{is_some}
 use Rattle.std.proofs.lemmas.Bool.{cases_eq, ne_eqb, eq-eqb}
 use Rattle.share_group.specs.declared.names.Name.{Name}
-use Rattle.share_group.specs.Names.{after, given, is_of, object_in, unused_from, without}
-use Rattle.share_group.specs.Laws.{FreesOne, GivesAsMany, SmallestUnused}
+use Rattle.share_group.specs.Names.{is_of, object_in, without}
+use Rattle.share_group.specs.Laws.{FreesOne, SmallestUnused}
 use Rattle.share_group.proofs.NameLaws.{low-unused, smaller_used, unused_not_used}
 
 find_freed : (name : ℕ) (xs : List Name) → find (is_of name) (without name xs) ≡ None
@@ -34,8 +34,3 @@ smallest_unused low end xs r = record {
   unused = ap is_some (unused_not_used low xs end r);
   smaller = λ m l h. smaller_used low m xs end r l h;
 }
-
-pub gives_as_many : GivesAsMany
-unfolding given
-gives_as_many zero xs = refl
-gives_as_many (suc n) xs = omega (arith, length-append (given n xs) (unused_from 1 (after n xs) ∷ []), gives_as_many n xs)

@@ -3,3 +3,4 @@ pub mod ForkLaws
 pub mod NodeLaws
 pub mod GenLaws
 pub mod FreeLaws
+pub mod GivenLaws

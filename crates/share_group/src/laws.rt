@@ -11,7 +11,8 @@ pub fn freeing_one_name()
     ensures { laws.FreesOne }
 {}
 
-/// Generating so many names gives as many, of which none was used.
-pub fn as_many_names_as_asked()
-    ensures { laws.GivesAsMany }
+/// Generating so many names gives as many, none of which was used, in rising order. Each smaller number is used then,
+/// from 1 on; and freeing them again leaves what was there.
+pub fn smallest_names_are_given()
+    ensures { laws.GivesTheSmallest }
 {}

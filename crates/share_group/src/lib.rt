@@ -11,5 +11,5 @@ mod tests;
 mod trees;
 
 pub use groups::Group;
-pub use laws::{as_many_names_as_asked, freeing_one_name, smallest_unused_name};
+pub use laws::{freeing_one_name, smallest_names_are_given, smallest_unused_name};
 pub use names::{Name, NameKind};
