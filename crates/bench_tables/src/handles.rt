@@ -93,8 +93,13 @@ pub fn remove_backwards<R: Clock + AllocGlobal>(rt: &R, n: u32) -> Result<Durati
     time(rt, &mut filled(rt, n)?, n, remove_backwards_of)
 }
 
+// To take a handle costs little more than to read it, so each size reads as many of as much memory.
 pub fn take<R: Clock + AllocGlobal>(rt: &R, n: u32) -> Result<Duration> {
-    time(rt, &mut filled(rt, n)?, n, take_of)
+    let mut tables = Vec::new(rt.alloc());
+    'tables: for _ in 0..tables_of(n) {
+        tables.push(filled(rt, n)?)?;
+    }
+    time_each(rt, &mut tables, n, take_of)
 }
 
 pub fn one_at_a_time<R: AllocGlobal>(rt: &R, n: u32) -> Result<()> {

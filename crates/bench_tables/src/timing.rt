@@ -7,13 +7,13 @@ use std::time::{Duration, Instant};
 
 /// What takes memory makes so many at each size, in tables of that size that are all kept until the clock stops: so each
 /// size writes to as much memory for the first time, which takes about as long as making the handles in it.
-const MADE_IN_ALL: u32 = 100_000;
+const IN_ALL: u32 = 100_000;
 
 /// How many tables of a size have all together.
 pub fn tables_of(n: u32) -> u32
     ensures { 0 < result }
 {
-    (MADE_IN_ALL / n.max(1)).max(1)
+    (IN_ALL / n.max(1)).max(1)
 }
 
 /// What the work on one table takes.
