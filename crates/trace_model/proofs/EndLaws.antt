@@ -58,6 +58,26 @@ ends_wait t journal e l r b h =
     ∙ ap (λ (c : CallValue). is_waiting (step (state_behind t journal) e.thread c).reply.outcome) call
     ∙ ready_ends (state_behind t journal) e.thread ready
 
+-- ---- A wait is at the thread's next line still.
+module _ (t : TraceValue) (journal : List Entry) (e : Entry) (l : Line) (r : Turn t journal e l) where
+  unmoved : is_waiting e.reply.outcome ≡ true → (thread : ℕ) → next_line t.lines (journal ++ e ∷ []) thread ≡ next_line t.lines journal thread
+  unfolding next_line
+  unmoved h thread = same_found (is_open (journal ++ e ∷ []) thread) (is_open journal thread) t.lines (λ m.
+      ap (λ (o : Option ReplyValue). (m.thread == thread) && not (is_some o)) (answered_before journal e m.thread m.number (still_waits e m.thread m.number h)))
+
+  pub waits_by : (b : Bool) → is_waiting e.reply.outcome ≡ b → (x : Entry) (m : Line) → begun_wait (journal ++ e ∷ []) e.thread ≡ Some x → next_line t.lines (journal ++ e ∷ []) e.thread ≡ Some m → x.mark ≡ m.number
+  waits_by false h x m p q =
+      let n : begun_wait (journal ++ e ∷ []) e.thread ≡ None = ap where_waiting (last_is journal e e.thread refl) ∙ ap (λ (y : Bool). if y then Some e else None) h in
+      absurd (let f : None ≡ Some x = sym n ∙ p in cc)
+  waits_by true h x m p q =
+      let b : begun_wait (journal ++ e ∷ []) e.thread ≡ Some e = ap where_waiting (last_is journal e e.thread refl) ∙ ap (λ (y : Bool). if y then Some e else None) h in
+      let same : Some e ≡ Some x = sym b ∙ p in
+      let same_entry : e ≡ x = cc in
+      let here : next_line t.lines (journal ++ e ∷ []) e.thread ≡ Some l = unmoved h e.thread ∙ r.next in
+      let both : Some l ≡ Some m = sym here ∙ q in
+      let same_line : l ≡ m = cc in
+      sym (ap (λ (y : Entry). y.mark) same_entry) ∙ r.mark ∙ ap (λ (y : Line). y.number) same_line
+
 module _ (t : TraceValue) (journal : List Entry) (e : Entry) (l : Line) (r : Turn t journal e l) (w : WaitsAtNext t journal) where
   abbrev pub longer : List Entry
   longer = journal ++ e ∷ []
@@ -134,25 +154,6 @@ module _ (t : TraceValue) (journal : List Entry) (e : Entry) (l : Line) (r : Tur
   pub line_falls : turns_left_of longer l.thread l.number < turns_left_of journal l.thread l.number
   line_falls = let P : ℕ → Type 0 = λ x. turns_left_of longer x l.number < turns_left_of journal x l.number in subst P (sym r.thread) own_falls
 
-  -- ---- Waits are still at the next lines.
-  unmoved : is_waiting e.reply.outcome ≡ true → (thread : ℕ) → next_line t.lines longer thread ≡ next_line t.lines journal thread
-  unfolding next_line
-  unmoved h thread = same_found (is_open longer thread) (is_open journal thread) t.lines (λ m.
-      ap (λ (o : Option ReplyValue). (m.thread == thread) && not (is_some o)) (answered_before journal e m.thread m.number (still_waits e m.thread m.number h)))
-
-  waits_by : (b : Bool) → is_waiting e.reply.outcome ≡ b → (x : Entry) (m : Line) → begun_wait longer e.thread ≡ Some x → next_line t.lines longer e.thread ≡ Some m → x.mark ≡ m.number
-  waits_by false h x m p q =
-      let n : begun_wait longer e.thread ≡ None = ap where_waiting (last_is journal e e.thread refl) ∙ ap (λ (y : Bool). if y then Some e else None) h in
-      absurd (let f : None ≡ Some x = sym n ∙ p in cc)
-  waits_by true h x m p q =
-      let b : begun_wait longer e.thread ≡ Some e = ap where_waiting (last_is journal e e.thread refl) ∙ ap (λ (y : Bool). if y then Some e else None) h in
-      let same : Some e ≡ Some x = sym b ∙ p in
-      let same_entry : e ≡ x = cc in
-      let here : next_line t.lines longer e.thread ≡ Some l = unmoved h e.thread ∙ r.next in
-      let both : Some l ≡ Some m = sym here ∙ q in
-      let same_line : l ≡ m = cc in
-      sym (ap (λ (y : Entry). y.mark) same_entry) ∙ r.mark ∙ ap (λ (y : Line). y.number) same_line
-
 sum_le : (f g : Line → ℕ) → ((x : Line) → f x ≤ g x) → (xs : List Line) → sum_by f xs ≤ sum_by g xs
 sum_le f g le [] = omega arith
 sum_le f g le (y ∷ ys) = omega (arith, le y, sum_le f g le ys, sum_by-cons f y ys, sum_by-cons g y ys)
@@ -183,7 +184,7 @@ waits_other t journal e w thread ne x m p q =
 waits_now : (t : TraceValue) (journal : List Entry) (e : Entry) → WaitsAtNext t journal → (r : (l : Line) × Turn t journal e l) → (thread : ℕ) (b : Bool) → (e.thread == thread) ≡ b → (x : Entry) (m : Line) → begun_wait (journal ++ e ∷ []) thread ≡ Some x → next_line t.lines (journal ++ e ∷ []) thread ≡ Some m → x.mark ≡ m.number
 waits_now t journal e w r thread true h x m =
     let P : ℕ → Type 0 = λ u. begun_wait (journal ++ e ∷ []) u ≡ Some x → next_line t.lines (journal ++ e ∷ []) u ≡ Some m → x.mark ≡ m.number in
-    subst P (eqb-true e.thread thread h) (waits_by t journal e r.0 r.1 w (is_waiting e.reply.outcome) refl x m)
+    subst P (eqb-true e.thread thread h) (waits_by t journal e r.0 r.1 (is_waiting e.reply.outcome) refl x m)
 waits_now t journal e w r thread false h x m = waits_other t journal e w thread (grind (arith, nat_tests, h)) x m
 
 pub waits_more : (t : TraceValue) (journal : List Entry) (e : Entry) → next_entry t journal ≡ Some e → WaitsAtNext t journal → WaitsAtNext t (journal ++ e ∷ [])

@@ -3,8 +3,9 @@ use Rattle.std.proofs.Common.{◌≡◌, ◌≢◌, ℕ, zero, suc, ◌+◌, ◌
 use Rattle.std.proofs.lemmas.Bool.{eqb-true, eq-eqb}
 use Rattle.std.proofs.lemmas.Bool.Decides.{nat_tests}
 use Rattle.std.proofs.lemmas.List.{append-nil}
+use Rattle.std.proofs.lemmas.List.Elements.{All-head, All-tail, All-push}
 use Rattle.std.proofs.lemmas.List.Sums.{sum_by_push}
-use Rattle.std.specs.Prelude.{◌==◌, pos, if◌then◌else◌, is_some, slice_get, find, filter, count_by}
+use Rattle.std.specs.Prelude.{◌==◌, pos, if◌then◌else◌, is_some, slice_get, find, filter, count_by, All}
 use Rattle.std.specs.Option.{option_map_or}
 use Rattle.egl_names.specs.declared.codes.TheConstants.{EGL_CONDITION_SATISFIED}
 use Rattle.egl_calls.specs.Calls.{CallValue, ReplyValue}
@@ -16,15 +17,14 @@ use Rattle.trace_reader.specs.declared.traces.Line.{Line}
 use Rattle.trace_reader.specs.Traces.{TraceValue}
 use Rattle.trace_reader.specs.Order.{IsTrace, variables_of}
 use Rattle.trace_model.specs.Resolve.{is_waiting, answers, resolved}
-use Rattle.trace_model.specs.Turns.{is_answered, next_line, begun_wait, bare_wait_end, is_free}
-use Rattle.trace_model.specs.TurnsLeft.{WaitsAtNext}
-use Rattle.trace_model.specs.Serial.{state_behind, next_entry, serial}
-use Rattle.trace_model.specs.Follows.{lines_of, is_answer_of, line_due, PlaysLine, EndsWait, GoesOn, FollowsFrom, Follows}
+use Rattle.trace_model.specs.Turns.{is_answered, next_line, last_entry, where_waiting, begun_wait, bare_wait_end, is_free}
+use Rattle.trace_model.specs.Serial.{state_behind, serial}
+use Rattle.trace_model.specs.Follows.{lines_of, is_answer_of, line_due, PlaysLine, EndsWait, GoesOn, IsNextOf, FollowsAs, PassesTo, PlaysAs, FollowsFrom, Follows}
 use Rattle.trace_model.proofs.FoundLaws.{IsFoundAt}
-use Rattle.trace_model.proofs.EntryLaws.{answered_by, answered_before, other_mark, other_thread, still_waits, answers_own}
+use Rattle.trace_model.proofs.EntryLaws.{answered_by, answered_before, other_mark, other_thread, still_waits, answers_own, last_stays}
 use Rattle.trace_model.proofs.SerialLaws.{serial_keeps}
-use Rattle.trace_model.proofs.TurnLaws.{Turn, turn_of}
-use Rattle.trace_model.proofs.EndLaws.{waits_more, waits_none}
+use Rattle.trace_model.proofs.TurnLaws.{Turn, turn_at, goes_of}
+use Rattle.trace_model.proofs.EndLaws.{next_stays, waits_by}
 use Rattle.trace_model.proofs.RisingLaws.{rise}
 
 -- ---- Filtered lists.
@@ -79,10 +79,6 @@ found_kept p q [] = refl
 found_kept p q (x ∷ xs) = found_by p q x xs (p x) (found_kept p q xs)
 
 -- ---- Lists of which the first pass, so many.
-pub record PassesTo {A : Type 0} (p : A → Bool) (xs : List A) (n : ℕ) : Type 0 where
-  pub before : (k : ℕ) (x : A) → slice_get xs k ≡ Some x → k < n → p x ≡ true
-  pub behind : (k : ℕ) (x : A) → slice_get xs k ≡ Some x → n ≤ k → p x ≡ false
-
 passes_tail : {A : Type 0} (p : A → Bool) (x : A) (xs : List A) (n : ℕ) → PassesTo p (x ∷ xs) (suc n) → PassesTo p xs n
 passes_tail p x xs n d = record {
   before = λ k y g lt. d.before (suc k) y g (omega (arith, lt));
@@ -114,18 +110,15 @@ passes_more {A} p q xs m n e same here d = record {
     by_test k x g lt false h = let ne : k ≢ n = grind (arith, nat_tests, h) in same k x g ne ∙ d.before k x g (omega (arith, lt, e, ne))
 
 -- ---- The line that is next is the one that is due.
--- of each thread, the lines that have an answer are the first, as many as its entries that answer
-pub record HasAnswers (t : TraceValue) (journal : List Entry) : Type 0 where
-  pub each : (thread : ℕ) → PassesTo (is_answered journal) (lines_of t.lines thread) (count_by (is_answer_of thread) journal)
+-- those of a thread's lines that have an answer are the first, as many as its entries that answer
+abbrev pub Answered : TraceValue → List Entry → ℕ → Type 0
+Answered t journal thread = PassesTo (is_answered journal) (lines_of t.lines thread) (count_by (is_answer_of thread) journal)
 
-next_is_due : (t : TraceValue) (journal : List Entry) → HasAnswers t journal → (thread : ℕ) → next_line t.lines journal thread ≡ line_due t.lines journal thread
+next_is_due : (t : TraceValue) (journal : List Entry) (thread : ℕ) → Answered t journal thread → next_line t.lines journal thread ≡ line_due t.lines journal thread
 unfolding next_line
-next_is_due t journal a thread =
+next_is_due t journal thread a =
     found_kept (λ (l : Line). l.thread == thread) (λ (l : Line). not (is_answered journal l)) t.lines
-    ∙ first_behind (is_answered journal) (lines_of t.lines thread) (count_by (is_answer_of thread) journal) (a.each thread)
-
-answers_none : (t : TraceValue) → HasAnswers t []
-answers_none t = record { each = λ thread. record { before = λ k l g lt. absurd (omega (arith, lt)); behind = λ k l g le. refl } }
+    ∙ first_behind (is_answered journal) (lines_of t.lines thread) (count_by (is_answer_of thread) journal) a
 
 -- ---- One more entry.
 same_count : (journal : List Entry) (e : Entry) (thread : ℕ) → is_answer_of thread e ≡ false → count_by (is_answer_of thread) (journal ++ e ∷ []) ≡ count_by (is_answer_of thread) journal
@@ -145,27 +138,27 @@ and_false : (a : Bool) → (a && false) ≡ false
 and_false true = refl
 and_false false = refl
 
-module _ (t : TraceValue) (journal : List Entry) (e : Entry) (a : HasAnswers t journal) where
+module _ (t : TraceValue) (journal : List Entry) (e : Entry) (thread : ℕ) (a : Answered t journal thread) where
   abbrev pub longer : List Entry
   longer = journal ++ e ∷ []
 
-  of_thread : (thread k : ℕ) (m : Line) → slice_get (lines_of t.lines thread) k ≡ Some m → m.thread ≡ thread
-  of_thread thread k m g = let i = kept_at (λ (x : Line). x.thread == thread) t.lines k m g in eqb-true m.thread thread i.passes
+  of_thread : (k : ℕ) (m : Line) → slice_get (lines_of t.lines thread) k ≡ Some m → m.thread ≡ thread
+  of_thread k m g = let i = kept_at (λ (x : Line). x.thread == thread) t.lines k m g in eqb-true m.thread thread i.passes
 
   -- the lines of another thread
-  answers_elsewhere : (thread : ℕ) → e.thread ≢ thread → PassesTo (is_answered longer) (lines_of t.lines thread) (count_by (is_answer_of thread) longer)
-  answers_elsewhere thread ne =
+  answers_elsewhere : e.thread ≢ thread → Answered t longer thread
+  answers_elsewhere ne =
       let f : (e.thread == thread) ≡ false = grind (arith, nat_tests, ne) in
       let none : is_answer_of thread e ≡ false = ap (λ (b : Bool). b && not (is_waiting e.reply.outcome)) f in
       passes_same (is_answered journal) (is_answered longer) (lines_of t.lines thread) (count_by (is_answer_of thread) longer) (count_by (is_answer_of thread) journal) (same_count journal e thread none)
-      (λ k m g. same_answer journal e m (other_thread e m.thread m.number (λ q. ne (q ∙ of_thread thread k m g)))) (a.each thread)
+      (λ k m g. same_answer journal e m (other_thread e m.thread m.number (λ q. ne (q ∙ of_thread k m g)))) a
 
   -- a wait's begin answers nothing
-  answers_waiting : (thread : ℕ) → is_waiting e.reply.outcome ≡ true → PassesTo (is_answered longer) (lines_of t.lines thread) (count_by (is_answer_of thread) longer)
-  answers_waiting thread h =
+  answers_waiting : is_waiting e.reply.outcome ≡ true → Answered t longer thread
+  answers_waiting h =
       let none : is_answer_of thread e ≡ false = ap (λ (b : Bool). (e.thread == thread) && not b) h ∙ and_false (e.thread == thread) in
       passes_same (is_answered journal) (is_answered longer) (lines_of t.lines thread) (count_by (is_answer_of thread) longer) (count_by (is_answer_of thread) journal) (same_count journal e thread none)
-      (λ k m g. same_answer journal e m (still_waits e m.thread m.number h)) (a.each thread)
+      (λ k m g. same_answer journal e m (still_waits e m.thread m.number h)) a
 
 not_same : (i j m n : ℕ) → (i < j → m < n) → (j < i → n < m) → j ≢ i → m ≢ n
 not_same i j m n up down ne = grind arith
@@ -180,9 +173,9 @@ other_number t is thread i j l m g h ne =
     not_same i j l.number m.number up down ne
 
 -- ---- One turn more.
-module _ (t : TraceValue) (is : IsTrace t) (journal : List Entry) (e : Entry) (l : Line) (r : Turn t journal e l) (a : HasAnswers t journal) where
+module _ (t : TraceValue) (is : IsTrace t) (journal : List Entry) (e : Entry) (l : Line) (r : Turn t journal e l) (a : Answered t journal e.thread) where
   pub due : line_due t.lines journal e.thread ≡ Some l
-  due = sym (next_is_due t journal a e.thread) ∙ r.next
+  due = sym (next_is_due t journal e.thread a) ∙ r.next
 
   answered_now : is_waiting e.reply.outcome ≡ false → (m : Line) → slice_get (lines_of t.lines e.thread) (count_by (is_answer_of e.thread) journal) ≡ Some m → is_answered (journal ++ e ∷ []) m ≡ true
   answered_now h m g =
@@ -195,24 +188,18 @@ module _ (t : TraceValue) (is : IsTrace t) (journal : List Entry) (e : Entry) (l
   other_answer k m g ne =
       same_answer journal e m (other_mark e m.thread m.number (λ q. other_number t is e.thread (count_by (is_answer_of e.thread) journal) k l m due g ne (sym r.mark ∙ q)))
 
-  answers_answering : is_waiting e.reply.outcome ≡ false → PassesTo (is_answered (journal ++ e ∷ [])) (lines_of t.lines e.thread) (count_by (is_answer_of e.thread) (journal ++ e ∷ []))
+  answers_answering : is_waiting e.reply.outcome ≡ false → Answered t (journal ++ e ∷ []) e.thread
   answers_answering h =
       let one : is_answer_of e.thread e ≡ true = ap (λ (b : Bool). b && not (is_waiting e.reply.outcome)) (eq-eqb e.thread e.thread refl) ∙ ap (λ (b : Bool). not b) h in
       passes_more (is_answered journal) (is_answered (journal ++ e ∷ [])) (lines_of t.lines e.thread) (count_by (is_answer_of e.thread) (journal ++ e ∷ [])) (count_by (is_answer_of e.thread) journal) (more_count journal e e.thread one)
-      other_answer (answered_now h) (a.each e.thread)
+      other_answer (answered_now h) a
 
-  answers_by : (waits : Bool) → is_waiting e.reply.outcome ≡ waits → PassesTo (is_answered (journal ++ e ∷ [])) (lines_of t.lines e.thread) (count_by (is_answer_of e.thread) (journal ++ e ∷ []))
-  answers_by true h = answers_waiting t journal e a e.thread h
+  answers_by : (waits : Bool) → is_waiting e.reply.outcome ≡ waits → Answered t (journal ++ e ∷ []) e.thread
+  answers_by true h = answers_waiting t journal e e.thread a h
   answers_by false h = answers_answering h
 
-  answers_each : (thread : ℕ) (own : Bool) → (e.thread == thread) ≡ own → PassesTo (is_answered (journal ++ e ∷ [])) (lines_of t.lines thread) (count_by (is_answer_of thread) (journal ++ e ∷ []))
-  answers_each thread true h =
-      let P : ℕ → Type 0 = λ u. PassesTo (is_answered (journal ++ e ∷ [])) (lines_of t.lines u) (count_by (is_answer_of u) (journal ++ e ∷ [])) in
-      subst P (eqb-true e.thread thread h) (answers_by (is_waiting e.reply.outcome) refl)
-  answers_each thread false h = answers_elsewhere t journal e a thread (grind (arith, nat_tests, h))
-
-  pub answers_more : HasAnswers t (journal ++ e ∷ [])
-  answers_more = record { each = λ thread. answers_each thread (e.thread == thread) refl }
+  pub answers_more : Answered t (journal ++ e ∷ []) e.thread
+  answers_more = answers_by (is_waiting e.reply.outcome) refl
 
 -- ---- A turn goes on.
 -- a wait that can end answers that its condition is satisfied
@@ -224,14 +211,14 @@ satisfied : (s : State) (thread : ℕ) → is_ready s thread ≡ true → (step 
 unfolding step
 satisfied s thread h = satisfied_in s thread (record_of s thread).wait h
 
-module _ (t : TraceValue) (journal : List Entry) (e : Entry) (l : Line) (r : Turn t journal e l) (w : WaitsAtNext t journal) (due : line_due t.lines journal e.thread ≡ Some l) where
+module _ (t : TraceValue) (journal : List Entry) (e : Entry) (l : Line) (r : Turn t journal e l) (p : PlaysAs t e.thread journal) (due : line_due t.lines journal e.thread ≡ Some l) where
   -- by the end of the wait that the thread began, or else by its next line
   ends : (begin : Entry) → begun_wait journal e.thread ≡ Some begin → EndsWait begin e
   ends begin h =
       let call : e.call ≡ bare_wait_end = r.call ∙ ap (λ (o : Option Entry). if is_some o then bare_wait_end else resolved t.lines journal l) h in
       let ready : is_ready (state_behind t journal) e.thread ≡ true = sym (ap (λ (o : Option Entry). if is_some o then is_ready (state_behind t journal) e.thread else is_free t.lines journal l) h) ∙ r.goes in
       record {
-        mark = r.mark ∙ sym (w.mark e.thread begin l h r.next);
+        mark = r.mark ∙ sym (p.waits begin l h r.next);
         call = call;
         value =
             ap (λ (x : ReplyValue). x.value) r.reply
@@ -251,28 +238,68 @@ module _ (t : TraceValue) (journal : List Entry) (e : Entry) (l : Line) (r : Tur
   goes_by None h = (l, plays h)
   goes_by (Some begin) h = ends begin h
 
--- ---- All turns.
-FollowsFrom-append : (t : TraceValue) (journal es all : List Entry) (e : Entry) → journal ++ es ≡ all → FollowsFrom t journal es → e.thread < t.threads → GoesOn t.lines all e (begun_wait all e.thread) → FollowsFrom t journal (es ++ e ∷ [])
-FollowsFrom-append t journal [] all e h f below goes =
-    let P : List Entry → Type 0 = λ js. GoesOn t.lines js e (begun_wait js e.thread) in
-    (below, subst P (sym h ∙ append-nil journal) goes, tt)
-FollowsFrom-append t journal (x ∷ xs) all e h f below goes = (f.0, f.1, FollowsFrom-append t (journal ++ x ∷ []) xs all e (append_assoc journal (x ∷ []) xs ∙ h) f.2 below goes)
+-- ---- A thread goes on.
+FollowsAs-append : (t : TraceValue) (thread : ℕ) (journal es all : List Entry) (e : Entry) → journal ++ es ≡ all → FollowsAs t thread journal es → (e.thread ≡ thread → GoesOn t.lines all e (begun_wait all thread)) → FollowsAs t thread journal (es ++ e ∷ [])
+FollowsAs-append t thread journal [] all e h f goes =
+    let P : List Entry → Type 0 = λ js. e.thread ≡ thread → GoesOn t.lines js e (begun_wait js thread) in
+    (subst P (sym h ∙ append-nil journal) goes, tt)
+FollowsAs-append t thread journal (x ∷ xs) all e h f goes = (f.0, FollowsAs-append t thread (journal ++ x ∷ []) xs all e (append_assoc journal (x ∷ []) xs ∙ h) f.1 goes)
 
--- what is known behind each turn
-record Plays (t : TraceValue) (journal : List Entry) : Type 0 where
-  follows : Follows t journal
-  answers : HasAnswers t journal
-  waits : WaitsAtNext t journal
-
-plays_turn : (t : TraceValue) → IsTrace t → (journal : List Entry) (e : Entry) → next_entry t journal ≡ Some e → Plays t journal → (r : (l : Line) × Turn t journal e l) → Plays t (journal ++ e ∷ [])
-plays_turn t is journal e h p r = record {
-  follows = FollowsFrom-append t [] journal journal e refl p.follows r.1.below (goes_by t journal e r.0 r.1 p.waits (due t is journal e r.0 r.1 p.answers) (begun_wait journal e.thread) refl);
-  answers = answers_more t is journal e r.0 r.1 p.answers;
-  waits = waits_more t journal e h p.waits;
+pub plays_none : (t : TraceValue) (thread : ℕ) → PlaysAs t thread []
+unfolding last_entry
+plays_none t thread = record {
+  follows = tt;
+  answers = record { before = λ k l g lt. absurd (omega (arith, lt)); behind = λ k l g le. refl };
+  waits = λ b l h n. absurd (let f : None ≡ Some b = h in cc);
 }
 
-plays_none : (t : TraceValue) → Plays t []
-plays_none t = record { follows = tt; answers = answers_none t; waits = waits_none t }
+-- behind an entry of another thread
+pub plays_others : (t : TraceValue) (thread : ℕ) (journal : List Entry) (e : Entry) → e.thread ≢ thread → PlaysAs t thread journal → PlaysAs t thread (journal ++ e ∷ [])
+plays_others t thread journal e ne p = record {
+  follows = FollowsAs-append t thread [] journal journal e refl p.follows (λ same. absurd (ne same));
+  answers = answers_elsewhere t journal e thread p.answers ne;
+  waits = λ b l h n. p.waits b l (sym (ap where_waiting (last_stays journal e thread ne)) ∙ h) (sym (next_stays t journal e thread ne) ∙ n);
+}
+
+plays_at : (t : TraceValue) → IsTrace t → (journal : List Entry) (e : Entry) → PlaysAs t e.thread journal → (r : (l : Line) × Turn t journal e l) → PlaysAs t e.thread (journal ++ e ∷ [])
+plays_at t is journal e p r = record {
+  follows = FollowsAs-append t e.thread [] journal journal e refl p.follows (λ same. goes_by t journal e r.0 r.1 p (due t is journal e r.0 r.1 p.answers) (begun_wait journal e.thread) refl);
+  answers = answers_more t is journal e r.0 r.1 p.answers;
+  waits = waits_by t journal e r.0 r.1 (is_waiting e.reply.outcome) refl;
+}
+
+-- behind its own next entry
+pub plays_turn : (t : TraceValue) → IsTrace t → (journal : List Entry) (e : Entry) → IsNextOf t journal e → PlaysAs t e.thread journal → PlaysAs t e.thread (journal ++ e ∷ [])
+plays_turn t is journal e i p = plays_at t is journal e p (turn_at t journal e i)
+
+-- ---- All threads.
+follows_from : (t : TraceValue) (journal es : List Entry) → ((thread : ℕ) → thread < t.threads → FollowsAs t thread journal es) → All (λ e. e.thread < t.threads) es → FollowsFrom t journal es
+follows_from t journal [] f a = tt
+follows_from t journal (e ∷ es) f a =
+    let below : e.thread < t.threads = All-head (λ (x : Entry). x.thread < t.threads) e es a in
+    (below, (f e.thread below).0 refl, follows_from t (journal ++ e ∷ []) es (λ thread lt. (f thread lt).1) (All-tail (λ (x : Entry). x.thread < t.threads) e es a))
+
+pub all_follow : (t : TraceValue) (journal : List Entry) → ((thread : ℕ) → thread < t.threads → PlaysAs t thread journal) → All (λ e. e.thread < t.threads) journal → Follows t journal
+all_follow t journal p a = follows_from t [] journal (λ thread lt. (p thread lt).follows) a
+
+-- what is known behind each turn of a serial run
+record Plays (t : TraceValue) (journal : List Entry) : Type 0 where
+  each : (thread : ℕ) → PlaysAs t thread journal
+  below : All (λ e. e.thread < t.threads) journal
+
+plays_more : (t : TraceValue) → IsTrace t → (journal : List Entry) (e : Entry) → IsNextOf t journal e → Plays t journal → Plays t (journal ++ e ∷ [])
+plays_more t is journal e i p = record {
+  each = λ thread. by_thread thread (e.thread == thread) refl;
+  below = All-push (λ (x : Entry). x.thread < t.threads) journal e p.below i.below;
+}
+  where
+    by_thread : (thread : ℕ) (own : Bool) → (e.thread == thread) ≡ own → PlaysAs t thread (journal ++ e ∷ [])
+    by_thread thread true h =
+        let P : ℕ → Type 0 = λ u. PlaysAs t u (journal ++ e ∷ []) in
+        subst P (eqb-true e.thread thread h) (plays_turn t is journal e i (p.each e.thread))
+    by_thread thread false h = plays_others t thread journal e (grind (arith, nat_tests, h)) (p.each thread)
 
 pub follows_serial : (t : TraceValue) → IsTrace t → Follows t (serial t)
-follows_serial t is = (serial_keeps t (Plays t) (λ journal e h p. plays_turn t is journal e h p (turn_of t journal e h)) (plays_none t)).follows
+follows_serial t is =
+    let p : Plays t (serial t) = serial_keeps t (Plays t) (λ journal e h p. plays_more t is journal e (goes_of t journal e h) p) (record { each = plays_none t; below = λ k d lt. absurd (omega (arith, lt)) }) in
+    all_follow t (serial t) (λ thread lt. p.each thread) p.below

@@ -1,11 +1,12 @@
 -- A journal that plays a trace.
-use Rattle.std.specs.Prelude.{◌≡◌, ℕ, ◌<◌, Bool, true, not, ◌&&◌, ◌==◌, pos, List, [], ◌∷◌, ◌++◌, filter, count_by, slice_get, Option, None, Some}
+use Rattle.std.specs.Prelude.{◌≡◌, ℕ, ◌<◌, ◌≤◌, Bool, true, false, not, ◌&&◌, ◌==◌, pos, List, [], ◌∷◌, ◌++◌, filter, count_by, slice_get, Option, None, Some}
 use Rattle.egl_names.specs.declared.codes.TheConstants.{EGL_CONDITION_SATISFIED}
 use Rattle.egl_calls.specs.declared.entries.Entry.{Entry}
 use Rattle.trace_reader.specs.declared.traces.Line.{Line}
 use Rattle.trace_reader.specs.Traces.{TraceValue}
 use Rattle.trace_model.specs.Resolve.{is_waiting, resolved}
-use Rattle.trace_model.specs.Turns.{begun_wait, bare_wait_end, is_free}
+use Rattle.trace_model.specs.Turns.{is_answered, next_line, begun_wait, bare_wait_end, is_free, goes_on}
+use Rattle.trace_model.specs.Serial.{state_behind, next_call, entry_of}
 
 abbrev pub lines_of : List Line → ℕ → List Line
 lines_of lines thread = filter (λ l. l.thread == thread) lines
@@ -36,6 +37,32 @@ abbrev pub GoesOn : List Line → List Entry → Entry → Option Entry → Type
 GoesOn lines journal e None = (l : Line) × PlaysLine lines journal e l
 GoesOn lines journal e (Some begin) = EndsWait begin e
 
+-- ---- One thread.
+-- an entry is the next of its thread, which goes on: the call of its next line, or the end of the wait that it began by it
+pub record IsNextOf (t : TraceValue) (journal : List Entry) (e : Entry) : Type 0 where
+  pub line : Line
+  pub next : next_line t.lines journal e.thread ≡ Some line
+  pub goes : goes_on t.lines journal (state_behind t journal) e.thread line ≡ true
+  pub is : e ≡ entry_of (state_behind t journal) e.thread line (next_call t.lines journal e.thread line)
+  pub below : e.thread < t.threads
+
+-- behind a journal, those of these entries that are the thread's go on for it, each behind all before it
+abbrev pub FollowsAs : TraceValue → ℕ → List Entry → List Entry → Type 0
+FollowsAs t thread journal [] = Unit {0}
+FollowsAs t thread journal (e ∷ es) = (e.thread ≡ thread → GoesOn t.lines journal e (begun_wait journal thread)) × FollowsAs t thread (journal ++ e ∷ []) es
+
+-- the first n pass a test, and no others
+pub record PassesTo {A : Type 0} (p : A → Bool) (xs : List A) (n : ℕ) : Type 0 where
+  pub before : (k : ℕ) (x : A) → slice_get xs k ≡ Some x → k < n → p x ≡ true
+  pub behind : (k : ℕ) (x : A) → slice_get xs k ≡ Some x → n ≤ k → p x ≡ false
+
+-- a thread plays its lines in a journal, whatever others do: its entries follow them; those of its lines that have an answer are the first, as many as it has entries that answer; and where it waits, it does so at its next line
+pub record PlaysAs (t : TraceValue) (thread : ℕ) (journal : List Entry) : Type 0 where
+  pub follows : FollowsAs t thread [] journal
+  pub answers : PassesTo (is_answered journal) (lines_of t.lines thread) (count_by (is_answer_of thread) journal)
+  pub waits : (b : Entry) (l : Line) → begun_wait journal thread ≡ Some b → next_line t.lines journal thread ≡ Some l → b.mark ≡ l.number
+
+-- ---- All threads.
 -- behind a journal, these entries go on for the trace's threads, each behind those before it
 abbrev pub FollowsFrom : TraceValue → List Entry → List Entry → Type 0
 FollowsFrom t journal [] = Unit {0}
