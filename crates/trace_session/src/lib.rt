@@ -2,6 +2,7 @@
 #![tactic(auto)]
 
 mod answers;
+mod chains;
 mod places;
 mod posts;
 mod runs;

@@ -1,8 +1,9 @@
 //! The places of lines: which line an entry answers, and which comes next.
-ghost use Rattle.std.specs.Prelude.{◌≡◌, ℕ, ◌+◌, ◌<◌, ◌≤◌, false, length, slice_index_or, All, IfOk, IfSome};
+ghost use Rattle.std.specs.Prelude.{◌≡◌, ℕ, ◌<◌, ◌≤◌, false, length, slice_index_or, All, IfOk, IfSome};
 ghost use Rattle.std.specs.Option.{ForSome};
 ghost use Rattle.trace_model.specs.Resolve.{is_waiting, answers};
 ghost use Rattle.trace_session.specs.Learning.{Answers, IsFirstOpen, flagged, begun_by, assigned_at, Advances};
+ghost use Rattle.trace_session.specs.Chains.{AreOwn, AreSuccessors, IsOwn};
 ghost use Rattle.trace_session.specs.Rising.{IsRising, IsPlaceOf};
 
 use egl_calls::{Entry, NoMemory, Outcome};
@@ -77,18 +78,16 @@ pub fn flag(answered: &mut Vec<bool>, place: Option<usize>)
     }
 }
 
-/// The place of a thread's first line without an answer, from a place on.
-pub fn first_open(lines: &[Line], answered: &[bool], thread: u32, from: usize) -> usize
+/// The place of a thread's first line without an answer, from a line of the thread on.
+fn first_open(lines: &[Line], answered: &[bool], successors: &[usize], from: usize) -> usize
     requires lines { length answered.now ≡ length lines.now }
+    requires successors { AreSuccessors lines.now successors.now }
     requires from { from ≤ length lines.now }
-    ensures { IsFirstOpen lines.now answered.now thread from result }
+    ensures { (thread : ℕ) → IsOwn lines.now thread from → IsFirstOpen lines.now answered.now thread from result }
 {
     let mut place = from;
-    'each: while place < lines.len() {
-        if lines[place].thread == thread && !answered[place] {
-            return place;
-        }
-        place += 1;
+    'each: while place < lines.len() && answered[place] {
+        place = successors[place];
     }
     place
 }
@@ -103,16 +102,25 @@ pub fn note_wait(begun: &mut Vec<bool>, entry: &Entry)
 }
 
 /// Moves a thread on to its next line.
-pub fn advance(places: &mut Vec<usize>, lines: &[Line], answered: &[bool], thread: u32)
+pub fn advance(
+    places: &mut Vec<usize>,
+    lines: &[Line],
+    answered: &[bool],
+    successors: &[usize],
+    thread: u32,
+)
     requires lines { length answered.now ≡ length lines.now }
+    requires successors { AreSuccessors lines.now successors.now }
     requires within { All (λ p. p ≤ length lines.now) places.old.items }
+    requires own { AreOwn lines.now places.old.items }
     ensures advances { Advances lines.now answered.now thread places.old.items places.new.items }
     ensures long { length places.new.items ≡ length places.old.items }
     ensures within { All (λ p. p ≤ length lines.now) places.new.items }
+    ensures own { AreOwn lines.now places.new.items }
 {
     let thread_place = thread as usize;
     if thread_place < places.len() {
-        places[thread_place] = first_open(lines, answered, thread, places[thread_place]);
+        places[thread_place] = first_open(lines, answered, successors, places[thread_place]);
     }
 }
 
@@ -121,34 +129,8 @@ pub fn none_set(alloc: Global, count: usize) -> Result<Vec<bool>, NoMemory>
     ensures long { IfOk result (λ v. length v.items ≡ count) }
     ensures none { IfOk result (λ v. (k : ℕ) → slice_index_or v.items k false ≡ false) }
 {
-    let mut flags = Vec::new(alloc);
-    'each: for _place in 0..count {
-        if flags.push(false).is_err() {
-            return Err(NoMemory);
-        }
+    match vec![in alloc; false; count] {
+        Ok(flags) => Ok(flags),
+        Err(_) => Err(NoMemory),
     }
-    Ok(flags)
-}
-
-/// The place of each thread's first line.
-pub fn first_places(
-    alloc: Global,
-    lines: &[Line],
-    answered: &[bool],
-    threads: usize,
-) -> Result<Vec<usize>, NoMemory>
-    requires lines { length answered.now ≡ length lines.now }
-    requires threads { threads ≤ 16 }
-    ensures long { IfOk result (λ v. length v.items ≡ threads) }
-    ensures first { IfOk result (λ v. (k : ℕ) → k < threads → IsFirstOpen lines.now answered.now k 0 (slice_index_or v.items k 0)) }
-    ensures within { IfOk result (λ v. All (λ p. p ≤ length lines.now) v.items) }
-{
-    let mut places = Vec::new(alloc);
-    'each: for thread in 0..threads {
-        let place = first_open(lines, answered, thread as u32, 0);
-        if places.push(place).is_err() {
-            return Err(NoMemory);
-        }
-    }
-    Ok(places)
 }

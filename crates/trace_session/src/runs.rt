@@ -36,6 +36,7 @@ fn driver_of(alloc: Global, trace: &Trace) -> Result<Driver, NoMemory>
 {
     let mut driver = Driver::new(alloc, trace.windows(), trace.video())?;
     let threads = trace.threads();
+    // That no trace has more threads than a driver stands on `lines`.
     trace.lines();
     'each: for _thread in 1..threads {
         driver.add_thread()?;

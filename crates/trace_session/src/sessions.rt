@@ -1,11 +1,11 @@
 //! What each thread of a trace has next, by the entries that were learnt.
-ghost use Rattle.std.specs.Prelude.{◌≡◌, ◌<◌, ◌≤◌, ◌∷◌, ◌++◌, [], Some, List, All, length, find, slice_get, option_copied, IsSome, IfSome, IfOk, OnOk, OnErr};
+ghost use Rattle.std.specs.Prelude.{◌≡◌, ◌<◌, ◌≤◌, ◌∷◌, ◌++◌, [], Some, true, false, List, All, length, find, slice_get, slice_index_or, option_copied, IsSome, IsOk, IfSome, IfOk, OnOk, OnErr};
 ghost use Rattle.std.specs.List.{range_with_len};
 ghost use Rattle.std.specs.Option.{option_map};
 ghost use Rattle.egl_calls.specs.declared.entries.Entry.{Entry as AnEntry};
 ghost use Rattle.egl_model.specs.Arguments.{number};
 ghost use Rattle.trace_reader.specs.declared.traces.Line.{Line as ALine};
-ghost use Rattle.trace_model.specs.Turns.{next_line, is_blocked, is_at_end, is_able, bare_wait_end};
+ghost use Rattle.trace_model.specs.Turns.{next_line, has_begun, is_blocked, is_at_end, is_able, bare_wait_end};
 ghost use Rattle.trace_model.specs.Serial.{next_call};
 ghost use Rattle.trace_model.specs.Stalled.{is_at_rest, is_complete, is_stalled};
 ghost use Rattle.trace_session.specs.Sessions.{Knows, variables_of, line_at, answer_in, is_among};
@@ -14,9 +14,8 @@ ghost use Rattle.trace_session.specs.Facts.{HasFacts};
 ghost use Rattle.trace_session.specs.Answers.{call_at, goes_on_at, held_at};
 
 use crate::answers::{answer_of, keep, no_answers, resolved, variables_of};
-use crate::places::{
-    advance, answered_place, assigned_at, first_places, flag, none_set, note_wait,
-};
+use crate::chains::chains_of;
+use crate::places::{advance, answered_place, assigned_at, flag, none_set, note_wait};
 use crate::posts::{Posts, is_free, keep_post};
 use driver_core::Driver;
 use egl_calls::{Call, Entry, Kind, NoMemory, Numbers, OwnKind, Reply};
@@ -26,12 +25,13 @@ use trace_reader::{Line, Trace};
 
 /// A trace, and what the entries that were learnt say of it: which lines have answers, where each thread is and whether its wait has begun, what the variables stand for, and which numbers are posted.
 ///
-/// No call but `new` looks at all entries or variables. Over a whole session each thread passes each line once, on to its next.
+/// No call but `new` looks at all entries, lines or variables: a thread that was answered goes on to its next line in one step.
 #[derive(Drop)]
 pub struct Session<'a> {
     trace: &'a Trace,
     answered: Vec<bool>,
     places: Vec<usize>,
+    successors: Vec<usize>,
     begun: Vec<bool>,
     answers: Vec<Option<Reply>>,
     posts: Posts,
@@ -42,9 +42,9 @@ impl<'a> Model for Session<'a> {
 
     ghost Value = { SessionValue };
 
-    ghost view = { λ s. record { trace = s.trace.now; answered = s.answered.items; places = s.places.items; begun = s.begun.items; answers = s.answers.items; posted = s.posts } };
+    ghost view = { λ s. record { trace = s.trace.now; answered = s.answered.items; places = s.places.items; successors = s.successors.items; begun = s.begun.items; answers = s.answers.items; posted = s.posts } };
 
-    ghost invariant = { λ s. IsSized (record { trace = s.trace.now; answered = s.answered.items; places = s.places.items; begun = s.begun.items; answers = s.answers.items; posted = s.posts }) };
+    ghost invariant = { λ s. IsSized (record { trace = s.trace.now; answered = s.answered.items; places = s.places.items; successors = s.successors.items; begun = s.begun.items; answers = s.answers.items; posted = s.posts }) };
 }
 
 /// The end of a wait, which has nothing but its kind.
@@ -64,6 +64,7 @@ fn line_of<'a>(trace: &'a Trace, place: usize) -> Option<&'a Line>
     ensures line { option_copied result ≡ slice_get trace.now.lines place }
     ensures uses { IfSome result (λ l. All (IsUse (variables_of trace.now) (length l.now.call.list)) l.now.uses) }
 {
+    // What each trace's lines are like stands on `lines`.
     trace.lines();
     trace.line(place as u64)
 }
@@ -76,11 +77,12 @@ impl<'a> Session<'a> {
     {
         let lines = trace.lines();
         let threads = trace.threads() as usize;
-        let answered = none_set(alloc, lines.len())?;
+        let chains = chains_of(alloc, lines, threads)?;
         Ok(Session {
             trace,
-            places: first_places(alloc, lines, answered.as_slice(), threads)?,
-            answered,
+            answered: none_set(alloc, lines.len())?,
+            places: chains.firsts,
+            successors: chains.successors,
             begun: none_set(alloc, threads)?,
             answers: no_answers(alloc, variables_of(lines))?,
             posts: Posts::new(alloc),
@@ -107,7 +109,8 @@ impl<'a> Session<'a> {
     fn call_at(&self, alloc: Global, thread: u32) -> Result<Call, NoMemory>
         requires thread { thread < self.now.trace.threads }
         requires line { IsSome (line_at self.now thread) }
-        ensures { (l : ALine) → line_at self.now thread ≡ Some l → IfOk result (λ c. c ≡ call_at self.now thread l) }
+        ensures value { (l : ALine) → line_at self.now thread ≡ Some l → IfOk result (λ c. c ≡ call_at self.now thread l) }
+        ensures end { slice_index_or self.now.begun thread false ≡ true → IsOk result }
     {
         if self.begun[thread as usize] {
             return Ok(wait_end(alloc));
@@ -149,11 +152,12 @@ impl<'a> Session<'a> {
         self.number_at(thread)
     }
 
-    /// The next call of a thread: its next line resolved, or the end of the wait that it began by that line.
+    /// The next call of a thread: its next line resolved, or the end of the wait that it began by that line, which takes no memory.
     pub fn call(&self, alloc: Global, thread: u32) -> Result<Call, NoMemory>
         requires thread { thread < self.now.trace.threads }
         requires line { IsSome (line_at self.now thread) }
-        ensures { (journal : List AnEntry) (l : ALine) → Knows journal self.now → next_line self.now.trace.lines journal thread ≡ Some l → IfOk result (λ c. c ≡ next_call self.now.trace.lines journal thread l) }
+        ensures value { (journal : List AnEntry) (l : ALine) → Knows journal self.now → next_line self.now.trace.lines journal thread ≡ Some l → IfOk result (λ c. c ≡ next_call self.now.trace.lines journal thread l) }
+        ensures end { (journal : List AnEntry) → Knows journal self.now → has_begun journal thread ≡ true → IsOk result }
     {
         self.facts();
         self.call_at(alloc, thread)
@@ -185,6 +189,7 @@ impl<'a> Session<'a> {
             &mut self.places,
             lines,
             self.answered.as_slice(),
+            self.successors.as_slice(),
             entry.thread,
         );
         note_wait(&mut self.begun, entry);
