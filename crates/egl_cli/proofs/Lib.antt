@@ -1,4 +1,3 @@
-pub mod TextLaws
 pub mod ConfigLaws
 pub mod StalledLaws
 pub mod AnswerLaws

@@ -7,7 +7,7 @@ use Rattle.egl_model.specs.State.{State}
 use Rattle.trace_reader.specs.Traces.{TraceValue}
 use Rattle.trace_model.specs.Serial.{state_behind, serial}
 use Rattle.trace_model.specs.Stalled.{threads_of, is_at_rest, is_stalled, IsComplete, IsStalled}
-use Rattle.trace_model.specs.Recording.{recording_of, recording}
+use Rattle.trace_model.specs.Recording.{recording}
 use Rattle.trace_session.specs.Runs.{IsRun}
 use Rattle.egl_cli.specs.StalledLines.{stalled_lines}
 use Rattle.egl_cli.specs.declared.statuses.Status.TheVariants.{Ok as Fine, Stalled}
@@ -29,15 +29,15 @@ unfolding run_answer
 answer_by t b h = ap (journal_answer t (serial t)) h
 
 module _ (t : TraceValue) (entries : List Entry) (s : State) (r : IsRun t entries s) where
-  recorded : recording_of entries s ≡ recording t (serial t)
-  recorded = ap (recording_of entries) r.state ∙ ap (recording t) r.journal
+  recorded : recording t entries ≡ recording t (serial t)
+  recorded = ap (recording t) r.journal
 
-  pub run_ended : IsComplete t (serial t) → record { status = Fine; text = recording_of entries s } ≡ run_answer t
+  pub run_ended : IsComplete t (serial t) → record { status = Fine; text = recording t entries } ≡ run_answer t
   run_ended c =
       ap (λ (x : List ℕ). record { status = Fine; text = x }) recorded
       ∙ sym (answer_by t false (ended t (serial t) (state_behind t (serial t)) c))
 
-  pub run_stalled : IsStalled t (serial t) → record { status = Stalled; text = recording_of entries s ++ stalled_lines t entries } ≡ run_answer t
+  pub run_stalled : IsStalled t (serial t) → record { status = Stalled; text = recording t entries ++ stalled_lines t entries } ≡ run_answer t
   run_stalled h =
       ap (λ (x : List ℕ). record { status = Stalled; text = x ++ stalled_lines t entries }) recorded
       ∙ ap (λ (es : List Entry). record { status = Stalled; text = recording t (serial t) ++ stalled_lines t es }) r.journal

@@ -1,16 +1,17 @@
 //! What the program says to the bytes of its input.
 ghost use Rattle.std.specs.Prelude.{◌≡◌, ◌≤◌, ◌++◌, length, IfOk};
-ghost use Rattle.trace_model.specs.Recording.{recording_of};
+ghost use Rattle.trace_model.specs.Recording.{recording};
+ghost use Rattle.trace_model.specs.Serial.{state_behind};
 ghost use Rattle.egl_cli.specs.StalledLines.{stalled_lines};
 ghost use Rattle.egl_cli.specs.Answers.{reason_name, malformed_text, run_answer};
 
-use crate::recordings::recording;
 use crate::stalled_lines::put_stalled;
 use crate::statuses::Status;
 use arrayvec::ArrayString;
 use driver_core::Run;
 use egl_calls::{Bytes, NoMemory};
 use itoa::Buffer;
+use journal_text::write;
 use std::alloc::Global;
 use trace_reader::{Reason, Trace};
 use trace_session::{RunError, run_serial};
@@ -58,9 +59,10 @@ pub fn malformed_text(line: u64, reason: Reason) -> ArrayString<MALFORMED_ROOM>
 
 /// The recording of a run that stalled, and the lines at which its threads wait.
 fn stalled_text(alloc: Global, trace: &Trace, run: &Run) -> Result<Bytes, NoMemory>
-    ensures { IfOk result (λ b. b ≡ recording_of run.now.journal.entries run.now.driver.state ++ stalled_lines trace.now run.now.journal.entries) }
+    requires { run.now.driver.state ≡ state_behind trace.now run.now.journal.entries }
+    ensures { IfOk result (λ b. b ≡ recording trace.now run.now.journal.entries ++ stalled_lines trace.now run.now.journal.entries) }
 {
-    let mut text = recording(alloc, &run.journal, &run.driver)?;
+    let mut text = write(alloc, trace, run)?;
     put_stalled(alloc, &mut text, trace, &run.journal)?;
     Ok(text)
 }
@@ -72,7 +74,7 @@ pub fn run_answer(alloc: Global, trace: &Trace) -> Result<Answer, NoMemory>
     match run_serial(alloc, trace) {
         Ok(run) => Ok(Answer {
             status: Status::Ok,
-            text: recording(alloc, &run.journal, &run.driver)?,
+            text: write(alloc, trace, &run)?,
         }),
         Err(RunError::Stalled(run)) => Ok(Answer {
             status: Status::Stalled,

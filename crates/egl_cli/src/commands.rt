@@ -7,7 +7,7 @@ use egl_calls::Text;
 /// What the program can be told to do.
 #[derive(Clone, Copy, Debug, PartialEq, Eq, Drop)]
 pub enum Command {
-    /// Plays a trace of one thread.
+    /// Plays a trace by turns.
     Serial,
     /// Prints the configs.
     Configs,

@@ -3,13 +3,13 @@ ghost use Rattle.std.specs.Prelude.{◌≡◌, ◌++◌, codes, IfOk, OnOk};
 ghost use Rattle.std.specs.List.{flat_map};
 ghost use Rattle.egl_cli.specs.ConfigLines.{attribute_text, line_with_id, configs_text};
 
-use crate::texts::{put_number, put_text};
 use config_match::Configs;
 use egl_calls::{Bytes, NoMemory};
 use egl_names::codes::{
     EGL_ALPHA_SIZE, EGL_BLUE_SIZE, EGL_CONFIG_CAVEAT, EGL_CONFIG_ID, EGL_DEPTH_SIZE,
     EGL_GREEN_SIZE, EGL_RED_SIZE, EGL_STENCIL_SIZE, EGL_SURFACE_TYPE,
 };
+use journal_text::texts::{put_number, put_text};
 use std::alloc::Global;
 
 const IDS: [i64; 8] = [1, 2, 3, 4, 5, 6, 7, 8];

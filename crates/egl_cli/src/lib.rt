@@ -6,11 +6,9 @@ mod commands;
 mod config_lines;
 pub mod laws;
 mod process;
-mod recordings;
 mod respond;
 mod stalled_lines;
 mod statuses;
-mod texts;
 
 pub use process::run;
 pub use respond::plain;

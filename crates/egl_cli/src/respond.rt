@@ -47,6 +47,7 @@ fn tell_run<K: Sink>(alloc: Global, sink: &mut K, trace: &Trace) -> Status
     ensures trace { IsTrace trace.now }
     ensures wrote { WroteIfMade (K.taken sink.old) (run_answer trace.now).text (K.taken sink.new) (HasRisen (K.faults sink.old) (K.faults sink.new)) (run_answer trace.now).status result }
 {
+    // That a trace's lines are in order is what `lines` says of every trace, and the headline builds on it.
     trace.lines();
     match run_answer(alloc, trace) {
         Ok(answer) => finish(sink, answer.status, answer.text.as_slice()),

@@ -3,8 +3,8 @@ ghost use Rattle.std.specs.Prelude.{◌≡◌, ◌++◌, IfOk, OnOk};
 ghost use Rattle.trace_session.specs.Sessions.{Knows};
 ghost use Rattle.egl_cli.specs.StalledLines.{stalled_line, stalled_lines};
 
-use crate::texts::{put_decimal, put_text};
 use egl_calls::{Bytes, Journal, NoMemory};
+use journal_text::texts::{put_decimal, put_text};
 use std::alloc::Global;
 use trace_reader::Trace;
 use trace_session::Session;

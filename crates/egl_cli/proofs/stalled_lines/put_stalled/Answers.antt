@@ -4,7 +4,7 @@ use Rattle.std.specs.Option.{option_map}
 use Rattle.trace_reader.specs.Traces.{TraceValue}
 use Rattle.trace_model.specs.Turns.{next_line}
 use Rattle.egl_cli.specs.StalledLines.{stalled_line, stalled_at}
-use Rattle.egl_cli.proofs.TextLaws.{next_number}
+use Rattle.journal_text.proofs.TextLaws.{next_number}
 use Rattle.egl_cli.proofs.stalled_lines.put_stalled.Goals as goal
 
 pub each-preserved : goal.each-preserved

@@ -1,15 +1,10 @@
-//! The text of a run.
-ghost use Rattle.std.specs.Prelude.{◌≡◌, ℕ, ◌+◌, ◌<◌, ◌/◌, ◌%◌, [], ◌∷◌, ◌++◌, codes, decimal, IfOk, OnOk, map};
-ghost use Rattle.std.specs.List.{flat_map, range_with_len};
-ghost use Rattle.trace_model.specs.Recording.{number_text, outcome_text, list_text, hex_digit, hex_byte, bytes_text, entry_line, entry_lines, census_line, row_line, front_lines, fronts_text, recording_of};
+//! The lines of entries.
+ghost use Rattle.std.specs.Prelude.{◌≡◌, ◌<◌, ◌∷◌, ◌++◌, codes, OnOk};
+ghost use Rattle.std.specs.List.{flat_map};
+ghost use Rattle.trace_model.specs.Recording.{number_text, outcome_text, list_text, hex_digit, hex_byte, bytes_text, entry_line, entry_lines};
 
-use crate::texts::{put_decimal, put_number, put_signed, put_text};
-use driver_core::Driver;
-use egl_calls::{Bytes, Entry, Journal, NoMemory, Outcome};
-use pixel_formats::Format;
-use pixel_rows::{Image, Rect};
-use std::alloc::Global;
-use surface_store::Window;
+use crate::texts::{put_decimal, put_number, put_text};
+use egl_calls::{Bytes, Entry, NoMemory, Outcome};
 
 #[tactic(auto, unfolding(trace_model::specs::Recording::outcome_text))]
 fn put_outcome(out: &mut Bytes, outcome: Outcome) -> Result<(), NoMemory>
@@ -79,7 +74,7 @@ fn put_hex_bytes(out: &mut Bytes, bytes: &[u8]) -> Result<(), NoMemory>
 }
 
 /// Eight bytes at a time, since to extend the text costs more than a byte's digits.
-fn put_hex(out: &mut Bytes, bytes: &[u8]) -> Result<(), NoMemory>
+pub fn put_hex(out: &mut Bytes, bytes: &[u8]) -> Result<(), NoMemory>
     ensures { OnOk result (out.new ≡ out.old ++ flat_map hex_byte bytes.now) }
 {
     let mut rest = bytes;
@@ -130,7 +125,7 @@ fn put_entry(out: &mut Bytes, entry: &Entry) -> Result<(), NoMemory>
 }
 
 #[tactic(auto, unfolding(trace_model::specs::Recording::entry_lines))]
-fn put_entries(out: &mut Bytes, entries: &[Entry]) -> Result<(), NoMemory>
+pub fn put_entries(out: &mut Bytes, entries: &[Entry]) -> Result<(), NoMemory>
     ensures { OnOk result (out.new ≡ out.old ++ entry_lines entries.now) }
 {
     'each: for entry in entries {
@@ -138,82 +133,4 @@ fn put_entries(out: &mut Bytes, entries: &[Entry]) -> Result<(), NoMemory>
         put_text(out, "\n")?;
     }
     Ok(())
-}
-
-#[tactic(auto, unfolding(trace_model::specs::Recording::census_line))]
-fn put_census(out: &mut Bytes, census: &[u64]) -> Result<(), NoMemory>
-    ensures { OnOk result (out.new ≡ out.old ++ census_line census.now) }
-{
-    put_text(out, "census")?;
-    'each: for n in census {
-        put_text(out, " ")?;
-        put_decimal(out, *n)?;
-    }
-    Ok(())
-}
-
-/// A row of a front, eight digits a pixel.
-#[tactic(auto, unfolding(trace_model::specs::Recording::row_line))]
-fn put_row(alloc: Global, out: &mut Bytes, front: &Image, y: u32) -> Result<(), NoMemory>
-    ensures { OnOk result (out.new ≡ out.old ++ row_line front.now y) }
-{
-    let row = Rect {
-        x: 0,
-        y: i64::from(y),
-        w: i64::from(front.width()),
-        h: 1,
-    };
-    let bytes = front.row_bytes(alloc, row, Format::Rgba8888, 1)?;
-    put_hex(out, bytes.as_slice())?;
-    put_text(out, "\n")
-}
-
-/// The rows of a front, from the lowest upward.
-fn put_rows(alloc: Global, out: &mut Bytes, front: &Image) -> Result<(), NoMemory>
-    ensures { OnOk result (out.new ≡ out.old ++ flat_map (row_line front.now) (range_with_len 0 front.now.height)) }
-{
-    'each: for y in 0..front.height() {
-        put_row(alloc, out, front, y)?;
-    }
-    Ok(())
-}
-
-#[tactic(auto, unfolding(trace_model::specs::Recording::front_lines))]
-fn put_front(alloc: Global, out: &mut Bytes, window: &Window) -> Result<(), NoMemory>
-    ensures { OnOk result (out.new ≡ out.old ++ front_lines window.now) }
-{
-    let front = window.front();
-    put_text(out, "front ")?;
-    put_signed(out, window.id())?;
-    put_text(out, " ")?;
-    put_decimal(out, u64::from(front.width()))?;
-    put_text(out, " ")?;
-    put_decimal(out, u64::from(front.height()))?;
-    put_text(out, "\n")?;
-    put_rows(alloc, out, front)
-}
-
-#[tactic(auto, unfolding(trace_model::specs::Recording::fronts_text))]
-fn put_fronts(alloc: Global, out: &mut Bytes, windows: &[Window]) -> Result<(), NoMemory>
-    ensures { OnOk result (out.new ≡ out.old ++ fronts_text windows.now) }
-{
-    'each: for window in windows {
-        put_front(alloc, out, window)?;
-    }
-    Ok(())
-}
-
-/// The recording of a journal, behind which a driver stands.
-#[tactic(auto, unfolding(trace_model::specs::Recording::recording_of))]
-pub fn recording(alloc: Global, journal: &Journal, driver: &Driver) -> Result<Bytes, NoMemory>
-    ensures { IfOk result (λ b. b ≡ recording_of journal.now.entries driver.now.state) }
-{
-    let mut out = Bytes::new(alloc);
-    put_text(&mut out, "recording\n")?;
-    put_entries(&mut out, journal.as_slice())?;
-    put_census(&mut out, &driver.census())?;
-    put_text(&mut out, "\n")?;
-    put_fronts(alloc, &mut out, driver.windows())?;
-    put_text(&mut out, "end\n")?;
-    Ok(out)
 }
