@@ -1,0 +1,46 @@
+//! Calls of one driver that nobody shares.
+ghost use Rattle.std.specs.Prelude.{◌≡◌, ◌<◌};
+
+use crate::calls::{BEFORE, Sort, before};
+use anyhow::{Result, bail};
+use driver_core::Driver;
+use egl_calls::NoMemory;
+use std::alloc::Global;
+use std::rt::Clock;
+use std::time::{Duration, Instant};
+
+fn prepare(alloc: Global, driver: &mut Driver) -> Result<(), NoMemory>
+    requires { 0 < driver.old.made }
+    ensures { driver.new.made ≡ driver.old.made }
+{
+    'steps: for step in 0..BEFORE {
+        let call = before(alloc, 0, step)?;
+        driver.play(alloc, 0, &call)?;
+    }
+    Ok(())
+}
+
+fn play(alloc: Global, driver: &mut Driver, sort: Sort, count: u32) -> Result<(), NoMemory>
+    requires { 0 < driver.old.made }
+{
+    'calls: for _call in 0..count {
+        driver.play(alloc, 0, &sort.call(alloc))?;
+    }
+    Ok(())
+}
+
+/// How long so many calls take.
+pub fn run<R: Clock + AllocGlobal>(rt: &R, sort: Sort, count: u32) -> Result<Duration> {
+    let alloc = rt.alloc();
+    let Ok(mut driver) = Driver::new(alloc, &[], 67_108_864) else {
+        bail!("no memory for a driver");
+    };
+    if prepare(alloc, &mut driver).is_err() {
+        bail!("no memory for a surface");
+    }
+    let start = Instant::now(rt)?;
+    if play(alloc, &mut driver, sort, count).is_err() {
+        bail!("no memory for a call");
+    }
+    Ok(start.elapsed(rt)?)
+}

@@ -1,0 +1,96 @@
+//! The calls that are timed, and those that go before.
+ghost use Rattle.std.specs.Prelude.{◌≡◌, true, false, All, IfOk};
+ghost use Rattle.egl_calls.specs.Kinds.{is_built};
+ghost use Rattle.egl_calls.specs.Ranges.{IsNumber};
+ghost use Rattle.egl_model.specs.Waits.{is_wait_end};
+
+use egl_calls::{Call, EglKind, GlKind, Kind, NoMemory, Numbers, set_argument};
+use egl_names::codes::{EGL_HEIGHT, EGL_WIDTH, GL_COLOR_BUFFER_BIT};
+use std::alloc::Global;
+
+/// A sort of call.
+#[derive(Clone, Copy, Drop)]
+pub enum Sort {
+    /// eglGetDisplay of the default display.
+    Display,
+    /// eglGetError.
+    Error,
+    /// glClear of a surface of 64 by 64 pixels.
+    Clear,
+}
+
+/// How many calls go before, for each thread.
+pub const BEFORE: u32 = 4;
+
+/// The first handle that the driver gives.
+const FIRST_HANDLE: u32 = 3;
+
+impl Sort {
+    pub fn name(self) -> &'static str {
+        match self {
+            Sort::Display => "eglGetDisplay",
+            Sort::Error => "eglGetError",
+            Sort::Clear => "glClear of 64 by 64",
+        }
+    }
+
+    pub fn call(self, alloc: Global) -> Call
+        ensures built { is_built result.kind ≡ true }
+        ensures kind { is_wait_end result.kind ≡ false }
+    {
+        let (kind, number) = match self {
+            Sort::Display => (Kind::Egl(EglKind::GetDisplay), 0),
+            Sort::Error => (Kind::Egl(EglKind::GetError), 0),
+            Sort::Clear => (Kind::Gl(GlKind::Clear), GL_COLOR_BUFFER_BIT as u32),
+        };
+        call_with(kind, [number, 0, 0, 0], Numbers::new(alloc))
+    }
+}
+
+fn call_with(kind: Kind, numbers: [u32; 4], list: Numbers) -> Call
+    requires { All IsNumber list }
+    ensures { result.kind ≡ kind }
+{
+    let [first, second, third, fourth] = numbers;
+    let mut args = [0; 8];
+    set_argument(&mut args, 0, i64::from(first));
+    set_argument(&mut args, 1, i64::from(second));
+    set_argument(&mut args, 2, i64::from(third));
+    set_argument(&mut args, 3, i64::from(fourth));
+    Call {
+        kind,
+        args,
+        list,
+        bytes: None,
+    }
+}
+
+fn sides(alloc: Global) -> Result<Numbers, NoMemory>
+    ensures { IfOk result (All IsNumber) }
+{
+    let pairs = [EGL_WIDTH as i64, 64, EGL_HEIGHT as i64, 64];
+    match Vec::from_slice(alloc, &pairs) {
+        Ok(items) => Ok(Numbers::from_vec(items)),
+        Err(_) => Err(NoMemory),
+    }
+}
+
+/// The calls that make a surface and a context current to the thread at a place, by their order.
+pub fn before(alloc: Global, place: u16, step: u32) -> Result<Call, NoMemory>
+    ensures built { IfOk result (λ c. is_built c.kind ≡ true) }
+    ensures kind { IfOk result (λ c. is_wait_end c.kind ≡ false) }
+{
+    let surface = FIRST_HANDLE + 2 * u32::from(place);
+    let (kind, numbers) = match step {
+        0 => (EglKind::Initialize, [1, 0, 0, 0]),
+        1 => (EglKind::CreatePbufferSurface, [1, 4, 0, 0]),
+        2 => (EglKind::CreateContext, [1, 4, 0, 0]),
+        _ => (EglKind::MakeCurrent, [1, surface, surface, surface + 1]),
+    };
+    let list = if step == 1 {
+        sides(alloc)?
+    } else {
+        Numbers::new(alloc)
+    };
+    Ok(call_with(Kind::Egl(kind), numbers, list))
+}
