@@ -1,7 +1,7 @@
 -- What a step leaves of a driver whose first thread's part is out, and of one with all parts in.
 use Rattle.std.proofs.Common.{◌≡◌, ℕ, ◌+◌, ◌<◌, arith, Bool, false, List, [], ◌∷◌, ◌++◌, get_or, sym, ap, ◌∙◌}
 use Rattle.egl_calls.specs.Calls.{CallValue}
-use Rattle.egl_model.specs.State.{State, capacity, opening}
+use Rattle.egl_model.specs.State.{capacity, opening}
 use Rattle.egl_model.specs.Step.{step}
 use Rattle.egl_model.specs.Frame.{IsReady}
 use Rattle.egl_model.specs.Hidden.{hide}

@@ -1,5 +1,5 @@
 -- A driver without the part of its first thread.
-use Rattle.std.specs.Prelude.{◌≡◌, ℕ, true, false, slice_index_or}
+use Rattle.std.specs.Prelude.{◌≡◌, true, false, slice_index_or}
 use Rattle.egl_model.specs.State.{State}
 use Rattle.egl_model.specs.Frame.{IsReady}
 use Rattle.egl_model.specs.Hidden.{hide}
