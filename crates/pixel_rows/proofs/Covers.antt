@@ -1,5 +1,5 @@
 -- Which places rows, blocks and rectangles cover.
-use Rattle.std.proofs.Common.{◌≡◌, ℕ, ℤ, pos, negsuc, ◌+◌, ◌*◌, ◌/◌, ◌%◌, ◌<◌, ◌≤◌, Bool, true, false, ◌&&◌, ◌||◌, List, cond, get_or, map, length, take, drop, ◌++◌, refl, sym, ap, ◌∙◌, arith, inl, inr}
+use Rattle.std.proofs.Common.{◌≡◌, ℕ, ℤ, pos, negsuc, ◌+◌, ◌*◌, ◌/◌, ◌%◌, ◌<◌, ◌≤◌, Bool, true, false, ◌&&◌, ◌||◌, List, cond, get_or, map, length, refl, sym, ap, ◌∙◌, arith, inl, inr}
 use Rattle.std.proofs.Math.Path.{fun_ext}
 use Rattle.std.proofs.lemmas.Bool.{cases_order}
 use Rattle.std.proofs.lemmas.Bool.Decides.{nat_tests}
@@ -7,19 +7,15 @@ use Rattle.std.proofs.lemmas.List.FromFn.{length-map-range_with_len}
 use Rattle.std.proofs.lemmas.Grind.{rows}
 use Rattle.std.proofs.lemmas.Int.{ints}
 use Rattle.std.proofs.lemmas.Nat.{row_fits}
-use Rattle.std.proofs.lemmas.List.{take_at}
-use Rattle.pixel_formats.specs.Pixels.{quantize}
 use Rattle.pixel_formats.specs.declared.pixels.Pixel.{Pixel}
 use Rattle.pixel_rows.proofs.Rewriting.{rewritten_all}
 use Rattle.pixel_rows.specs.Blocks.{in_range, in_block, in_block_at, block_of, Rewritten}
 use Rattle.std.specs.List.{range_with_len}
-use Rattle.pixel_rows.specs.Images.{ImageValue, IsWhole, no_pixel}
-use Rattle.pixel_rows.specs.Masks.{masked, mask_in}
-use Rattle.pixel_rows.specs.Painting.{painted_at, painted_pixels, painted}
+use Rattle.pixel_rows.specs.Images.{IsWhole, no_pixel}
+use Rattle.pixel_rows.specs.Painting.{painted_at, painted_pixels}
 use Rattle.egl_calls.specs.Ranges.{unsigned}
 use Rattle.pixel_rows.specs.Rects.{is_in_span, is_in, is_at, IsInSide, IsInside}
 use Rattle.pixel_rows.specs.declared.blocks.Block.{Block}
-use Rattle.pixel_rows.specs.declared.masks.Mask.{Mask}
 use Rattle.pixel_rows.specs.declared.rects.Rect.{Rect}
 
 pub length-painted_pixels : (w : ℕ) (covers : ℕ → ℕ → Bool) (becomes : ℕ → ℕ → Pixel → Pixel) (ps : List Pixel) → length (painted_pixels w covers becomes ps) ≡ length ps

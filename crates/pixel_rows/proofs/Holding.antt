@@ -1,5 +1,5 @@
 -- What images hold, once their rows were made, copied or written.
-use Rattle.std.proofs.Common.{◌≡◌, ℕ, ◌+◌, ◌-◌, ◌*◌, ◌/◌, ◌%◌, ◌<◌, ◌≤◌, Bool, true, false, cond, List, [], ◌∷◌, length, get_or, map, take, replicate, refl, sym, ap, ◌∙◌, arith}
+use Rattle.std.proofs.Common.{◌≡◌, ℕ, ◌+◌, ◌-◌, ◌*◌, ◌/◌, ◌%◌, ◌<◌, ◌≤◌, Bool, true, cond, List, [], ◌∷◌, length, get_or, map, take, replicate, refl, sym, ap, ◌∙◌, arith}
 use Rattle.std.proofs.lemmas.List.{get_or_default, get_or-map, length-map, length-replicate, same_lists}
 use Rattle.std.proofs.lemmas.Bool.Decides.{nat_tests}
 use Rattle.egl_calls.specs.Ranges.{unsigned}
@@ -25,7 +25,7 @@ use Rattle.pixel_rows.specs.declared.cells.Cells.{Cells}
 use Rattle.pixel_rows.specs.declared.masks.Mask.{Mask}
 use Rattle.pixel_rows.specs.declared.rects.Rect.{Rect}
 use Rattle.pixel_rows.specs.declared.rows.Rows.{Rows}
-use Rattle.pixel_rows.specs.declared.rows.Rows.TheVariants.{Owned, Frozen}
+use Rattle.pixel_rows.specs.declared.rows.Rows.TheVariants.{Owned}
 
 -- stored rows have a pixel for each place
 pub whole_of : (f : Format) (w h : ℕ) (rows : Rows) → IsStored f w h rows → IsWhole w h (seen f (cells_in_rows rows))
@@ -58,7 +58,7 @@ cell_read f all cells place c p e h at read =
     let is : get_or cells place c ≡ get_or all place [] = ap (λ xs. get_or xs place c) e ∙ get_or_default all place c [] h in
     read ∙ ap (unpack f) (at ∙ is) ∙ sym (get_or-seen f all place h)
 
-abbrev image : Format → ℕ → ℕ → List Pixel → Bool → ImageValue
+abbrev pub image : Format → ℕ → ℕ → List Pixel → Bool → ImageValue
 image f w h ps o = record { format = f; width = w; height = h; pixels = ps; owned = o }
 
 -- a block that was written is a write of an image
@@ -75,7 +75,7 @@ block_painted f w h old mid new b g covers paint mask e s own becomes same =
     ∙ painted_as w (in_block_at b) covers (λ x y p. written f mask p (paint x y)) (seen f (cells_in_rows old)) same)
 
 -- a write under the full mask leaves nothing of a pixel
-written-every : (f : Format) (p q : Pixel) → written f every p q ≡ quantize f q
+pub written-every : (f : Format) (p q : Pixel) → written f every p q ≡ quantize f q
 written-every Rgb565 p q = refl
 written-every Rgb888 p q = refl
 written-every Rgba8888 p q = refl

@@ -5,4 +5,5 @@ pub mod Seen
 pub mod Loading
 pub mod Lines
 pub mod Holding
+pub mod RowWrites
 pub mod LawsHold

@@ -1,12 +1,13 @@
 //! Images.
 
-ghost use Rattle.std.specs.Prelude.{◌≡◌, ◌+◌, ◌*◌, ◌<◌, ◌≤◌, length, replicate, true, IsOk, OnOk, OnErr, IfOk, IfErr};
+ghost use Rattle.std.specs.Prelude.{◌≡◌, ℕ, ◌+◌, ◌-◌, ◌*◌, ◌<◌, ◌≤◌, length, replicate, slice_index_or, true, IsOk, OnOk, OnErr, IfOk, IfErr};
 ghost use Rattle.pixel_formats.specs.declared.formats.Format.TheVariants.{Rgba8888};
 ghost use Rattle.pixel_rows.specs.Images as values;
-ghost use Rattle.pixel_rows.specs.Images.{IsImage, IsSameShape, blank, pixel_at};
+ghost use Rattle.pixel_rows.specs.Images.{IsImage, IsSameShape, blank, no_pixel, pixel_at};
+ghost use Rattle.pixel_rows.specs.Masks.{every};
 ghost use Rattle.pixel_rows.specs.Painting.{painted};
 ghost use Rattle.pixel_rows.specs.Payloads.{loaded};
-ghost use Rattle.pixel_rows.specs.Rects.{IsInside, is_at, is_in};
+ghost use Rattle.pixel_rows.specs.Rects.{IsInside, is_at, is_in, is_in_run};
 ghost use Rattle.pixel_rows.specs.Transfers as transfers;
 ghost use Rattle.pixel_rows.specs.Transfers.{HasReadSides, IsAlignment};
 
@@ -14,7 +15,9 @@ use crate::blocks::{Block, block_of};
 use crate::cells::Cells;
 use crate::masks::Mask;
 use crate::rects::Rect;
-use crate::rows::{Rows, copy_rows, fill_rows, load_rows, own, owns, pixel_in_rows};
+use crate::rows::{
+    Rows, copy_rows, fill_rows, gather_row, load_rows, own, owns, pixel_in_rows, put_row,
+};
 use crate::{rows, transfers};
 use egl_calls::{Bytes, NoMemory};
 use pixel_formats::{Format, Pixel};
@@ -186,6 +189,50 @@ impl Image {
             p,
             mask,
         );
+        Ok(())
+    }
+
+    /// Writes a row of pixels from column `x` of row `y` on. Want of memory leaves the image as it was,
+    /// and it comes only where the bytes aren't the image's own.
+    pub fn put_row(&mut self, x: u32, y: u32, row: &[Pixel], mask: Mask) -> Result<(), NoMemory>
+        requires { (x + length row.now ≤ self.old.width) × (y < self.old.height) }
+        ensures ok { OnOk result (self.new ≡ painted self.old (is_in_run x y (length row.now)) (λ u _. slice_index_or row.now (u - x) no_pixel) mask) }
+        ensures shape { IsSameShape self.old self.new }
+        ensures whole { IsImage self.new }
+        ensures err { OnErr result (self.new ≡ self.old) }
+        ensures room { self.old.owned ≡ true → IsOk result }
+    {
+        let at = y as usize * self.width as usize + x as usize;
+        own(&mut self.rows)?;
+        put_row(&mut self.rows, at, row, self.format, mask);
+        Ok(())
+    }
+
+    /// Writes the pixels of some columns of a row of an image of the same format, from column `x` of
+    /// row `y` on: a copy of bytes where each column is the next one. Want of memory leaves the image
+    /// as it was, and it comes only where the bytes aren't the image's own.
+    pub fn gather_row(
+        &mut self,
+        x: u32,
+        y: u32,
+        from: &Image,
+        columns: &[u32],
+        row: u32,
+    ) -> Result<(), NoMemory>
+        requires format { from.now.format ≡ self.old.format }
+        requires place { (x + length columns.now ≤ self.old.width) × (y < self.old.height) }
+        requires row { row < from.now.height }
+        requires columns { (k : ℕ) → k < length columns.now → slice_index_or columns.now k 0 < from.now.width }
+        ensures ok { OnOk result (self.new ≡ painted self.old (is_in_run x y (length columns.now)) (λ u _. pixel_at from.now (slice_index_or columns.now (u - x) 0) row) every) }
+        ensures shape { IsSameShape self.old self.new }
+        ensures whole { IsImage self.new }
+        ensures err { OnErr result (self.new ≡ self.old) }
+        ensures room { self.old.owned ≡ true → IsOk result }
+    {
+        let at = y as usize * self.width as usize + x as usize;
+        let first = row as usize * from.width as usize;
+        own(&mut self.rows)?;
+        gather_row(&mut self.rows, at, &from.rows, first, columns, self.format);
         Ok(())
     }
 

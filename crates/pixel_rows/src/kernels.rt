@@ -1,13 +1,15 @@
 //! The loops over packed pixels, one for each number of bytes that a pixel has. Each says what a plain
 //! pass over the places would leave.
 
-ghost use Rattle.std.specs.Prelude.{◌≡◌, ◌+◌, ◌-◌, ◌≤◌, [], length, slice_index_or};
+ghost use Rattle.std.specs.Prelude.{◌≡◌, ℕ, ◌+◌, ◌-◌, ◌<◌, ◌≤◌, [], length, slice_index_or, take};
+ghost use Rattle.pixel_formats.specs.Pixels as pixels;
 ghost use Rattle.pixel_rows.specs.Blocks.{in_range, Rewritten};
 ghost use Rattle.pixel_rows.specs.Cells.{blended, converted};
+ghost use Rattle.pixel_rows.specs.Images.{no_pixel};
 
 use crate::cells::{cell_in, pixel_in};
 use crate::masks::{Mask, masked};
-use pixel_formats::{Format, Pixel};
+use pixel_formats::{Format, Pixel, quantize};
 
 /// Writes a row of cells from the place `at` on.
 #[inline(always)]
@@ -76,5 +78,51 @@ pub(crate) fn convert_range<const N: usize, const M: usize>(
 {
     'cells: for k in 0..row.len() {
         cells[at + k] = cell_in(f, pixel_in(from, row[k]));
+    }
+}
+
+/// Writes the cells at some places after `first` from the place `at` on.
+pub(crate) fn gather_range<const N: usize>(
+    cells: &mut [[u8; N]],
+    at: usize,
+    source: &[[u8; N]],
+    first: usize,
+    columns: &[u32],
+)
+    requires range { at + length columns.now ≤ length cells.old }
+    requires columns { (k : ℕ) → k < length columns.now → first + slice_index_or columns.now k 0 < length source.now }
+    ensures { Rewritten [] (in_range at (at + length columns.now)) (λ k _. slice_index_or source.now (first + slice_index_or columns.now (k - at) 0) []) cells.old cells.new }
+{
+    'cells: for k in 0..columns.len() {
+        cells[at + k] = source[first + columns[k] as usize];
+    }
+}
+
+/// Writes a row of pixels from the place `at` on, nothing of what was there being kept.
+pub(crate) fn pack_range<const N: usize>(cells: &mut [[u8; N]], at: usize, row: &[Pixel], f: Format)
+    requires range { at + length row.now ≤ length cells.old }
+    requires four { N ≤ 4 }
+    ensures { Rewritten [] (in_range at (at + length row.now)) (λ k _. take N (pixels.pack f (slice_index_or row.now (k - at) no_pixel))) cells.old cells.new }
+{
+    'cells: for k in 0..row.len() {
+        cells[at + k] = cell_in(f, row[k]);
+    }
+}
+
+/// Writes the components of a row of pixels that a mask names, from the place `at` on.
+pub(crate) fn mix_range<const N: usize>(
+    cells: &mut [[u8; N]],
+    at: usize,
+    row: &[Pixel],
+    f: Format,
+    mask: Mask,
+)
+    requires range { at + length row.now ≤ length cells.old }
+    requires four { N ≤ 4 }
+    ensures { Rewritten [] (in_range at (at + length row.now)) (λ k old. blended N f mask (pixels.quantize f (slice_index_or row.now (k - at) no_pixel)) old) cells.old cells.new }
+{
+    'cells: for k in 0..row.len() {
+        let old = pixel_in(f, cells[at + k]);
+        cells[at + k] = cell_in(f, masked(mask, old, quantize(f, row[k])));
     }
 }

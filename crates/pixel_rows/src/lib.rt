@@ -15,6 +15,7 @@ mod loads;
 mod masks;
 mod rects;
 mod rows;
+mod runs;
 mod transfers;
 
 pub use images::{FreezeError, Image};

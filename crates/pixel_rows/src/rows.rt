@@ -1,10 +1,10 @@
 //! The rows of an image: its own, or frozen and shared.
 
-ghost use Rattle.std.specs.Prelude.{◌≡◌, ◌-◌, ◌*◌, ◌/◌, ◌%◌, ◌<◌, ◌≤◌, length, map, slice_index_or, true, false, IsOk, OnOk, OnErr, IfOk, IfErr};
+ghost use Rattle.std.specs.Prelude.{◌≡◌, ℕ, ◌+◌, ◌-◌, ◌*◌, ◌/◌, ◌%◌, ◌<◌, ◌≤◌, length, map, slice_index_or, true, false, IsOk, OnOk, OnErr, IfOk, IfErr};
 ghost use Rattle.std.specs.Arc.{arc_value};
 ghost use Rattle.pixel_formats.specs.Formats as formats;
 ghost use Rattle.pixel_formats.specs.Pixels.{quantize};
-ghost use Rattle.pixel_rows.specs.Blocks.{in_block, Rewritten};
+ghost use Rattle.pixel_rows.specs.Blocks.{in_block, in_range, Rewritten};
 ghost use Rattle.pixel_rows.specs.Cells.{HasForm, SameCells, seen};
 ghost use Rattle.pixel_rows.specs.Images.{no_pixel};
 ghost use Rattle.pixel_rows.specs.Masks as masks;
@@ -20,6 +20,7 @@ use crate::copies::copy_cells;
 use crate::fills::fill_block;
 use crate::loads::load_block;
 use crate::masks::Mask;
+use crate::runs::{gather_cells, put_cells};
 use crate::transfers::stride;
 use egl_calls::NoMemory;
 use pixel_formats::{Format, Pixel, bytes_of};
@@ -185,6 +186,46 @@ pub(crate) fn copy_rows(rows: &mut Rows, source: &Rows, f: Format, from: Format)
 {
     match rows {
         Rows::Owned(cells) => copy_cells(cells, cells_of(source), f, from),
+        Rows::Frozen(_) => unreachable!(),
+    }
+}
+
+/// Writes the pixels of some columns of a row of the same format over an image's own, from the place
+/// `at` on. The row begins at the place `first`.
+pub(crate) fn gather_row(
+    rows: &mut Rows,
+    at: usize,
+    source: &Rows,
+    first: usize,
+    columns: &[u32],
+    f: Format,
+)
+    requires owned { is_owned rows.old ≡ true }
+    requires form { HasForm f (values.cells_of rows.old) }
+    requires source { HasForm f (values.cells_of source.now) }
+    requires range { at + length columns.now ≤ length (cells_in_rows rows.old) }
+    requires columns { (k : ℕ) → k < length columns.now → first + slice_index_or columns.now k 0 < length (cells_in_rows source.now) }
+    ensures pixels { Rewritten no_pixel (in_range at (at + length columns.now)) (λ k _. slice_index_or (seen f (cells_in_rows source.now)) (first + slice_index_or columns.now (k - at) 0) no_pixel) (seen f (cells_in_rows rows.old)) (seen f (cells_in_rows rows.new)) }
+    ensures form { HasForm f (values.cells_of rows.new) }
+    ensures owned { is_owned rows.new ≡ true }
+{
+    match rows {
+        Rows::Owned(cells) => gather_cells(cells, at, cells_of(source), first, columns, f),
+        Rows::Frozen(_) => unreachable!(),
+    }
+}
+
+/// Writes a row of pixels under a mask over an image's own, from the place `at` on.
+pub(crate) fn put_row(rows: &mut Rows, at: usize, row: &[Pixel], f: Format, mask: Mask)
+    requires owned { is_owned rows.old ≡ true }
+    requires form { HasForm f (values.cells_of rows.old) }
+    requires range { at + length row.now ≤ length (cells_in_rows rows.old) }
+    ensures pixels { Rewritten no_pixel (in_range at (at + length row.now)) (λ k old. masks.written f mask old (slice_index_or row.now (k - at) no_pixel)) (seen f (cells_in_rows rows.old)) (seen f (cells_in_rows rows.new)) }
+    ensures form { HasForm f (values.cells_of rows.new) }
+    ensures owned { is_owned rows.new ≡ true }
+{
+    match rows {
+        Rows::Owned(cells) => put_cells(cells, at, row, f, mask),
         Rows::Frozen(_) => unreachable!(),
     }
 }

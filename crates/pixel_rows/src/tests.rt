@@ -237,6 +237,32 @@ fn fills_of_each_length_equal_the_plain_fill(rt: HostRuntime) -> Result<(), Fail
 }
 
 #[test]
+fn a_row_of_pixels_is_written_at_once(rt: HostRuntime) -> Result<(), Fail> {
+    let row = [pixel([1, 2, 3, 4]), pixel([5, 6, 7, 8])];
+    let mut from = Image::new(rt.alloc(), Format::Rgba8888, 4, 2)?;
+    from.put_row(1, 1, &row, ALL)?;
+    from.put_row(2, 1, &row, RED_ALPHA)?;
+    let bytes = from.row_bytes(rt.alloc(), rect(0, 0, 4, 2), Format::Rgba8888, 1)?;
+    assert_eq!(rt;
+        bytes.as_slice(),
+        [
+            0, 0, 0, 0, 0, 0, 0, 0, 0, 0, 0, 0, 0, 0, 0, 0, 0, 0, 0, 0, 1, 2, 3, 4, 1, 6, 7, 4, 5,
+            0, 0, 8
+        ]
+        .as_slice()
+    );
+    let mut to = Image::new(rt.alloc(), Format::Rgba8888, 5, 1)?;
+    to.gather_row(0, 0, &from, &[3, 1], 1)?;
+    to.gather_row(2, 0, &from, &[1, 2, 3], 1)?;
+    let bytes = to.row_bytes(rt.alloc(), rect(0, 0, 5, 1), Format::Rgba8888, 1)?;
+    assert_eq!(rt;
+        bytes.as_slice(),
+        [5, 0, 0, 8, 1, 2, 3, 4, 1, 2, 3, 4, 1, 6, 7, 4, 5, 0, 0, 8].as_slice()
+    );
+    Ok(())
+}
+
+#[test]
 fn a_write_to_one_of_two_shared_images_leaves_the_other(rt: HostRuntime) -> Result<(), Fail> {
     let red = pixel([255, 0, 0, 255]);
     let blue = pixel([0, 0, 255, 255]);
