@@ -1,12 +1,14 @@
-//! Measures writes into images of 2,048 by 2,048 pixels and their rows as bytes, beside a plain copy
-//! of as many bytes, and the memory that 64 such images take. With the word `measure` it prints millions
+//! Measures writes into images of 2,048 by 2,048 pixels, their rows as bytes, draws and copies, beside
+//! a plain copy of as many bytes, and the memory that 64 such images take. With the word `measure` it prints millions
 //! of pixels a second, which differ from run to run; without it it prints nothing.
 #![tactic(auto)]
 
+mod draws;
 mod memory;
 mod work;
 
 use anyhow::Result;
+use draws::{context, copies, cropped, draw};
 use egl_calls::Bytes;
 use pixel_formats::{Format, bytes_of};
 use pixel_rows::Image;
@@ -45,6 +47,7 @@ fn measure(rt: &HostRuntime, f: Format) -> Result<()> {
     let red = speed(start.elapsed(rt)?.as_nanos());
     println!(rt; "{f:?}: fill {all}, of red alone {red}")?;
     measure_rows(rt, &image, f)?;
+    measure_draws(rt, &image, f)?;
     measure_loads(rt, &mut image, Bytes::from_vec(from), f)
 }
 
@@ -65,6 +68,28 @@ fn measure_loads(rt: &HostRuntime, image: &mut Image, bytes: Bytes, f: Format) -
         let took = speed(start.elapsed(rt)?.as_nanos());
         println!(rt; "{f:?}: load from {from:?} {took}")?;
     }
+    Ok(())
+}
+
+/// Measures a texture drawn over an image of its format, texel by texel and at twice its size, and a
+/// copy of one image into the other.
+fn measure_draws(rt: &HostRuntime, image: &Image, f: Format) -> Result<()> {
+    let Ok(mut target) = Image::new(rt.alloc(), f, SIDE, SIDE) else {
+        return Ok(());
+    };
+    for (replaces, mode) in [(true, "REPLACE"), (false, "MODULATE")] {
+        let part = context(rt.alloc(), replaces);
+        for (crop, scale) in [(2_048, "unscaled"), (1_024, "scaled")] {
+            let start = Instant::now(rt)?;
+            draw(&mut target, &part, image, &cropped(crop));
+            let took = speed(start.elapsed(rt)?.as_nanos());
+            println!(rt; "{f:?}: {scale} draw in {mode} {took}")?;
+        }
+    }
+    let start = Instant::now(rt)?;
+    copies(&mut target, image);
+    let took = speed(start.elapsed(rt)?.as_nanos());
+    println!(rt; "{f:?}: copy between images {took}")?;
     Ok(())
 }
 

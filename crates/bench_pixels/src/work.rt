@@ -5,7 +5,7 @@ use pixel_formats::{Format, Pixel};
 use pixel_rows::{Image, Mask, Rect};
 use std::alloc::{AllocError, Global};
 
-const ROUNDS: u32 = 8;
+pub const ROUNDS: u32 = 8;
 
 /// The sides of the image that is measured.
 pub const SIDE: u32 = 2_048;

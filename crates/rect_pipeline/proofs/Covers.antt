@@ -1,12 +1,12 @@
 -- Tests of rows, spans and regions.
-use Rattle.std.proofs.Common.{◌≡◌, min, max, ℕ, ℤ, pos, negsuc, ◌+◌, ◌-◌, ◌*◌, ◌/◌, ◌<◌, ◌≤◌, Bool, true, false, ◌&&◌, ◌||◌, ◌==◌, refl, sym, ap, ◌∙◌, arith}
-use Rattle.std.specs.Prelude.{◌+ℤ◌, ◌*ℤ◌, ◌≤ℤ◌, int_le, int_lt, nat_le, nat_lt}
+use Rattle.std.proofs.Common.{◌≡◌, min, max, ℕ, ℤ, pos, negsuc, ◌+◌, ◌-◌, ◌<◌, ◌≤◌, Bool, true, false, ◌&&◌, ◌||◌, refl, arith}
+use Rattle.std.specs.Prelude.{◌*ℤ◌, int_le, int_lt, nat_le, nat_lt}
 use Rattle.std.proofs.lemmas.Bool.Decides.{nat_tests}
 use Rattle.std.proofs.lemmas.Int.{ints}
 use Rattle.egl_calls.specs.Ranges.{unsigned}
 use Rattle.pixel_rows.specs.Blocks.{in_range}
-use Rattle.pixel_rows.specs.Rects.{is_at, is_in_span}
-use Rattle.rect_pipeline.specs.Coverage.{centres_before, is_covered, twice_centre}
+use Rattle.pixel_rows.specs.Rects.{is_at}
+use Rattle.rect_pipeline.specs.Coverage.{centres_before, twice_centre}
 use Rattle.rect_pipeline.specs.Targets.{IsSpanIn, in_region, in_row, in_span}
 use Rattle.rect_pipeline.specs.declared.spans.Span.{Span}
 use Rattle.rect_pipeline.specs.declared.targets.Region.{Region}
@@ -45,6 +45,10 @@ row_is s y u v h = (grind (arith, nat_tests), grind (arith, nat_tests))
 
 pub span_is : (s : Span) (u : ℕ) → in_span s u ≡ true → (s.start ≤ u) × (u < s.end)
 span_is s u h = (grind (arith, nat_tests), grind (arith, nat_tests))
+
+-- a place of a span, counted from its start
+pub span_from : (s : Span) (u n : ℕ) → n ≡ s.end - s.start → in_span s u ≡ true → u - s.start < n
+span_from s u n e h = let at = span_is s u h in omega (arith, e, at.0, at.1)
 
 -- a number of places before which a signed edge lies
 pub before_edge : (z : ℤ) (k : ℕ) → int_lt (pos k) z ≡ nat_lt k (unsigned z)

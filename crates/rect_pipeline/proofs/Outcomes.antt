@@ -1,5 +1,5 @@
 -- What the calls leave, from what their parts leave.
-use Rattle.std.proofs.Common.{◌≡◌, ℕ, ◌+◌, ◌-◌, ◌<◌, ◌≤◌, Bool, true, false, ◌&&◌, cond, List, Option, Some, None, Result, Ok, Err, length, get_or, set, refl, sym, ap, ◌∙◌, arith, inl, inr}
+use Rattle.std.proofs.Common.{◌≡◌, ℕ, ◌+◌, ◌-◌, ◌<◌, Bool, true, false, ◌&&◌, cond, List, Some, None, Result, Ok, Err, length, get_or, set, refl, sym, ap, ◌∙◌, arith, inl, inr}
 use Rattle.std.specs.Prelude.{ℤ, pos, ◌+ℤ◌, OnOk}
 use Rattle.std.proofs.lemmas.Bool.{cases_eq}
 use Rattle.std.proofs.lemmas.Bool.Decides.{nat_tests}
@@ -11,22 +11,20 @@ use Rattle.pixel_formats.specs.declared.pixels.Pixel.{Pixel}
 use Rattle.pixel_rows.specs.Images.{ImageValue, IsImage, pixel_at}
 use Rattle.pixel_rows.specs.Masks.{every}
 use Rattle.pixel_rows.specs.Painting.{painted}
-use Rattle.pixel_rows.specs.Rects.{is_in, is_in_span}
+use Rattle.pixel_rows.specs.Rects.{is_in}
 use Rattle.pixel_rows.specs.Transfers.{place_in}
 use Rattle.pixel_rows.specs.declared.masks.Mask.{Mask}
 use Rattle.pixel_rows.specs.declared.rects.Rect.{Rect}
-use Rattle.rect_pipeline.proofs.Covers.{region_is, swapped}
+use Rattle.rect_pipeline.proofs.Covers.{swapped}
 use Rattle.rect_pipeline.proofs.Painted.{painted-owned, painted_same}
 use Rattle.rect_pipeline.specs.Clearing.{cleared, clears_colour}
 use Rattle.rect_pipeline.specs.Copying.{copied_into, copied_pixel, is_copied, pixel_or_none}
-use Rattle.rect_pipeline.specs.Coverage.{is_covered}
-use Rattle.rect_pipeline.specs.Drawing.{SourceValue, draws_at, drawn, environment_of, fragment, fragment_of, shown}
-use Rattle.rect_pipeline.specs.Fragments.{colour_at_8, colour_in}
-use Rattle.rect_pipeline.specs.Targets.{in_region, in_span, mask_of, passes_scissor, rect_of}
+use Rattle.rect_pipeline.specs.Drawing.{fragment_of}
+use Rattle.rect_pipeline.specs.Fragments.{colour_in}
+use Rattle.rect_pipeline.specs.Targets.{in_region, mask_of, passes_scissor, rect_of}
 use Rattle.rect_pipeline.specs.Texels.{texel_at}
 use Rattle.rect_pipeline.specs.declared.axes.Axis.{Axis}
 use Rattle.rect_pipeline.specs.declared.fragments.Environment.{Environment}
-use Rattle.rect_pipeline.specs.declared.spans.Span.{Span}
 use Rattle.rect_pipeline.specs.declared.targets.Region.{Region}
 
 -- one fact of a success from another

@@ -1,13 +1,12 @@
 -- Writes of an image, one after another.
-use Rattle.std.proofs.Common.{◌≡◌, ℕ, ◌+◌, ◌*◌, ◌/◌, ◌%◌, ◌<◌, ◌≤◌, Bool, true, false, ◌||◌, cond, List, [], ◌∷◌, zero, suc, length, get_or, map, refl, sym, ap, ◌∙◌, arith}
+use Rattle.std.proofs.Common.{◌≡◌, ℕ, ◌+◌, ◌*◌, ◌/◌, ◌%◌, ◌<◌, ◌≤◌, Bool, true, false, ◌||◌, cond, ◌∷◌, zero, suc, length, get_or, map, refl, sym, ap, ◌∙◌, arith}
 use Rattle.std.specs.List.{range_with_len}
 use Rattle.std.proofs.lemmas.Grind.{rows}
 use Rattle.std.proofs.lemmas.List.FromFn.{fill_by_all, get_or-map-range_with_len}
-use Rattle.pixel_formats.specs.declared.formats.Format.{Format}
 use Rattle.pixel_formats.specs.declared.pixels.Pixel.{Pixel}
 use Rattle.pixel_rows.proofs.Covers.{length-painted_pixels}
 use Rattle.pixel_rows.proofs.LawsHold.{painted-shape}
-use Rattle.pixel_rows.specs.Images.{ImageValue, IsImage, IsSameShape, no_pixel}
+use Rattle.pixel_rows.specs.Images.{ImageValue, IsImage, no_pixel}
 use Rattle.pixel_rows.specs.Masks.{written}
 use Rattle.pixel_rows.specs.Painting.{painted, painted_at, painted_pixels}
 use Rattle.pixel_rows.specs.declared.masks.Mask.{Mask}

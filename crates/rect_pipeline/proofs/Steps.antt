@@ -1,14 +1,13 @@
 -- One more pixel of a row, and one more row of a region.
-use Rattle.std.proofs.Common.{◌≡◌, ℕ, ◌+◌, ◌<◌, ◌≤◌, Bool, true, false, refl, sym, ap, ◌∙◌, arith}
+use Rattle.std.proofs.Common.{◌≡◌, ℕ, ◌+◌, ◌≤◌, true, refl, sym, ap, ◌∙◌}
 use Rattle.pixel_formats.specs.declared.pixels.Pixel.{Pixel}
-use Rattle.pixel_rows.specs.Images.{ImageValue, IsImage, IsSameShape}
+use Rattle.pixel_rows.specs.Images.{ImageValue, IsImage}
 use Rattle.pixel_rows.specs.Painting.{painted}
 use Rattle.pixel_rows.specs.Rects.{is_at}
 use Rattle.pixel_rows.specs.declared.masks.Mask.{Mask}
 use Rattle.rect_pipeline.proofs.Covers.{at_is, below, region_apart, region_joined, region_none, row_apart, row_is, row_joined, row_none, span}
 use Rattle.rect_pipeline.proofs.Painted.{painted_more, painted_none}
 use Rattle.rect_pipeline.specs.Targets.{IsWritable, in_region, in_row, in_span}
-use Rattle.rect_pipeline.specs.declared.spans.Span.{Span}
 use Rattle.rect_pipeline.specs.declared.targets.Region.{Region}
 
 owned_same : (v : ImageValue) → v.owned ≡ true → v ≡ record v { owned = true }

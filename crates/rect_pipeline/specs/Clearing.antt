@@ -1,5 +1,5 @@
 -- glClear (OpenGL ES 1.1, section 4.2.3).
-use Rattle.std.specs.Prelude.{ℕ, ℤ, Bool, ◌==◌, if◌then◌else◌, bit_and}
+use Rattle.std.specs.Prelude.{ℤ, Bool, ◌==◌, if◌then◌else◌, bit_and}
 use Rattle.context_state.specs.Parts.{PartValue}
 use Rattle.egl_calls.specs.Ranges.{unsigned}
 use Rattle.egl_names.specs.declared.codes.TheConstants.{GL_COLOR_BUFFER_BIT}

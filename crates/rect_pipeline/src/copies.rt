@@ -1,16 +1,17 @@
 //! Pixels of one image written into another (OpenGL ES 1.1, section 3.7.2).
 
-ghost use Rattle.std.specs.Prelude.{◌≡◌, ℕ, pos, ◌-◌, ◌+ℤ◌, ◌≤ℤ◌, ◌<◌, ◌≤◌, true, nat_lt, if◌then◌else◌, Some, None, IsOk, OnOk, OnErr, IfSome};
-ghost use Rattle.pixel_rows.specs.Images.{IsImage, IsSameShape};
+ghost use Rattle.std.specs.Prelude.{◌≡◌, ℕ, pos, ◌+◌, ◌-◌, ◌+ℤ◌, ◌≤ℤ◌, ◌<◌, ◌≤◌, true, nat_lt, length, slice_index_or, if◌then◌else◌, Some, None, IsOk, OnOk, OnErr, IfSome};
+ghost use Rattle.egl_calls.specs.Ranges as ranges;
+ghost use Rattle.pixel_rows.specs.Images.{IsImage, IsSameShape, no_pixel, pixel_at};
 ghost use Rattle.pixel_rows.specs.Masks.{every};
 ghost use Rattle.pixel_rows.specs.Painting.{painted};
 ghost use Rattle.pixel_rows.specs.Rects.{IsInside};
 ghost use Rattle.pixel_rows.specs.Transfers.{place_in};
 ghost use Rattle.rect_pipeline.specs.Copying as copying;
 ghost use Rattle.rect_pipeline.specs.Copying.{copied_pixel, moved, pixel_or_none};
-ghost use Rattle.rect_pipeline.specs.Targets.{IsSpanIn, IsRegionIn, IsWritable, in_region, in_row};
+ghost use Rattle.rect_pipeline.specs.Targets.{IsRegionIn, IsWritable, in_region};
 
-use crate::images::{ALL, NO_PIXEL, own, put};
+use crate::images::{ALL, MOST_COLUMNS, NO_PIXEL, gather_row, own, put_row};
 use crate::spans::Span;
 use crate::targets::Region;
 use egl_calls::{NoMemory, unsigned};
@@ -57,18 +58,89 @@ fn pixel_or_none(image: &Image, column: Option<u32>, row: Option<u32>) -> Pixel
     }
 }
 
-/// Copies a part of a row.
-fn copy_row(into: &mut Image, y: usize, span: Span, from: &Image, left: i64, row: Option<u32>)
+/// The pixels of a row, or of none, from a column on.
+fn read_row(pixels: &mut [Pixel], from: &Image, left: i64, row: Option<u32>)
+    requires long { length pixels.old ≤ 2048 }
+    requires row { IfSome row (λ y. y < from.now.height) }
+    ensures long { length pixels.new ≡ length pixels.old }
+    ensures each { (k : ℕ) → k < length pixels.old → slice_index_or pixels.new k no_pixel ≡ pixel_or_none from.now (place_in from.now.width (left +ℤ pos k)) row }
+{
+    let wide = from.width();
+    'pixels: for k in 0..pixels.len() {
+        pixels[k] = pixel_or_none(from, place_in(wide, left, k), row);
+    }
+}
+
+/// Whether so many places from a start on are among those of a side.
+fn is_inside(start: i64, count: usize, side: u32) -> bool
+    requires { count ≤ 2048 }
+    ensures start { result ≡ true → pos 0 ≤ℤ start }
+    ensures end { result ≡ true → ranges.unsigned start + count ≤ side }
+{
+    start >= 0 && start <= 2_048 && unsigned(start) as usize + count <= side as usize
+}
+
+/// So many columns in turn, in the first places of a list.
+fn columns_from<const N: usize>(left: u32, count: usize) -> [u32; N]
+    requires room { count ≤ N }
+    requires fits { left + count ≤ 4096 }
+    ensures { (k : ℕ) → k < count → slice_index_or result k 0 ≡ left + k }
+{
+    let mut columns = [0; N];
+    'columns: for k in 0..count {
+        columns[k] = left + k as u32;
+    }
+    columns
+}
+
+/// Copies the pixels of some columns, and of as many rows as a region has, of an image of the same format.
+fn copy_columns(into: &mut Image, region: Region, from: &Image, columns: &[u32], bottom: u32)
     requires owned { into.old.owned ≡ true }
-    requires row { (y < into.old.height) × (IfSome row (λ v. v < from.now.height)) }
-    requires span { IsSpanIn span into.old.width }
-    ensures row { into.new ≡ painted into.old (in_row span y) (λ x _. pixel_or_none from.now (place_in from.now.width (left +ℤ pos (x - span.start))) row) every }
+    requires format { from.now.format ≡ into.old.format }
+    requires region { IsRegionIn region into.old.width into.old.height }
+    requires long { length columns.now ≡ region.columns.end - region.columns.start }
+    requires columns { (k : ℕ) → k < length columns.now → slice_index_or columns.now k 0 < from.now.width }
+    requires rows { bottom + (region.rows.end - region.rows.start) ≤ from.now.height }
+    ensures region { into.new ≡ painted into.old (in_region region) (λ x y. pixel_at from.now (slice_index_or columns.now (x - region.columns.start) 0) (bottom + (y - region.rows.start))) every }
     ensures still { IsWritable into.old into.new }
 {
-    let (_width, wide) = (into.width(), from.width());
-    'pixels: for x in span.start..span.end {
-        let column = place_in(wide, left, x - span.start);
-        put(into, x, y, pixel_or_none(from, column, row), ALL);
+    let (_width, _height, _high) = (into.width(), into.height(), from.height());
+    'rows: for y in region.rows.start..region.rows.end {
+        let row = bottom + (y - region.rows.start) as u32;
+        gather_row(into, y, region.columns, from, columns, row);
+    }
+}
+
+/// Copies a rectangle that an image of the same format has, to a region of its sides.
+fn copy_inside(into: &mut Image, region: Region, from: &Image, left: u32, bottom: u32)
+    requires owned { into.old.owned ≡ true }
+    requires format { from.now.format ≡ into.old.format }
+    requires region { IsRegionIn region into.old.width into.old.height }
+    requires columns { left + (region.columns.end - region.columns.start) ≤ from.now.width }
+    requires rows { bottom + (region.rows.end - region.rows.start) ≤ from.now.height }
+    ensures region { into.new ≡ painted into.old (in_region region) (λ x y. pixel_at from.now (left + (x - region.columns.start)) (bottom + (y - region.rows.start))) every }
+    ensures still { IsWritable into.old into.new }
+{
+    let (_width, _height, _wide) = (into.width(), into.height(), from.width());
+    let count = region.columns.end - region.columns.start;
+    let list = columns_from::<MOST_COLUMNS>(left, count);
+    copy_columns(into, region, from, &list[..count], bottom);
+}
+
+/// Copies a rectangle, of which an image may have a part or none, to a region of its sides.
+fn copy_part(into: &mut Image, region: Region, from: &Image, left: i64, bottom: i64)
+    requires owned { into.old.owned ≡ true }
+    requires region { IsRegionIn region into.old.width into.old.height }
+    ensures region { into.new ≡ painted into.old (in_region region) (λ x y. pixel_or_none from.now (place_in from.now.width (left +ℤ pos (x - region.columns.start))) (place_in from.now.height (bottom +ℤ pos (y - region.rows.start)))) every }
+    ensures still { IsWritable into.old into.new }
+{
+    let (_width, _height, high) = (into.width(), into.height(), from.height());
+    let mut list = [NO_PIXEL; MOST_COLUMNS];
+    let pixels = &mut list[..region.columns.end - region.columns.start];
+    'rows: for y in region.rows.start..region.rows.end {
+        let row = place_in(high, bottom, y - region.rows.start);
+        read_row(pixels, from, left, row);
+        put_row(into, y, region.columns, pixels, ALL);
     }
 }
 
@@ -79,10 +151,16 @@ fn copy_region(into: &mut Image, region: Region, from: &Image, left: i64, bottom
     ensures region { into.new ≡ painted into.old (in_region region) (λ x y. pixel_or_none from.now (place_in from.now.width (left +ℤ pos (x - region.columns.start))) (place_in from.now.height (bottom +ℤ pos (y - region.rows.start)))) every }
     ensures still { IsWritable into.old into.new }
 {
-    let (_height, high) = (into.height(), from.height());
-    'rows: for y in region.rows.start..region.rows.end {
-        let row = place_in(high, bottom, y - region.rows.start);
-        copy_row(into, y, region.columns, from, left, row);
+    let (_width, _height) = (into.width(), into.height());
+    let (columns, rows) = (region.columns, region.rows);
+    let same = from.format() == into.format();
+    let wide = is_inside(left, columns.end - columns.start, from.width());
+    let high = is_inside(bottom, rows.end - rows.start, from.height());
+    if same && wide && high {
+        let (left, bottom) = (unsigned(left) as u32, unsigned(bottom) as u32);
+        copy_inside(into, region, from, left, bottom);
+    } else {
+        copy_part(into, region, from, left, bottom);
     }
 }
 

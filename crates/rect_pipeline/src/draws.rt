@@ -1,51 +1,49 @@
 //! Draws of a texture's pixels (OES_draw_texture).
 
 ghost use Rattle.std.specs.Prelude.{◌≡◌, ℕ, ◌-◌, ◌<◌, ◌≤◌, true, length, slice_index_or, IsOk, OnOk, OnErr};
-ghost use Rattle.pixel_rows.specs.Images.{IsImage, IsSameShape, pixel_at};
+ghost use Rattle.pixel_formats.specs.Formats.{base_of};
+ghost use Rattle.pixel_rows.specs.Images.{IsImage, IsSameShape, no_pixel, pixel_at};
+ghost use Rattle.pixel_rows.specs.Masks.{every};
 ghost use Rattle.pixel_rows.specs.Painting.{painted};
 ghost use Rattle.rect_pipeline.specs.Drawing.{environment_of, fragment_of};
 ghost use Rattle.rect_pipeline.specs.Fragments.{colour_at_8};
 ghost use Rattle.rect_pipeline.specs.Signed.{IsAxis};
 ghost use Rattle.rect_pipeline.specs.Targets as targets;
-ghost use Rattle.rect_pipeline.specs.Targets.{IsRegionIn, IsSpanIn, IsWritable, in_region, in_row};
+ghost use Rattle.rect_pipeline.specs.Targets.{IsRegionIn, IsWritable, in_region};
 ghost use Rattle.rect_pipeline.specs.Texels as texels;
 
 use crate::axes::{Axis, texel_at, texels};
 use crate::fragments::{Environment, colour_in};
-use crate::images::{own, put};
-use crate::spans::Span;
+use crate::images::{MOST_COLUMNS, NO_PIXEL, gather_row, own, put_row};
 use crate::targets::{Region, fill, mask_of};
 use context_state::ContextPart;
 use egl_calls::NoMemory;
-use pixel_formats::{Format, base_of};
+use pixel_formats::{Format, Pixel, base_of};
 use pixel_rows::{Image, Mask};
 
-/// The most columns that an image has.
-const MOST_COLUMNS: usize = 2_048;
+/// Whether a mask names each component.
+fn is_all(mask: Mask) -> bool
+    ensures { result ≡ true → mask ≡ every }
+{
+    mask.r && mask.g && mask.b && mask.a
+}
 
-/// Draws a part of a row: for each pixel the fragment of a texel of one row of a texture.
-fn draw_fragments(
-    target: &mut Image,
-    y: usize,
-    span: Span,
+/// The fragments of the texels of some columns of a row of a texture, in as many first places of a row of pixels.
+fn combine(
+    fragments: &mut [Pixel],
     image: &Image,
     columns: &[u32],
     row: u32,
     environment: Environment,
-    mask: Mask,
 )
-    requires owned { target.old.owned ≡ true }
-    requires row { (y < target.old.height) × (row < image.now.height) }
-    requires span { IsSpanIn span target.old.width }
-    requires long { length columns.now ≡ span.end - span.start }
-    requires texels { (k : ℕ) → k < length columns.now → slice_index_or columns.now k 0 < image.now.width }
-    ensures row { target.new ≡ painted target.old (in_row span y) (λ x _. fragment_of environment (pixel_at image.now (slice_index_or columns.now (x - span.start) 0) row)) mask }
-    ensures still { IsWritable target.old target.new }
+    requires room { length fragments.old ≡ length columns.now }
+    requires row { row < image.now.height }
+    requires columns { (k : ℕ) → k < length columns.now → slice_index_or columns.now k 0 < image.now.width }
+    ensures long { length fragments.new ≡ length fragments.old }
+    ensures each { (k : ℕ) → k < length columns.now → slice_index_or fragments.new k no_pixel ≡ fragment_of environment (pixel_at image.now (slice_index_or columns.now k 0) row) }
 {
-    let _width = target.width();
-    'pixels: for x in span.start..span.end {
-        let texel = image.at(columns[x - span.start], row);
-        put(target, x, y, environment.fragment(texel), mask);
+    'pixels: for k in 0..columns.len() {
+        fragments[k] = environment.fragment(image.at(columns[k], row));
     }
 }
 
@@ -68,18 +66,57 @@ fn draw_combined(
     ensures still { IsWritable target.old target.new }
 {
     let (_width, _height) = (target.width(), target.height());
+    let mut pixels = [NO_PIXEL; MOST_COLUMNS];
+    let fragments = &mut pixels[..columns.len()];
     'rows: for y in region.rows.start..region.rows.end {
         let row = texel_at(rows, y);
-        draw_fragments(
-            target,
-            y,
-            region.columns,
-            image,
-            columns,
-            row,
-            environment,
-            mask,
-        );
+        combine(fragments, image, columns, row, environment);
+        put_row(target, y, region.columns, fragments, mask);
+    }
+}
+
+/// Draws a region from the texels of some columns of a texture of the target's own format, as they are.
+fn draw_texels(target: &mut Image, region: Region, image: &Image, columns: &[u32], rows: Axis)
+    requires owned { target.old.owned ≡ true }
+    requires format { image.now.format ≡ target.old.format }
+    requires region { IsRegionIn region target.old.width target.old.height }
+    requires long { length columns.now ≡ region.columns.end - region.columns.start }
+    requires columns { (k : ℕ) → k < length columns.now → slice_index_or columns.now k 0 < image.now.width }
+    requires rows { (IsAxis rows) × (rows.side ≡ image.now.height) }
+    ensures region { target.new ≡ painted target.old (in_region region) (λ x y. pixel_at image.now (slice_index_or columns.now (x - region.columns.start) 0) (texels.texel_at rows y)) every }
+    ensures still { IsWritable target.old target.new }
+{
+    let (_width, _height) = (target.width(), target.height());
+    'rows: for y in region.rows.start..region.rows.end {
+        let row = texel_at(rows, y);
+        gather_row(target, y, region.columns, image, columns, row);
+    }
+}
+
+/// Draws a region from the texels of some columns of a texture, by a copy of bytes where nothing is left of a pixel but its texel.
+fn draw_columns(
+    target: &mut Image,
+    region: Region,
+    image: &Image,
+    columns: &[u32],
+    rows: Axis,
+    environment: Environment,
+    mask: Mask,
+)
+    requires owned { target.old.owned ≡ true }
+    requires base { environment.base ≡ base_of image.now.format }
+    requires region { IsRegionIn region target.old.width target.old.height }
+    requires long { length columns.now ≡ region.columns.end - region.columns.start }
+    requires columns { (k : ℕ) → k < length columns.now → slice_index_or columns.now k 0 < image.now.width }
+    requires rows { (IsAxis rows) × (rows.side ≡ image.now.height) }
+    ensures region { target.new ≡ painted target.old (in_region region) (λ x y. fragment_of environment (pixel_at image.now (slice_index_or columns.now (x - region.columns.start) 0) (texels.texel_at rows y))) mask }
+    ensures still { IsWritable target.old target.new }
+{
+    let same = image.format() == target.format();
+    if same && environment.keeps_texels() && is_all(mask) {
+        draw_texels(target, region, image, columns, rows);
+    } else {
+        draw_combined(target, region, image, columns, rows, environment, mask);
     }
 }
 
@@ -94,6 +131,7 @@ fn draw_region(
     mask: Mask,
 )
     requires owned { target.old.owned ≡ true }
+    requires base { environment.base ≡ base_of image.now.format }
     requires region { IsRegionIn region target.old.width target.old.height }
     requires columns { (IsAxis columns) × (columns.side ≡ image.now.width) }
     requires rows { (IsAxis rows) × (rows.side ≡ image.now.height) }
@@ -103,7 +141,7 @@ fn draw_region(
     let (_width, _height) = (target.width(), target.height());
     let list = texels::<MOST_COLUMNS>(columns, region.columns);
     let shown = &list[..region.columns.end - region.columns.start];
-    draw_combined(target, region, image, shown, rows, environment, mask);
+    draw_columns(target, region, image, shown, rows, environment, mask);
 }
 
 /// Draws a region in the colour of a context.

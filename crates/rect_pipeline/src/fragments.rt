@@ -1,6 +1,8 @@
 //! What a draw writes: the colour, or its combination with a texel (OpenGL ES 1.1, section 3.7.12).
 
-ghost use Rattle.std.specs.Prelude.{◌≡◌};
+ghost use Rattle.std.specs.Prelude.{◌≡◌, true};
+ghost use Rattle.pixel_formats.specs.Formats as formats;
+ghost use Rattle.pixel_formats.specs.Pixels.{quantize};
 ghost use Rattle.rect_pipeline.specs.Fragments as fragments;
 
 use pixel_formats::{Base, Format, Pixel, clear_pixel};
@@ -71,6 +73,13 @@ fn modulated(base: Base, f: Pixel, t: Pixel) -> Pixel
     }
 }
 
+/// Whether a colour is white, so that a texel times it is the texel.
+fn is_white(p: Pixel) -> bool
+    ensures { result ≡ true → p ≡ fragments.white }
+{
+    p.r == 255 && p.g == 255 && p.b == 255 && p.a == 255
+}
+
 /// How a texel becomes a fragment: by the environment, the components that the texture has, and the
 /// colour of the context.
 #[derive(Clone, Copy, Drop)]
@@ -81,6 +90,13 @@ pub(crate) struct Environment {
 }
 
 impl Environment {
+    /// Whether a format of the texture's components keeps of each fragment what it keeps of the texel.
+    pub(crate) fn keeps_texels(self) -> bool
+        ensures { result ≡ true → (f : Format) (t : Pixel) → self.base ≡ formats.base_of f → quantize f (fragments.combined self.replaces self.base self.colour t) ≡ quantize f t }
+    {
+        self.replaces || is_white(self.colour)
+    }
+
     /// The fragment of a texel.
     #[inline(always)]
     pub(crate) fn fragment(self, texel: Pixel) -> Pixel

@@ -1,16 +1,19 @@
 //! Images whose bytes are their own, so that a write takes no memory.
 
-ghost use Rattle.std.specs.Prelude.{◌≡◌, ◌<◌, true, IsOk, OnOk, OnErr};
-ghost use Rattle.pixel_rows.specs.Images.{IsImage};
+ghost use Rattle.std.specs.Prelude.{◌≡◌, ℕ, ◌-◌, ◌<◌, true, length, slice_index_or, IsOk, OnOk, OnErr};
+ghost use Rattle.pixel_rows.specs.Images.{IsImage, no_pixel, pixel_at};
+ghost use Rattle.pixel_rows.specs.Masks.{every};
 ghost use Rattle.pixel_rows.specs.Painting.{painted};
-ghost use Rattle.pixel_rows.specs.Rects.{is_at};
-ghost use Rattle.rect_pipeline.specs.Targets.{IsWritable};
+ghost use Rattle.rect_pipeline.specs.Targets.{IsSpanIn, IsWritable, in_row};
 
 use crate::spans::Span;
 use crate::targets::{Region, fill};
 use egl_calls::NoMemory;
 use pixel_formats::Pixel;
 use pixel_rows::{Image, Mask};
+
+/// The most columns that an image has.
+pub(crate) const MOST_COLUMNS: usize = 2_048;
 
 pub(crate) const ALL: Mask = Mask {
     r: true,
@@ -44,15 +47,41 @@ pub(crate) fn own(target: &mut Image) -> Result<(), NoMemory>
     fill(target, none, NO_PIXEL, ALL)
 }
 
-/// Writes one pixel of an image whose bytes are its own.
-pub(crate) fn put(target: &mut Image, x: usize, y: usize, p: Pixel, mask: Mask)
-    requires place { (x < target.old.width) × (y < target.old.height) }
+/// Writes a span of one row of an image whose bytes are its own.
+pub(crate) fn put_row(target: &mut Image, y: usize, span: Span, row: &[Pixel], mask: Mask)
+    requires place { (IsSpanIn span target.old.width) × (y < target.old.height) }
+    requires long { length row.now ≡ span.end - span.start }
     requires owned { target.old.owned ≡ true }
-    ensures pixel { target.new ≡ painted target.old (is_at x y) (λ _ _. p) mask }
+    ensures row { target.new ≡ painted target.old (in_row span y) (λ u _. slice_index_or row.now (u - span.start) no_pixel) mask }
     ensures still { IsWritable target.old target.new }
 {
     let (_width, _height) = (target.width(), target.height());
-    match target.put(x as u32, y as u32, p, mask) {
+    match target.put_row(span.start as u32, y as u32, row, mask) {
+        Ok(()) => {}
+        Err(_) => unreachable!(),
+    }
+}
+
+/// Writes a span of one row of an image whose bytes are its own, from some columns of a row of an image of the same format.
+pub(crate) fn gather_row(
+    target: &mut Image,
+    y: usize,
+    span: Span,
+    from: &Image,
+    columns: &[u32],
+    row: u32,
+)
+    requires format { from.now.format ≡ target.old.format }
+    requires place { (IsSpanIn span target.old.width) × (y < target.old.height) }
+    requires row { row < from.now.height }
+    requires long { length columns.now ≡ span.end - span.start }
+    requires columns { (k : ℕ) → k < length columns.now → slice_index_or columns.now k 0 < from.now.width }
+    requires owned { target.old.owned ≡ true }
+    ensures row { target.new ≡ painted target.old (in_row span y) (λ u _. pixel_at from.now (slice_index_or columns.now (u - span.start) 0) row) every }
+    ensures still { IsWritable target.old target.new }
+{
+    let (_width, _height) = (target.width(), target.height());
+    match target.gather_row(span.start as u32, y as u32, from, columns, row) {
         Ok(()) => {}
         Err(_) => unreachable!(),
     }
