@@ -1,5 +1,5 @@
 -- What a draw of texels leaves.
-use Rattle.std.proofs.Common.{◌≡◌, ℕ, ◌+◌, ◌-◌, ◌<◌, ◌≤◌, Bool, true, false, cond, List, length, get_or, take, refl, sym, ap, ◌∙◌, arith, length-take}
+use Rattle.std.proofs.Common.{◌≡◌, ℕ, ◌+◌, ◌-◌, ◌<◌, Bool, true, false, cond, List, get_or, take, refl, sym, ap, ◌∙◌, arith}
 use Rattle.std.proofs.lemmas.List.{get_or-take}
 use Rattle.pixel_formats.specs.Formats.{base_of}
 use Rattle.pixel_formats.specs.Pixels.{quantize}
@@ -33,13 +33,6 @@ shows a s list shown cut each u t =
     let within : u - s.start < s.end - s.start = omega (arith, at.0, at.1) in
     let same : s.start + (u - s.start) ≡ u = omega (arith, at.0) in
     ap (λ l. get_or l (u - s.start) 0) cut ∙ get_or-take (s.end - s.start) list (u - s.start) 0 within ∙ each (u - s.start) within ∙ ap (texel_at a) same
-
-pub shown-below : (list shown : List ℕ) (n m : ℕ) → shown ≡ take n list → n ≤ length list → ((k : ℕ) → k < n → get_or list k 0 < m) → (k : ℕ) → k < length shown → get_or shown k 0 < m
-shown-below list shown n m cut room each k h =
-    let long : length shown ≤ n = omega (arith, ap length cut, length-take n list) in
-    let within : k < n = omega arith in
-    let at : get_or shown k 0 ≡ get_or list k 0 = ap (λ l. get_or l k 0) cut ∙ get_or-take n list k 0 within in
-    omega (arith, each k within, at)
 
 pub region_combined : (v new image : ImageValue) (r : Region) (e : Environment) (mask : Mask) (list : List ℕ) (columns rows : Axis) → IsImage v → Shows columns r.columns list →
     new ≡ painted v (in_region r) (λ x y. fragment_of e (pixel_at image (get_or list (x - r.columns.start) 0) (texel_at rows y))) mask →

@@ -93,7 +93,8 @@ fn columns_from<const N: usize>(left: u32, count: usize) -> [u32; N]
     columns
 }
 
-/// Copies the pixels of some columns, and of as many rows as a region has, of an image of the same format.
+/// Copies the pixels of some columns, and of as many rows as a region has, of an image of the same
+/// format.
 fn copy_columns(into: &mut Image, region: Region, from: &Image, columns: &[u32], bottom: u32)
     requires owned { into.old.owned ≡ true }
     requires format { from.now.format ≡ into.old.format }

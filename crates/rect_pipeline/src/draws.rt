@@ -28,7 +28,7 @@ fn is_all(mask: Mask) -> bool
     mask.r && mask.g && mask.b && mask.a
 }
 
-/// The fragments of the texels of some columns of a row of a texture, in as many first places of a row of pixels.
+/// The fragments of the texels of some columns of a row of a texture.
 fn combine(
     fragments: &mut [Pixel],
     image: &Image,
@@ -75,7 +75,7 @@ fn draw_combined(
     }
 }
 
-/// Draws a region from the texels of some columns of a texture of the target's own format, as they are.
+/// Draws a region from the texels of some columns of a texture of the target's format, as they are.
 fn draw_texels(target: &mut Image, region: Region, image: &Image, columns: &[u32], rows: Axis)
     requires owned { target.old.owned ≡ true }
     requires format { image.now.format ≡ target.old.format }
@@ -93,7 +93,8 @@ fn draw_texels(target: &mut Image, region: Region, image: &Image, columns: &[u32
     }
 }
 
-/// Draws a region from the texels of some columns of a texture, by a copy of bytes where nothing is left of a pixel but its texel.
+/// Draws a region from the texels of some columns of a texture: as a copy of bytes, where a pixel that
+/// is written is its texel's, or else by the fragments.
 fn draw_columns(
     target: &mut Image,
     region: Region,

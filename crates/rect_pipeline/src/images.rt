@@ -62,7 +62,8 @@ pub(crate) fn put_row(target: &mut Image, y: usize, span: Span, row: &[Pixel], m
     }
 }
 
-/// Writes a span of one row of an image whose bytes are its own, from some columns of a row of an image of the same format.
+/// Writes a span of one row of an image whose bytes are its own, from some columns of a row of an image
+/// of the same format.
 pub(crate) fn gather_row(
     target: &mut Image,
     y: usize,

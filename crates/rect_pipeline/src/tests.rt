@@ -279,13 +279,16 @@ static TURNED: [([i64; 4], [i64; 4], [u8; 4]); 6] = [
 
 #[test]
 fn a_negative_crop_turns_the_picture(rt: HostRuntime) -> Result<(), Fail> {
-    let part = context(rt.alloc(), &[TEXTURED, REPLACING]);
+    let replacing = context(rt.alloc(), &[TEXTURED, REPLACING]);
+    let white = context(rt.alloc(), &[TEXTURED]);
     let image = pixels(rt.alloc(), Format::Rgba8888, 2, 2, &FOUR)?;
     for (crop, place, expected) in &TURNED {
-        let mut target = Image::new(rt.alloc(), Format::Rgba8888, 4, 4)?;
-        draw(&mut target, &part, &image, &cropped(*crop), *place)?;
-        let row = read_pixels(rt.alloc(), &target, rect(0, 0, 4, 1), Format::L8, 1)?;
-        assert_eq!(rt; row.as_slice(), expected.as_slice(), "{crop:?} {place:?}");
+        for part in [&replacing, &white] {
+            let mut target = Image::new(rt.alloc(), Format::Rgba8888, 4, 4)?;
+            draw(&mut target, part, &image, &cropped(*crop), *place)?;
+            let row = read_pixels(rt.alloc(), &target, rect(0, 0, 4, 1), Format::L8, 1)?;
+            assert_eq!(rt; row.as_slice(), expected.as_slice(), "{crop:?} {place:?}");
+        }
     }
     Ok(())
 }
@@ -317,6 +320,78 @@ fn a_draw_writes_the_masked_components_in_the_scissor_box(rt: HostRuntime) -> Re
     Ok(())
 }
 
+/// The bytes of a tile of 16 by 16 pixels, each of its number and full alpha; of tile 5 the first pixel
+/// is white.
+fn tile(alloc: Global, k: u8) -> Result<Vec<u8>, Fail>
+    requires { k < 20 }
+{
+    let mut bytes = Vec::new(alloc);
+    for place in 0..256u32 {
+        let shade = if k == 5 && place == 0 { 255 } else { k + 1 };
+        for byte in [shade, shade, shade, 255] {
+            bytes.push(byte)?;
+        }
+    }
+    Ok(bytes)
+}
+
+/// What a row of 320 pixels shows once 20 tiles were drawn side by side, and red above the first half of
+/// the first one.
+fn composed(alloc: Global, y: u32) -> Result<Vec<u8>, Fail> {
+    let mut row = Vec::new(alloc);
+    for x in 0..320u32 {
+        let shade = (x / 16 + 1) as u8;
+        let pixel = if x == 80 && y == 0 {
+            [255; 4]
+        } else if y < 16 {
+            [shade, shade, shade, 255]
+        } else if x < 8 && y < 24 {
+            [255, 0, 0, 255]
+        } else {
+            [0, 0, 0, 255]
+        };
+        for byte in pixel {
+            row.push(byte)?;
+        }
+    }
+    Ok(row)
+}
+
+#[test]
+fn a_compositor_draws_its_tiles_side_by_side(rt: HostRuntime) -> Result<(), Fail> {
+    let settings = [TEXTURED, REPLACING, (ClearColorx, [0, 0, 0, ONE])];
+    let part = context(rt.alloc(), &settings);
+    let mut target = Image::new(rt.alloc(), Format::Rgba8888, 320, 30)?;
+    clear(&mut target, &part, COLOUR)?;
+    for k in 0..20u8 {
+        let bytes = tile(rt.alloc(), k)?;
+        let image = pixels(rt.alloc(), Format::Rgba8888, 16, 16, bytes.as_slice())?;
+        let place = [16 * i64::from(k), 0, 16, 16];
+        draw(&mut target, &part, &image, &cropped([0, 0, 16, 16]), place)?;
+    }
+    let red = [0x00, 0xf8].repeat(rt.alloc(), 64)?;
+    let image = pixels(rt.alloc(), Format::Rgb565, 8, 8, red.as_slice())?;
+    draw(
+        &mut target,
+        &part,
+        &image,
+        &cropped([0, 0, 8, 8]),
+        [0, 16, 8, 8],
+    )?;
+    for y in 0..30u32 {
+        let row = read_pixels(
+            rt.alloc(),
+            &target,
+            rect(0, i64::from(y), 320, 1),
+            Format::Rgba8888,
+            1,
+        )?;
+        let expected = composed(rt.alloc(), y)?;
+        assert_eq!(rt; row.as_slice(), expected.as_slice(), "row {y}");
+    }
+    Ok(())
+}
+
 /// Where a draw of one pixel's width begins, in 16.16 fixed point, and which of three pixels it covers.
 static STARTS: [(i64, [u8; 3]); 5] = [
     (0, [7, 0, 0]),
@@ -340,7 +415,7 @@ fn a_pixel_is_covered_by_its_centre(rt: HostRuntime) -> Result<(), Fail> {
 
 /// A texel in each base format, and what it becomes with the colour 128, 64, 255, 200 in GL_REPLACE and
 /// in GL_MODULATE.
-static ENVIRONMENTS: [(Format, &[u8], [u8; 4], [u8; 4]); 5] = [
+static ENVIRONMENTS: [(Format, &[u8], [u8; 4], [u8; 4]); 6] = [
     (
         Format::Rgb888,
         &[10, 200, 77],
@@ -352,6 +427,12 @@ static ENVIRONMENTS: [(Format, &[u8], [u8; 4], [u8; 4]); 5] = [
         &[10, 200, 77, 90],
         [10, 200, 77, 90],
         [5, 50, 77, 71],
+    ),
+    (
+        Format::Rgba8888,
+        &[0x11, 0x22, 0x33, 0x44],
+        [0x11, 0x22, 0x33, 0x44],
+        [9, 9, 51, 53],
     ),
     (Format::A8, &[90], [128, 64, 255, 90], [128, 64, 255, 71]),
     (Format::L8, &[140], [140, 140, 140, 200], [70, 35, 140, 200]),
