@@ -1,6 +1,6 @@
 //! Vectors from outside: what the standard's formulas give, worked over exact fractions.
 
-ghost use Rattle.std.specs.Prelude.{◌≡◌, ◌≤◌, ◌≤ℤ◌, pos, IfOk};
+ghost use Rattle.std.specs.Prelude.{◌≡◌, ◌<◌, ◌≤◌, ◌≤ℤ◌, pos, IfOk};
 ghost use Rattle.egl_calls.specs.Ranges.{IsNumber};
 ghost use Rattle.rect_pipeline.specs.Signed.{IsDrawNumber};
 
@@ -363,10 +363,10 @@ fn a_compositor_draws_its_tiles_side_by_side(rt: HostRuntime) -> Result<(), Fail
     let part = context(rt.alloc(), &settings);
     let mut target = Image::new(rt.alloc(), Format::Rgba8888, 320, 30)?;
     clear(&mut target, &part, COLOUR)?;
-    for k in 0..20u8 {
-        let bytes = tile(rt.alloc(), k)?;
+    for k in 0..20u32 {
+        let bytes = tile(rt.alloc(), k as u8)?;
         let image = pixels(rt.alloc(), Format::Rgba8888, 16, 16, bytes.as_slice())?;
-        let place = [16 * i64::from(k), 0, 16, 16];
+        let place = [i64::from(16 * k), 0, 16, 16];
         draw(&mut target, &part, &image, &cropped([0, 0, 16, 16]), place)?;
     }
     let red = [0x00, 0xf8].repeat(rt.alloc(), 64)?;
