@@ -7,7 +7,7 @@ ghost use Rattle.std.specs.Option.{option_copied_mut};
 ghost use Rattle.numbered.specs.Lists.{at};
 ghost use Rattle.numbered.specs.Lends.{lends_value};
 
-use indexmap::IndexMap;
+use crate::table::Table;
 use std::alloc::Global;
 use std::marker::Model;
 
@@ -20,7 +20,7 @@ pub struct NoRoom;
 /// Contracts see a list with a place for each number below its length, and how many more values fit with no memory.
 #[derive(Drop)]
 pub struct Numbered<X: Drop> {
-    values: IndexMap<u64, X>,
+    table: Table<X>,
     end: u64,
     live: u64,
     room: u64,
@@ -35,9 +35,9 @@ impl<X: Drop> Model for Numbered<X> {
 
     ghost use Rattle.numbered.specs.Maps.{listed, IsNumbered};
 
-    ghost view = { λ s. record { items = listed s.end s.values; room = s.room } };
+    ghost view = { λ s. record { items = listed s.end s.table; room = s.room } };
 
-    ghost invariant = { λ s. IsNumbered s.end s.live s.room s.values };
+    ghost invariant = { λ s. IsNumbered s.end s.live s.room s.table };
 }
 
 // The most values that there may be, with the room that was made for more.
@@ -50,7 +50,7 @@ impl<X: Drop> Numbered<X> {
         ensures room { result.room ≡ 0 }
     {
         Numbered {
-            values: IndexMap::new(alloc),
+            table: Table::new(alloc),
             end: 0,
             live: 0,
             room: 0,
@@ -66,7 +66,7 @@ impl<X: Drop> Numbered<X> {
         if more > MOST - self.live {
             return Err(NoRoom);
         }
-        match self.values.reserve(more as usize) {
+        match self.table.reserve(self.live, more) {
             Ok(()) => {
                 self.room = more;
                 Ok(())
@@ -79,7 +79,7 @@ impl<X: Drop> Numbered<X> {
     pub fn get(&self, n: u64) -> Option<&X>
         ensures { option_copied result ≡ at self.now.items n }
     {
-        self.values.get(&n)
+        self.table.get(n)
     }
 
     /// The value of a number, to write.
@@ -87,7 +87,7 @@ impl<X: Drop> Numbered<X> {
         ensures* writes_back { sem 𝓛 (lends_value X.row self.entry n result) }
         ensures value { option_copied_mut result ≡ at self.old.items n }
     {
-        self.values.get_mut(&n)
+        self.table.get_mut(n)
     }
 
     /// Makes the list long enough for a number. It takes no memory.
@@ -110,13 +110,9 @@ impl<X: Drop> Numbered<X> {
         ensures items { self.new.items ≡ slice_set self.old.items n (Some value) }
         ensures room { self.new.room + 1 ≡ self.old.room }
     {
-        match self.values.insert(n, value) {
-            Ok(_) => {
-                self.live += 1;
-                self.room -= 1;
-            }
-            Err(_) => unreachable!(),
-        }
+        self.table.put(n, value);
+        self.live += 1;
+        self.room -= 1;
     }
 
     /// Takes the value of a number away. Its room stays with the values for the next one that is made room for.
@@ -125,7 +121,7 @@ impl<X: Drop> Numbered<X> {
         ensures items { self.new.items ≡ slice_set self.old.items n None }
         ensures room { self.new.room ≡ self.old.room }
     {
-        match self.values.swap_remove(&n) {
+        match self.table.take(n) {
             Some(value) => {
                 self.live -= 1;
                 Some(value)
