@@ -17,6 +17,26 @@ pub enum Sort {
     Error,
     /// glClear of a surface of 64 by 64 pixels.
     Clear,
+    /// glClearColorx.
+    Colour,
+}
+
+/// Who answers a call.
+#[derive(Clone, Copy, Drop)]
+pub enum Way {
+    /// The driver, in a turn of the lock.
+    Turn,
+    /// The thread's private part, in all places that there are; once they are taken a call gives them back in a turn.
+    Part,
+}
+
+impl Way {
+    pub fn name(self) -> &'static str {
+        match self {
+            Way::Turn => "",
+            Way::Part => " by their own parts",
+        }
+    }
 }
 
 /// How many calls go before, for each thread.
@@ -31,6 +51,7 @@ impl Sort {
             Sort::Display => "eglGetDisplay",
             Sort::Error => "eglGetError",
             Sort::Clear => "glClear of 64 by 64",
+            Sort::Colour => "glClearColorx",
         }
     }
 
@@ -42,6 +63,7 @@ impl Sort {
             Sort::Display => (Kind::Egl(EglKind::GetDisplay), 0),
             Sort::Error => (Kind::Egl(EglKind::GetError), 0),
             Sort::Clear => (Kind::Gl(GlKind::Clear), GL_COLOR_BUFFER_BIT as u32),
+            Sort::Colour => (Kind::Gl(GlKind::ClearColorx), 65_536),
         };
         call_with(kind, [number, 0, 0, 0], Numbers::new(alloc))
     }

@@ -1,4 +1,5 @@
 //! Makes calls by threads that share a driver, one, two, four and sixteen with a token each, and by one driver that nobody shares.
+//! Clears and colours are then made by the threads' own parts, where they take no turn.
 //!
 //! With no word they make 100 calls each, and it prints what was done. With a word, as `time`, they make 400,000
 //! in all, and it prints how many a second in the fastest of three runs.
@@ -9,42 +10,47 @@ mod calls;
 mod together;
 
 use anyhow::Result;
-use calls::Sort;
+use calls::{Sort, Way};
 use std::env;
 use std::rt::Clock;
 use std::sync::Wait;
 use std::thread::Threads;
 use std::time::Duration;
+use together::Work;
 
-const SORTS: [Sort; 3] = [Sort::Display, Sort::Error, Sort::Clear];
+const SORTS: [Sort; 4] = [Sort::Display, Sort::Error, Sort::Clear, Sort::Colour];
+
+/// The sorts that are made by the threads' own parts too.
+const OWN: [Sort; 2] = [Sort::Clear, Sort::Colour];
 
 /// How many threads share a driver; 0 is a driver that nobody shares.
 const THREADS: [u16; 5] = [0, 1, 2, 4, 16];
+
+/// And how many where their own parts answer.
+const APART: [u16; 3] = [1, 2, 4];
 
 const TIMED_CALLS: u32 = 400_000;
 
 fn run<R: Clock + AllocGlobal + Threads + Wait + Sync>(
     rt: &R,
-    sort: Sort,
     threads: u16,
-    count: u32,
+    work: Work,
 ) -> Result<Duration> {
     if threads == 0 {
-        alone::run(rt, sort, count)
+        alone::run(rt, work.sort, work.count)
     } else {
-        together::run(rt, sort, threads, count)
+        together::run(rt, threads, work)
     }
 }
 
 fn least_time<R: Clock + AllocGlobal + Threads + Wait + Sync>(
     rt: &R,
-    sort: Sort,
     threads: u16,
-    count: u32,
+    work: Work,
 ) -> Result<u128> {
     let mut least = u128::MAX;
     'runs: for _ in 0..3 {
-        let took = run(rt, sort, threads, count)?;
+        let took = run(rt, threads, work)?;
         least = least.min(took.as_nanos());
     }
     Ok(least)
@@ -54,18 +60,21 @@ fn report<R: Clock + Print + AllocGlobal + Threads + Wait + Sync>(
     rt: &R,
     is_timed: bool,
     sort: Sort,
+    way: Way,
     threads: u16,
 ) -> Result<()> {
     let name = sort.name();
+    let by = way.name();
     if !is_timed {
-        let _took = run(rt, sort, threads, 100)?;
-        println!(rt; "{name}, {threads} tokens: done")?;
+        let count = 100;
+        let _took = run(rt, threads, Work { sort, way, count })?;
+        println!(rt; "{name}, {threads} tokens{by}: done")?;
         return Ok(());
     }
-    let each = TIMED_CALLS / u32::from(threads.max(1));
-    let nanoseconds = least_time(rt, sort, threads, each)?;
+    let count = TIMED_CALLS / u32::from(threads.max(1));
+    let nanoseconds = least_time(rt, threads, Work { sort, way, count })?;
     let a_second = u128::from(TIMED_CALLS) * 1_000_000_000 / nanoseconds.max(1);
-    println!(rt; "{name}, {threads} tokens: {a_second} calls a second")?;
+    println!(rt; "{name}, {threads} tokens{by}: {a_second} calls a second")?;
     Ok(())
 }
 
@@ -73,7 +82,12 @@ fn main(rt: HostRuntime) -> Result<()> {
     let is_timed = env::args(&rt)?.count() > 1;
     'sorts: for sort in SORTS {
         'threads: for threads in THREADS {
-            report(&rt, is_timed, sort, threads)?;
+            report(&rt, is_timed, sort, Way::Turn, threads)?;
+        }
+    }
+    'own: for sort in OWN {
+        'apart: for threads in APART {
+            report(&rt, is_timed, sort, Way::Part, threads)?;
         }
     }
     Ok(())

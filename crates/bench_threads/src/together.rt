@@ -2,7 +2,7 @@
 ghost use Rattle.std.specs.Prelude.{◌+◌, ◌<◌, ◌≤◌, All, vec_len, vec_capacity};
 ghost use Rattle.shared_driver.specs.Tokens.{IsOf};
 
-use crate::calls::{BEFORE, Sort, before};
+use crate::calls::{BEFORE, Sort, Way, before};
 use anyhow::{Result, bail};
 use shared_driver::{Closed, Opened, Shared, Thread};
 use std::alloc::Global;
@@ -12,20 +12,35 @@ use std::thread;
 use std::thread::Threads;
 use std::time::{Duration, Instant};
 
-// The calls of one thread. One that finds no memory has no entry, which shows in the end.
-fn calls<R: Wait>(
-    rt: &R,
-    alloc: Global,
-    shared: &Shared,
-    token: &mut Thread,
-    sort: Sort,
-    count: u32,
-)
+/// What each thread does: so many calls of a sort.
+#[derive(Clone, Copy, Drop)]
+pub struct Work {
+    pub sort: Sort,
+    pub way: Way,
+    pub count: u32,
+}
+
+// One call. Where it finds no memory it has no entry, which shows in the end.
+fn call<R: Wait>(rt: &R, alloc: Global, shared: &Shared, token: &mut Thread, work: Work, mark: u64)
     requires { IsOf shared.now token.old }
     ensures { IsOf shared.now token.new }
 {
-    'calls: for mark in 0..u64::from(count) {
-        let _ = shared.call(token, rt, alloc, mark, sort.call(alloc));
+    let call = work.sort.call(alloc);
+    let by_part = matches!(work.way, Way::Part);
+    if by_part && token.is_local(&call) {
+        let _ = token.local(alloc, mark, call);
+        return;
+    }
+    let _ = shared.call(token, rt, alloc, mark, call);
+}
+
+// The calls of one thread.
+fn calls<R: Wait>(rt: &R, alloc: Global, shared: &Shared, token: &mut Thread, work: Work)
+    requires { IsOf shared.now token.old }
+    ensures { IsOf shared.now token.new }
+{
+    'calls: for mark in 0..u64::from(work.count) {
+        call(rt, alloc, shared, token, work, mark);
     }
 }
 
@@ -94,9 +109,8 @@ fn time_threads<R: Clock + Threads + Wait + Sync>(
     alloc: Global,
     shared: &Shared,
     first: &mut Thread,
-    sort: Sort,
     threads: u16,
-    count: u32,
+    work: Work,
 ) -> Result<Duration>
     requires owns { IsOf shared.now first.old }
     requires threads { 0 < threads }
@@ -114,7 +128,7 @@ fn time_threads<R: Clock + Threads + Wait + Sync>(
         &|_, token: &mut Thread|
             requires { IsOf shared.now token.now }
             ensures { IsOf shared.entry.now token.exit.now }
-        { calls(rt, alloc, shared, token, sort, count) },
+        { calls(rt, alloc, shared, token, work) },
     );
     let end = Instant::now(rt);
     join_all(rt, shared, first, tokens);
@@ -124,9 +138,8 @@ fn time_threads<R: Clock + Threads + Wait + Sync>(
 /// How long it takes so many threads to make so many calls each.
 pub fn run<R: Clock + AllocGlobal + Threads + Wait + Sync>(
     rt: &R,
-    sort: Sort,
     threads: u16,
-    count: u32,
+    work: Work,
 ) -> Result<Duration>
     requires { 0 < threads }
 {
@@ -140,9 +153,9 @@ pub fn run<R: Clock + AllocGlobal + Threads + Wait + Sync>(
     else {
         bail!("no memory for a driver");
     };
-    let took = time_threads(rt, alloc, &shared, &mut first, sort, threads, count);
+    let took = time_threads(rt, alloc, &shared, &mut first, threads, work);
     let run = closed(rt, shared, first);
-    if run.journal.len() != u64::from(threads) * (u64::from(BEFORE) + u64::from(count)) {
+    if run.journal.len() != u64::from(threads) * (u64::from(BEFORE) + u64::from(work.count)) {
         bail!("no memory for a call");
     }
     took

@@ -5,8 +5,7 @@ use Rattle.std.proofs.lemmas.List.{append-nil, append_assoc}
 use Rattle.std.proofs.lemmas.List.Elements.{All-append}
 use Rattle.egl_calls.specs.declared.entries.Entry.{Entry}
 use Rattle.egl_calls.specs.Calls.{CallValue, ReplyValue}
-use Rattle.shared_driver.proofs.Owned.{mine_goes}
-use Rattle.shared_driver.proofs.Standing.{own_one}
+use Rattle.shared_driver.proofs.Owned.{mine_goes, own_one}
 use Rattle.shared_driver.specs.Cores.{entry, is_waiting, of_number, wait_end_call, wait_ended}
 use Rattle.shared_driver.specs.Tokens.{AnswersAfterWait, Goes, IsSame, Learns, Owns, Token, mine}
 
@@ -23,8 +22,8 @@ learns_twice t u w s h k = (
 )
 
 -- what was learnt in one turn, and what was added in the next
-pub goes_then : (t u w : Token) (more : List Entry) → t.tail ≡ [] → IsSame t u → Learns t u → Goes u more w → Goes t more w
-goes_then t u w more none s h k = (
+pub goes_then : (t u w : Token) (more : List Entry) → IsSame t u → Learns t u → Goes u more w → Goes t more w
+goes_then t u w more s h k = (
   h.0 ++ k.0,
   All-append (λ (e : Entry). ¬ (Owns t e.thread)) h.0 k.0 h.1 (subst (λ (z : ℕ × List ℕ). All (λ (e : Entry). ¬ ((e.thread ≡ z.0) ⊎ (Contains z.1 e.thread))) k.0) (λ j. (s.0 j, s.1 j)) k.1),
   k.2 ∙ ap (λ l. l ++ more) (ap (λ l. (l ++ k.0) ++ u.tail) h.2 ∙ ap (λ l. ((t.seen ++ h.0) ++ k.0) ++ l) h.3 ∙ ap (λ l. l ++ t.tail) (append_assoc t.seen h.0 k.0)),

@@ -1,7 +1,13 @@
 pub mod Ending
+pub mod Places
 pub mod Rooms
+pub mod Histories
 pub mod Owned
 pub mod Standing
+pub mod Turning
+pub mod OwnCalls
+pub mod Opening
+pub mod Attaching
 pub mod Picking
 pub mod Learning
 pub mod Sending

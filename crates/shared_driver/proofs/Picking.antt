@@ -1,57 +1,65 @@
 -- What a pick leaves.
-use Rattle.std.proofs.Common.{◌≡◌, ℕ, ◌≤◌, ◌<◌, false, List, [], ◌∷◌, ◌++◌, refl, sym, ap, ◌∙◌, length}
-use Rattle.std.specs.Prelude.{slice_index_or}
+use Rattle.std.proofs.Common.{◌≡◌, ℕ, [], ◌∷◌, ◌++◌, refl, sym, ap, ◌∙◌}
 use Rattle.std.proofs.lemmas.List.{append-nil}
-use Rattle.egl_calls.specs.declared.entries.Entry.{Entry}
+use Rattle.egl_calls.specs.Journals.{are_halted}
+use Rattle.egl_model.specs.Frame.{AreOf}
 use Rattle.driver_core.specs.Machine.{Machine}
-use Rattle.turn_lock.specs.Meaning.{StandsFor}
 use Rattle.shared_driver.specs.declared.cores.Core.{Core}
 use Rattle.shared_driver.specs.declared.picks.Pick.{Pick}
 use Rattle.shared_driver.specs.declared.picks.Pick.TheVariants.{Call, Wait, Stop}
 use Rattle.shared_driver.specs.declared.picks.Picked.{Picked}
 use Rattle.shared_driver.specs.declared.picks.Picked.TheVariants.{Replied, Waited, Stopped}
-use Rattle.shared_driver.specs.Cores.{entry, has_halted, meaning, of_number}
+use Rattle.shared_driver.specs.Cores.{entry, of_number}
 use Rattle.shared_driver.specs.Picks.{IsAnswer, IsDone, halts, picked_entries}
-use Rattle.shared_driver.proofs.Standing.{IsCore, halted_none, halted_one, nobody, own_alone, own_one, played, unplayed}
+use Rattle.shared_driver.specs.Turns.{IsTurn}
+use Rattle.shared_driver.proofs.Owned.{or_false, own_one}
+use Rattle.shared_driver.proofs.Standing.{IsRoomed, turn_more, turn_same}
 
--- y is z with these entries more
-pub record Done (f z y : Core) (n : ℕ) (p : Pick) : Type 0 where
-  pub more : List Entry
-  pub added : y.journal.entries ≡ z.journal.entries ++ more
-  pub own : (i : ℕ) (d : Entry) → i < length more → (slice_index_or more i d).thread ≡ n
-  pub halts_is : has_halted n more ≡ halts p
-  pub core : IsCore f y
-  pub made : y.driver.made ≡ z.driver.made
+-- the turn goes on with the value y, in which the picked call was played
+pub done : (f x y : Core) (n : ℕ) (p : Pick) (r : Picked) → IsTurn f x n [] → IsRoomed x y n → IsDone x n p r y → IsTurn f y n []
+done f x y n (Call mark call) (Replied reply) k r d = turn_more f x y n mark call reply [] k r d.1 d.2 (d.0 ∙ ap (λ l. l ++ entry n mark call reply ∷ []) (sym (append-nil x.journal.entries)))
+done f x y n (Call mark call) Waited k r d = absurd d
+done f x y n (Call mark call) Stopped k r d = absurd d
+done f x y n Wait (Replied reply) k r d = absurd d
+done f x y n Wait Waited k r d = turn_same f x y n [] [] k r d.1 (ap (λ l. l ++ []) d.0) refl
+done f x y n Wait Stopped k r d = absurd d
+done f x y n Stop (Replied reply) k r d = absurd d
+done f x y n Stop Waited k r d = absurd d
+done f x y n Stop Stopped k r d = turn_same f x y n [] [] k r d.1 (ap (λ l. l ++ []) d.0) refl
 
-idle : (f z x y : Core) (n : ℕ) (p : Pick) → halts p ≡ false → z ≡ x → StandsFor meaning f x x.journal.entries → (y.journal.entries ≡ z.journal.entries) × (y.driver ≡ z.driver)
-    → (y.live ≡ z.live) × (y.rooms ≡ z.rooms) × (y.promised ≡ z.promised) → y.promised ≤ y.journal.spare → Done f z y n p
-idle f z x y n p none is s d kept spare = record {
-  more = [];
-  added = d.0 ∙ sym (append-nil z.journal.entries);
-  own = nobody n;
-  halts_is = halted_none n ∙ sym none;
-  core = unplayed f z x y is s d.0 d.1 kept spare;
-  made = ap (λ (m : Machine). m.made) d.1;
-}
+pub done_made : (x y : Core) (n : ℕ) (p : Pick) (r : Picked) → IsDone x n p r y → y.driver.made ≡ x.driver.made
+done_made x y n (Call mark call) (Replied reply) d = ap (λ (m : Machine). m.made) d.2
+done_made x y n (Call mark call) Waited d = absurd d
+done_made x y n (Call mark call) Stopped d = absurd d
+done_made x y n Wait (Replied reply) d = absurd d
+done_made x y n Wait Waited d = ap (λ (m : Machine). m.made) d.1
+done_made x y n Wait Stopped d = absurd d
+done_made x y n Stop (Replied reply) d = absurd d
+done_made x y n Stop Waited d = absurd d
+done_made x y n Stop Stopped d = ap (λ (m : Machine). m.made) d.1
 
-pub done : (f z x y : Core) (n : ℕ) (p : Pick) (r : Picked) → z ≡ x → StandsFor meaning f x x.journal.entries → IsDone z n p r y
-    → (y.live ≡ z.live) × (y.rooms ≡ z.rooms) × (y.promised ≡ z.promised) → y.promised ≤ y.journal.spare → Done f z y n p
-done f z x y n (Call mark call) (Replied reply) is s d kept spare = record {
-  more = entry n mark call reply ∷ [];
-  added = d.0;
-  own = own_alone (entry n mark call reply) n refl;
-  halts_is = halted_one n mark call reply;
-  core = played f z x y n mark call reply is s d.0 d.1 d.2 kept spare;
-  made = ap (λ (m : Machine). m.made) d.2;
-}
-done f z x y n (Call mark call) Waited is s d kept spare = absurd d
-done f z x y n (Call mark call) Stopped is s d kept spare = absurd d
-done f z x y n Wait (Replied reply) is s d kept spare = absurd d
-done f z x y n Wait Waited is s d kept spare = idle f z x y n Wait refl is s d kept spare
-done f z x y n Wait Stopped is s d kept spare = absurd d
-done f z x y n Stop (Replied reply) is s d kept spare = absurd d
-done f z x y n Stop Waited is s d kept spare = absurd d
-done f z x y n Stop Stopped is s d kept spare = idle f z x y n Stop refl is s d kept spare
+-- the entries of a pick are of its number, and halt as the pick does
+pub picked_of : (n : ℕ) (p : Pick) (r : Picked) → AreOf n (picked_entries n p r)
+picked_of n (Call mark call) (Replied reply) = (refl, tt)
+picked_of n (Call mark call) Waited = tt
+picked_of n (Call mark call) Stopped = tt
+picked_of n Wait (Replied reply) = tt
+picked_of n Wait Waited = tt
+picked_of n Wait Stopped = tt
+picked_of n Stop (Replied reply) = tt
+picked_of n Stop Waited = tt
+picked_of n Stop Stopped = tt
+
+pub picked_halts : (x y : Core) (n : ℕ) (p : Pick) (r : Picked) → IsDone x n p r y → are_halted (picked_entries n p r) ≡ halts p
+picked_halts x y n (Call mark call) (Replied reply) d = or_false _
+picked_halts x y n (Call mark call) Waited d = absurd d
+picked_halts x y n (Call mark call) Stopped d = absurd d
+picked_halts x y n Wait (Replied reply) d = refl
+picked_halts x y n Wait Waited d = refl
+picked_halts x y n Wait Stopped d = refl
+picked_halts x y n Stop (Replied reply) d = refl
+picked_halts x y n Stop Waited d = refl
+picked_halts x y n Stop Stopped d = refl
 
 -- each answer comes by its pick
 pub answers : (z y : Core) (n : ℕ) (p : Pick) (r : Picked) → IsDone z n p r y → IsAnswer p r

@@ -27,6 +27,7 @@ use Rattle.object_table.specs.contracts.table.ObjectTable as objects
 use Rattle.surface_store.specs.contracts.window_tables.WindowTable as windows
 use Rattle.driver_core.specs.contracts.threads.ThreadTable as threads
 use Rattle.driver_core.specs.contracts.machine.Driver as driver
+use Rattle.thread_part.specs.contracts.thread_part.ThreadPart as thread_part
 use Rattle.shared_driver.specs.contracts.cores.Core as core
 use Rattle.shared_driver.specs.contracts.news.News as news
 use Rattle.shared_driver.specs.contracts.tokens.Shared as shared
@@ -107,9 +108,12 @@ bells_send = search (sendable, crosses) depth 60
 pub bells_sync : IsSync bells.the_row
 bells_sync = search (sendable, crosses) depth 60
 
+pub part_send : IsSend thread_part.the_row
+part_send = search (sendable, crosses) depth 60 fits 20000
+
 -- a token may move to another thread, and the shared driver may move and be lent to one
 pub thread_send : IsSend thread.the_row
-thread_send = let a = core_send in search (sendable, crosses, seat.the_send) depth 60 fits 20000
+thread_send = let a = core_send in let b = part_send in let d = entry_send in search (sendable, crosses, seat.the_send) depth 60 fits 40000
 
 pub shared_send : IsSend shared.the_row
 shared_send = let a = core_send in let b = bells_send in let d = news_send in search (sendable, crosses, table.the_send, lease.the_send) depth 60 fits 20000

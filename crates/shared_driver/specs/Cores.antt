@@ -1,5 +1,5 @@
 -- What stands under the lock, and what it means.
-use Rattle.std.specs.Prelude.{map, ◌∷◌, ◌≡◌, ℕ, ◌-◌, ◌<◌, ◌≤◌, ◌==◌, Bool, true, false, List, [], Some, None, replicate, pos}
+use Rattle.std.specs.Prelude.{map, not, ◌&&◌, ◌∷◌, ◌≡◌, ℕ, ◌-◌, ◌<◌, ◌≤◌, ◌==◌, Bool, true, false, List, [], Some, None, replicate, pos}
 use Rattle.std.specs.Prelude as std
 use Rattle.std.specs.List.{sum_by, filter}
 use Rattle.std.specs.declared.snapshot.Snapshot.{Snapshot}
@@ -8,12 +8,20 @@ use Rattle.egl_calls.specs.Journals.{are_halted}
 use Rattle.egl_calls.specs.declared.entries.Entry.{Entry}
 use Rattle.egl_calls.specs.declared.errors.Outcome.{Outcome}
 use Rattle.egl_calls.specs.declared.errors.Outcome.TheVariants.{Done, Waiting}
-use Rattle.egl_calls.specs.declared.kinds.Kind.TheVariants.{Own}
+use Rattle.egl_calls.specs.declared.kinds.Kind.{Kind}
+use Rattle.egl_calls.specs.declared.kinds.Kind.TheVariants.{Egl, Gl, Own}
+use Rattle.egl_calls.specs.declared.kinds.EglKind.TheVariants.{Terminate, DestroySurface, DestroyContext, DestroySync, DestroyImage, ReleaseThread, WaitClient}
+use Rattle.egl_calls.specs.declared.kinds.GlKind.TheVariants.{Flush, Finish, DeleteTextures, DeleteBuffers, DeleteRenderbuffers, DeleteFramebuffers}
 use Rattle.egl_calls.specs.declared.kinds.OwnKind.{OwnKind}
 use Rattle.egl_calls.specs.declared.kinds.OwnKind.TheVariants.{Halt, WaitEnd}
 use Rattle.egl_names.specs.declared.codes.TheConstants.{EGL_CONDITION_SATISFIED}
+use Rattle.egl_model.specs.Hidden.{hide}
+use Rattle.egl_model.specs.History.{replay_from}
+use Rattle.egl_model.specs.Local.{is_local}
+use Rattle.egl_model.specs.Parts.{Private, part_of}
 use Rattle.egl_model.specs.State.{State, opening}
 use Rattle.egl_model.specs.Step.{step}
+use Rattle.driver_core.specs.Machine.{outs}
 use Rattle.turn_lock.specs.Meaning.{Meaning}
 use Rattle.shared_driver.specs.declared.cores.Core.{Core}
 use Rattle.shared_driver.specs.declared.tokens.AttachError.{AttachError}
@@ -64,9 +72,14 @@ place_for false = 0
 unfoldable pub owed : List ℕ → ℕ
 owed rooms = sum_by (λ r. r - 1) rooms
 
--- the value keeps the state, and its journal has room for all that is promised
+-- for each token made, whether the part of its thread is out of the driver: exactly where its room isn't 0
+unfoldable pub away_by : List ℕ → List Bool
+away_by rooms = map (λ r. not (r == 0)) rooms
+
+-- the value keeps the state outside the parts that are out, and its journal has room for all that is promised
 pub record Stands (x : Core) (s : State) : Type 0 where
-  pub driver : x.driver.state ≡ s
+  pub driver : x.driver.state ≡ hide (outs x.driver.away) s
+  pub away : x.driver.away ≡ away_by x.rooms.items
   pub promised : x.promised ≡ owed x.rooms.items
   pub spare : x.promised ≤ x.journal.spare
 
@@ -74,7 +87,7 @@ pub record Stands (x : Core) (s : State) : Type 0 where
 abbrev pub origin : Core → State
 origin x = record (opening [] x.driver.state.video) { windows = x.driver.state.windows }
 
--- the driver stands for the state, and an entry is a legal step
+-- the driver stands for the state outside the parts that are out, and an entry is a legal step
 abbrev pub meaning : Meaning Core Entry
 meaning = record {
   Content = State;
@@ -93,13 +106,41 @@ abbrev pub replies_from : State → List Entry → List ReplyValue
 replies_from s [] = []
 replies_from s (e ∷ es) = (step s e.thread e.call).reply ∷ replies_from (step s e.thread e.call).state es
 
-abbrev pub replies_in : std.Option (Snapshot Core) → List Entry → List ReplyValue
-replies_in None es = []
-replies_in (Some first) es = replies_from (origin first.value) es
+-- the state that the history starts at, in the lock that began with this value
+abbrev pub start_in : std.Option (Snapshot Core) → State
+start_in None = opening [] 0
+start_in (Some first) = origin first.value
 
--- Legal in the lock that began with this value. It is an equation, so that a struct can keep it
-abbrev pub IsLegalIn : std.Option (Snapshot Core) → List Entry → Type 0
-IsLegalIn first es = replies_in first es ≡ map (λ (e : Entry). e.reply) es
+-- Legal from this state on. It is an equation, so that a struct can keep it
+abbrev pub IsLegalAt : State → List Entry → Type 0
+IsLegalAt s es = replies_from s es ≡ map (λ (e : Entry). e.reply) es
+
+-- whether each entry is of the thread t and local at its place; a test, so that a struct can keep it
+abbrev pub are_local : State → ℕ → List Entry → Bool
+are_local s t [] = true
+are_local s t (e ∷ es) = (e.thread == t) && (is_local (part_of s t) e.call && are_local (step s e.thread e.call).state t es)
+
+-- the private part of the thread t after these entries
+abbrev pub part_after : State → ℕ → List Entry → Private
+part_after s t es = part_of (replay_from s es) t
+
+-- the calls that use one of the token's places, where one is free: none of them takes memory
+abbrev pub takes_place : Kind → Bool
+takes_place (Egl Terminate) = true
+takes_place (Egl DestroySurface) = true
+takes_place (Egl DestroyContext) = true
+takes_place (Egl DestroySync) = true
+takes_place (Egl DestroyImage) = true
+takes_place (Egl ReleaseThread) = true
+takes_place (Egl WaitClient) = true
+takes_place (Gl Flush) = true
+takes_place (Gl Finish) = true
+takes_place (Gl DeleteTextures) = true
+takes_place (Gl DeleteBuffers) = true
+takes_place (Gl DeleteRenderbuffers) = true
+takes_place (Gl DeleteFramebuffers) = true
+takes_place (Own Halt) = true
+takes_place k = false
 
 -- it says that it is full exactly where 65,536 tokens were made
 abbrev pub IsFull : ℕ → AttachError → Type 0

@@ -1,10 +1,14 @@
 -- A token as a value.
-use Rattle.std.specs.Prelude.{slice_index, ◌≡◌, ◌+◌, ◌≤◌, true, false, ◌⊎◌, ℕ, Bool, List, [], ◌∷◌, ◌++◌, All, Contains}
+use Rattle.std.specs.Prelude.{slice_index, ◌≡◌, ◌+◌, ◌-◌, ◌≤◌, ◌&&◌, nat_lt, if◌then◌else◌, length, true, false, ◌⊎◌, ℕ, Bool, List, [], ◌∷◌, ◌++◌, All, Contains}
 use Rattle.egl_calls.specs.declared.entries.Entry.{Entry}
 use Rattle.egl_calls.specs.Calls.{CallValue, ReplyValue}
+use Rattle.egl_calls.specs.declared.kinds.Kind.{Kind}
+use Rattle.egl_model.specs.Local.{is_local}
+use Rattle.egl_model.specs.History.{replay_from}
+use Rattle.egl_model.specs.Parts.{part_of}
 use Rattle.egl_model.specs.State.{State}
 use Rattle.turn_lock.specs.Passes as passes
-use Rattle.shared_driver.specs.Cores.{entry, halt_call, has_halted, is_waiting, of_number, origin, room_for, wait_end_call, wait_ended}
+use Rattle.shared_driver.specs.Cores.{entry, halt_call, has_halted, is_waiting, of_number, origin, room_for, start_in, takes_place, wait_end_call, wait_ended}
 use Rattle.shared_driver.specs.declared.tokens.Shared.{Shared}
 use Rattle.shared_driver.specs.declared.tokens.Thread.{Thread}
 
@@ -20,13 +24,18 @@ pub record Token : Type 0 where
   pub made : ℕ
   pub live : ℕ
   pub sole : Bool
+  -- how many of its 256 places are free
+  pub places : ℕ
+  -- the state that the history starts at
+  pub start : State
 
 abbrev pub token_of : Thread → Token
-token_of t = let v = passes.view_of t.pass in record { number = v.number; seen = v.seen; tail = []; ended = v.ended; made = v.counts.made; live = v.counts.live; sole = t.sole }
+token_of t = let v = passes.view_of t.hold.pass in
+    record { number = v.number; seen = v.seen; tail = t.hold.tail.items; ended = v.ended; made = v.counts.made; live = v.counts.live; sole = t.sole; places = t.places; start = start_in v.first }
 
 -- the token came from this driver's `open` or `attach`
 abbrev pub IsOf : Shared → Thread → Type 0
-IsOf s t = passes.IsOf s.turns t.pass
+IsOf s t = passes.IsOf s.turns t.hold.pass
 
 -- the state that the history starts at
 abbrev pub opening_of : Shared → State
@@ -42,6 +51,18 @@ AreOthers t es = All (λ e. ¬ (Owns t e.thread)) es
 -- the token's own entries
 abbrev pub mine : Token → List Entry
 mine t = of_number t.number (t.seen ++ t.tail)
+
+-- the state after all that it knows
+abbrev pub state_of : Token → State
+state_of t = replay_from t.start (t.seen ++ t.tail)
+
+-- whether the thread's private part answers a call, and a place is free for it
+abbrev pub may_be_local : Token → CallValue → Bool
+may_be_local t c = is_local (part_of (state_of t) t.number) c && nat_lt 0 t.places
+
+-- how many places are free after a shared call of this kind
+abbrev pub places_after : Kind → ℕ → ℕ
+places_after k free = if takes_place k && nat_lt 0 free then free - 1 else 256
 
 -- one of its own entries is a Halt
 abbrev pub has_given_up : Token → Bool
@@ -79,9 +100,9 @@ Halts t u = (r : ReplyValue) × Goes t (entry t.number 0 halt_call r ∷ []) u �
 
 -- ---- Tokens that begin and end.
 
--- The new token has seen what its maker has, and has nothing of its own. Its number is that of the tokens made before
+-- The new token has seen what its maker has, and has nothing of its own. Its number is that of the tokens made before, and all its places are free
 abbrev pub IsNew : Token → Token → Type 0
-IsNew from t = (t.number + 1 ≡ from.made) × (from.made ≤ 65536) × (t.seen ≡ from.seen) × (t.tail ≡ []) × (t.ended ≡ []) × (t.sole ≡ false)
+IsNew from t = (t.number + 1 ≡ from.made) × (from.made ≤ 65536) × (t.seen ≡ from.seen) × (t.tail ≡ []) × (t.ended ≡ []) × (t.sole ≡ false) × (t.places ≡ 256) × (t.start ≡ from.start)
 
 -- it has seen all that this token had seen, and its tail, which was handed in, and else entries of others
 abbrev pub Includes : Token → List Entry → Type 0
@@ -91,6 +112,6 @@ Includes t seen = (before after : List Entry) × AreOthers t before × AreOthers
 abbrev pub KnowsEnded : Token → List Entry → Type 0
 KnowsEnded t seen = (n : ℕ) → Contains t.ended n → of_number n seen ≡ of_number n t.seen
 
--- its room has a place more than it needs to halt
+-- its room has a place more than it needs to halt, for its own calls and for its free places
 abbrev pub HasPlace : Thread → Type 0
-HasPlace t = let v = passes.view_of t.pass in room_for t.halted + 1 ≤ slice_index v.rooms v.number
+HasPlace t = let v = passes.view_of t.hold.pass in room_for t.halted + t.places + length t.hold.tail.items + 1 ≤ slice_index v.rooms v.number

@@ -1,22 +1,24 @@
 //! What a thread does with its token.
-ghost use Rattle.std.specs.Prelude.{◌≡◌, ◌==◌, ◌≤◌, ◌<◌, ◌||◌, ◌⊎◌, ◌∷◌, ◌++◌, [], true, false, OnErr, OnOk, IfOk, IfErr, All, List};
+ghost use Rattle.std.specs.Prelude.{◌≡◌, ◌==◌, ◌≤◌, ◌<◌, ◌+◌, ◌||◌, ◌⊎◌, ◌∷◌, ◌++◌, [], true, false, slice_index_or, OnErr, OnOk, IfOk, IfErr, IsOk, All, List};
 ghost use Rattle.surface_store.specs.Windows.{windows_ok};
 ghost use Rattle.egl_calls.specs.Kinds.{is_built};
 ghost use Rattle.egl_calls.specs.declared.entries.Entry.{Entry};
+ghost use Rattle.egl_model.specs.Hidden.{hide};
 ghost use Rattle.egl_model.specs.State.{opening};
 ghost use Rattle.egl_model.specs.Waits.{is_wait_end};
 ghost use Rattle.egl_model.specs.History.{IsLegalFrom, replay_from};
-ghost use Rattle.driver_core.specs.Machine.{Machine};
+ghost use Rattle.driver_core.specs.Machine.{Machine, outs};
 ghost use Rattle.shared_driver.specs.declared.picks.Pick.{Pick as ThePick};
-ghost use Rattle.shared_driver.specs.Cores.{entry, is_waiting};
+ghost use Rattle.shared_driver.specs.Cores.{entry, is_waiting, takes_place};
 ghost use Rattle.shared_driver.specs.Picks.{IsAnswer, IsAtTurn, picked_entries};
-ghost use Rattle.shared_driver.specs.Tokens.{AnswersAfterWait, AnswersAtOnce, Goes, Halts, HasPlace, IsOf, IsSame, Learns, Owns, has_given_up, mine, opening_of, token_of};
+ghost use Rattle.shared_driver.specs.Tokens.{AnswersAfterWait, AnswersAtOnce, Goes, Halts, HasPlace, IsOf, IsSame, Learns, Owns, has_given_up, mine, opening_of, places_after, token_of};
 
-use crate::cores::{Core, is_waiting};
+use crate::cores::{Core, PLACES, is_waiting};
+use crate::newcomers::own_calls;
 use crate::news::News;
-use crate::picks::{Picked, PickedCall, Picker, is_halt};
-use crate::tokens::{Closed, Opened, Shared, Thread};
-use egl_calls::{Call, NoMemory, Reply};
+use crate::picks::{Picked, PickedCall, Picker, is_halt, was_played};
+use crate::tokens::{Closed, Holding, Opened, Shared, Thread};
+use egl_calls::{Call, EglKind, GlKind, Kind, NoMemory, OwnKind, Reply};
 use std::alloc::Global;
 use std::sync::Wait;
 use surface_store::WindowSpec;
@@ -28,6 +30,31 @@ fn either(a: bool, b: bool) -> bool
     a || b
 }
 
+/// Whether a call of this kind uses one of the token's places, where one is free.
+fn takes_place(kind: Kind) -> bool
+    ensures { result ≡ takes_place kind }
+{
+    matches!(
+        kind,
+        Kind::Egl(
+            EglKind::Terminate
+                | EglKind::DestroySurface
+                | EglKind::DestroyContext
+                | EglKind::DestroySync
+                | EglKind::DestroyImage
+                | EglKind::ReleaseThread
+                | EglKind::WaitClient
+        ) | Kind::Gl(
+            GlKind::Flush
+                | GlKind::Finish
+                | GlKind::DeleteTextures
+                | GlKind::DeleteBuffers
+                | GlKind::DeleteRenderbuffers
+                | GlKind::DeleteFramebuffers
+        ) | Kind::Own(OwnKind::Halt)
+    )
+}
+
 impl Shared {
     /// A driver with one token, whose history is empty.
     pub fn open(alloc: Global, windows: &[WindowSpec], video: u64) -> Result<Opened, NoMemory>
@@ -35,9 +62,11 @@ impl Shared {
         requires video { video ≤ 1073741824 }
         ensures owns { IfOk result (λ o. IsOf o.shared o.thread) }
         ensures opening { IfOk result (λ o. opening_of o.shared ≡ opening windows.now video) }
-        ensures token { IfOk result (λ o. token_of o.thread ≡ record { number = 0; seen = []; tail = []; ended = []; made = 1; live = 1; sole = false }) }
+        ensures token { IfOk result (λ o. token_of o.thread ≡ record { number = 0; seen = []; tail = []; ended = []; made = 1; live = 1; sole = false; places = 256; start = opening windows.now video }) }
     {
-        let core = Core::new(alloc, windows, video)?;
+        let mut core = Core::new(alloc, windows, video)?;
+        let tail = own_calls(alloc)?;
+        let part = core.part_out(0);
         let Ok(Opening { turns, pass }) = Turns::new(alloc, core) else {
             return Err(NoMemory);
         };
@@ -47,15 +76,20 @@ impl Shared {
                 news: News::new(),
             },
             thread: Thread {
-                pass,
-                number: 0,
+                hold: Holding {
+                    pass,
+                    number: 0,
+                    part: Some(part),
+                    tail,
+                },
+                places: PLACES,
                 halted: false,
                 sole: false,
             },
         })
     }
 
-    // The turn in which a call is played. Where it begins a wait, the token's room then has a place for the end.
+    // The turn in which a call is played that gives the token's places back. Where it begins a wait, the token's room then has a place for the end.
     fn begin<R: Wait>(
         &self,
         thread: &mut Thread,
@@ -72,28 +106,70 @@ impl Shared {
         ensures ok { IfOk result (λ r. Goes (token_of thread.old) (entry (token_of thread.old).number mark call r ∷ []) (token_of thread.new)) }
         ensures mine { IfOk result (λ r. mine (token_of thread.new) ≡ mine (token_of thread.old) ++ entry (token_of thread.old).number mark call r ∷ []) }
         ensures place { IfOk result (λ r. is_waiting r.outcome ≡ true → HasPlace thread.new) }
+        ensures places { OnOk result ((token_of thread.new).places ≡ 256) }
         ensures err { OnErr result (Learns (token_of thread.old) (token_of thread.new)) }
         ensures err_mine { OnErr result (mine (token_of thread.new) ≡ mine (token_of thread.old)) }
+        ensures err_places { OnErr result ((token_of thread.new).places ≡ (token_of thread.old).places) }
     {
         let halts = is_halt(call.kind);
-        let mut held = self.turns.take_turn(&mut thread.pass, rt);
-        match held.value().begin(alloc, thread.number, mark, call) {
+        let back = PLACES - thread.places;
+        let mut held = self.begin_turn(&mut thread.hold, rt);
+        let core = held.value();
+        match core.begin(
+            alloc,
+            thread.hold.number,
+            mark,
+            call,
+            &mut thread.hold.tail,
+            back,
+        ) {
             Ok(reply) => {
-                self.turns.give_back(&mut thread.pass, held);
+                self.end_turn(&mut thread.hold, held);
+                thread.places = PLACES;
                 thread.halted = either(thread.halted, halts);
                 self.news.tell();
                 Ok(reply)
             }
             Err(error) => {
-                self.turns.give_back(&mut thread.pass, held);
+                self.end_turn(&mut thread.hold, held);
                 Err(error)
             }
         }
     }
 
+    // The turn in which a call is played in one of the token's places.
+    fn place<R: Wait>(
+        &self,
+        thread: &mut Thread,
+        rt: &R,
+        alloc: Global,
+        mark: u64,
+        call: Call,
+    ) -> Reply
+        requires owns { IsOf self.now thread.old }
+        requires built { is_built call.kind ≡ true }
+        requires kind { takes_place call.kind ≡ true }
+        requires free { 0 < (token_of thread.old).places }
+        ensures owns { IsOf self.now thread.new }
+        ensures same { IsSame (token_of thread.old) (token_of thread.new) }
+        ensures sole { (token_of thread.new).sole ≡ (token_of thread.old).sole }
+        ensures answers { AnswersAtOnce (token_of thread.old) mark call result (token_of thread.new) }
+        ensures places { (token_of thread.new).places + 1 ≡ (token_of thread.old).places }
+    {
+        let halts = is_halt(call.kind);
+        let mut held = self.begin_turn(&mut thread.hold, rt);
+        let core = held.value();
+        let reply = core.add(alloc, thread.hold.number, mark, call, &mut thread.hold.tail);
+        self.end_turn(&mut thread.hold, held);
+        thread.places -= 1;
+        thread.halted = either(thread.halted, halts);
+        self.news.tell();
+        reply
+    }
+
     /// Plays a call, and answers its reply. Its entry stands after all that the token saw, and after what others added meanwhile. A client wait that blocks waits here, and answers what its end does; it sleeps between the turns of others, and may never return.
     ///
-    /// Where memory runs out nothing is added. The end of a wait takes no memory.
+    /// The token's own calls enter the history directly before it. Where memory runs out nothing is added. The end of a wait takes no memory, and neither does a call that destroys, releases, flushes or halts while the token has a free place: it then uses one. Each other call gives all of the token's places back.
     pub fn call<R: Wait>(
         &self,
         thread: &mut Thread,
@@ -109,9 +185,15 @@ impl Shared {
         ensures same { IsSame (token_of thread.old) (token_of thread.new) }
         ensures sole { (token_of thread.new).sole ≡ (token_of thread.old).sole }
         ensures ok { IfOk result (λ r. AnswersAtOnce (token_of thread.old) mark call r (token_of thread.new) ⊎ AnswersAfterWait (token_of thread.old) mark call r (token_of thread.new)) }
+        ensures memory { takes_place call.kind ≡ true → 0 < (token_of thread.old).places → IsOk result }
+        ensures places { OnOk result ((token_of thread.new).places ≡ places_after call.kind (token_of thread.old).places) }
         ensures err { OnErr result (Learns (token_of thread.old) (token_of thread.new)) }
         ensures err_mine { OnErr result (mine (token_of thread.new) ≡ mine (token_of thread.old)) }
+        ensures err_places { OnErr result ((token_of thread.new).places ≡ (token_of thread.old).places) }
     {
+        if takes_place(call.kind) && thread.places > 0 {
+            return Ok(self.place(thread, rt, alloc, mark, call));
+        }
         let reply = self.begin(thread, rt, alloc, mark, call)?;
         if is_waiting(reply.outcome) {
             return Ok(self.end_wait(thread, rt, alloc, mark));
@@ -128,10 +210,11 @@ impl Shared {
         ensures seen { Learns (token_of thread.old) (token_of thread.new) }
         ensures mine { mine (token_of thread.new) ≡ mine (token_of thread.old) }
         ensures live { result ≡ (token_of thread.new).live }
+        ensures places { (token_of thread.new).places ≡ (token_of thread.old).places }
     {
-        let mut held = self.turns.take_turn(&mut thread.pass, rt);
+        let mut held = self.turns.take_turn(&mut thread.hold.pass, rt);
         let live = held.value().live;
-        self.turns.give_back(&mut thread.pass, held);
+        self.turns.give_back(&mut thread.hold.pass, held);
         live
     }
 
@@ -143,8 +226,13 @@ impl Shared {
         ensures sole { (token_of thread.new).sole ≡ (token_of thread.old).sole }
         ensures seen { Goes (token_of thread.old) [] (token_of thread.new) }
         ensures mine { mine (token_of thread.new) ≡ mine (token_of thread.old) }
+        ensures places { (token_of thread.new).places ≡ (token_of thread.old).places }
     {
-        let _ = self.visit(thread, rt);
+        let mut held = self.begin_turn(&mut thread.hold, rt);
+        let core = held.value();
+        core.hand_in(thread.hold.number, &mut thread.hold.tail);
+        self.end_turn(&mut thread.hold, held);
+        self.news.tell();
     }
 
     /// How many tokens are not yet joined, as counted in this call's turn. It takes no memory.
@@ -156,6 +244,7 @@ impl Shared {
         ensures mine { mine (token_of thread.new) ≡ mine (token_of thread.old) }
         ensures live { result ≡ (token_of thread.new).live }
         ensures sole { (token_of thread.new).sole ≡ (result == 1) }
+        ensures places { (token_of thread.new).places ≡ (token_of thread.old).places }
     {
         let live = self.visit(thread, rt);
         thread.sole = live == 1;
@@ -173,18 +262,27 @@ impl Shared {
     {
         let Shared { turns, news: _ } = self;
         let Thread {
-            pass,
-            number: _,
+            hold: Holding {
+                pass,
+                number,
+                part,
+                mut tail,
+            },
+            places: _,
             halted: _,
             sole: _,
         } = thread;
+        let Some(part) = part else { unreachable!() };
+        let mut core = turns.close(pass);
+        core.part_in(number, part);
+        core.hand_in(number, &mut tail);
         let Core {
             driver,
             journal,
             live: _,
             rooms: _,
             promised: _,
-        } = turns.close(pass);
+        } = core;
         Closed { driver, journal }
     }
 
@@ -196,10 +294,12 @@ impl Shared {
         ensures same { IsSame (token_of thread.old) (token_of thread.new) }
         ensures sole { (token_of thread.new).sole ≡ (token_of thread.old).sole }
         ensures seen { Halts (token_of thread.old) (token_of thread.new) }
+        ensures places { (token_of thread.new).places ≡ (token_of thread.old).places }
     {
-        let mut held = self.turns.take_turn(&mut thread.pass, rt);
-        held.value().halt(alloc, thread.number);
-        self.turns.give_back(&mut thread.pass, held);
+        let mut held = self.begin_turn(&mut thread.hold, rt);
+        let core = held.value();
+        core.halt(alloc, thread.hold.number, &mut thread.hold.tail);
+        self.end_turn(&mut thread.hold, held);
         thread.halted = true;
         self.news.tell();
     }
@@ -212,9 +312,10 @@ impl Shared {
         ensures sole { (token_of thread.new).sole ≡ (token_of thread.old).sole }
         ensures first { has_given_up (token_of thread.old) ≡ false → Halts (token_of thread.old) (token_of thread.new) }
         ensures again { has_given_up (token_of thread.old) ≡ true → Goes (token_of thread.old) [] (token_of thread.new) × (mine (token_of thread.new) ≡ mine (token_of thread.old)) }
+        ensures places { (token_of thread.new).places ≡ (token_of thread.old).places }
     {
         if thread.halted {
-            let _ = self.visit(thread, rt);
+            self.finish(thread, rt);
         } else {
             self.halt_first(thread, rt, alloc);
         }
@@ -222,7 +323,7 @@ impl Shared {
 
     /// Plays the call that the picker picks in this turn, after the token's own calls were handed in. A client wait that blocks is answered with the outcome Waiting, and its end is picked as a call of its own.
     ///
-    /// Where memory runs out nothing is added; the picker may have changed.
+    /// The picker sees the driver outside the private parts of other threads. Where memory runs out no call is added, but the token's own calls were handed in; the picker may have changed.
     pub fn call_picked<R: Wait, P: Picker>(
         &self,
         thread: &mut Thread,
@@ -231,25 +332,39 @@ impl Shared {
         picker: &mut P,
     ) -> Result<Picked, NoMemory>
         requires owns { IsOf self.now thread.old }
-        requires may { (es : List Entry) (d : Machine) → IsLegalFrom (opening_of self.now) es → IsAtTurn (token_of thread.old) es → d.state ≡ replay_from (opening_of self.now) es → (token_of thread.old).number < d.made → P.may picker.old es d }
+        requires may { (es : List Entry) (d : Machine) → IsLegalFrom (opening_of self.now) es → IsAtTurn (token_of thread.old) es → d.state ≡ hide (outs d.away) (replay_from (opening_of self.now) es) → (token_of thread.old).number < d.made → slice_index_or d.away (token_of thread.old).number false ≡ false → P.may picker.old es d }
         ensures owns { IsOf self.now thread.new }
         ensures same { IsSame (token_of thread.old) (token_of thread.new) }
         ensures sole { (token_of thread.new).sole ≡ (token_of thread.old).sole }
-        ensures ok { IfOk result (λ r. (es : List Entry) × (d : Machine) × (p : ThePick) × IsAtTurn (token_of thread.old) es × (d.state ≡ replay_from (opening_of self.now) es) × P.picks picker.old es d p picker.new × IsAnswer p r × ((token_of thread.new).seen ≡ es ++ picked_entries (token_of thread.old).number p r) × (mine (token_of thread.new) ≡ mine (token_of thread.old) ++ picked_entries (token_of thread.old).number p r)) }
+        ensures ok { IfOk result (λ r. (es : List Entry) × (d : Machine) × (p : ThePick) × IsAtTurn (token_of thread.old) es × (d.state ≡ hide (outs d.away) (replay_from (opening_of self.now) es)) × P.picks picker.old es d p picker.new × IsAnswer p r × ((token_of thread.new).seen ≡ es ++ picked_entries (token_of thread.old).number p r) × (mine (token_of thread.new) ≡ mine (token_of thread.old) ++ picked_entries (token_of thread.old).number p r)) }
         ensures tail { OnOk result ((token_of thread.new).tail ≡ []) }
-        ensures err { OnErr result (Learns (token_of thread.old) (token_of thread.new)) }
+        ensures places { OnOk result ((token_of thread.new).places ≡ 256) }
+        ensures err { OnErr result (Goes (token_of thread.old) [] (token_of thread.new)) }
         ensures err_mine { OnErr result (mine (token_of thread.new) ≡ mine (token_of thread.old)) }
+        ensures err_places { OnErr result ((token_of thread.new).places ≡ (token_of thread.old).places) }
     {
-        let mut held = self.turns.take_turn(&mut thread.pass, rt);
-        match held.value().pick(alloc, thread.number, picker) {
+        let back = PLACES - thread.places;
+        let had_own = !thread.hold.tail.is_empty();
+        let mut held = self.begin_turn(&mut thread.hold, rt);
+        let core = held.value();
+        core.hand_in(thread.hold.number, &mut thread.hold.tail);
+        match core.pick(
+            alloc,
+            thread.hold.number,
+            picker,
+            &mut thread.hold.tail,
+            back,
+        ) {
             Ok(PickedCall { picked, halts }) => {
-                self.turns.give_back(&mut thread.pass, held);
+                self.end_turn(&mut thread.hold, held);
+                thread.places = PLACES;
                 thread.halted = either(thread.halted, halts);
-                self.news.tell_of(&picked);
+                self.news.tell_where(either(had_own, was_played(&picked)));
                 Ok(picked)
             }
             Err(error) => {
-                self.turns.give_back(&mut thread.pass, held);
+                self.end_turn(&mut thread.hold, held);
+                self.news.tell_where(had_own);
                 Err(error)
             }
         }
@@ -261,7 +376,7 @@ impl Thread {
     pub fn number(&self) -> u32
         ensures { result ≡ (token_of self.now).number }
     {
-        self.number
+        self.hold.number
     }
 
     /// Whether it is the only live token: from a `live` that answered 1 up to the next `attach`.

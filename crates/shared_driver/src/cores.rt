@@ -1,25 +1,33 @@
 //! The value under the lock.
-ghost use Rattle.std.specs.Prelude.{◌≡◌, ◌<◌, ◌≤◌, ◌+◌, ◌-◌, [], ◌∷◌, ◌++◌, true, length, IfOk, IfSome, IfNone, OnSome, IfErr, OnOk, OnErr, IsOk, slice_index, slice_set};
+ghost use Rattle.std.specs.Prelude.{◌≡◌, ◌<◌, ◌≤◌, ◌+◌, ◌-◌, [], ◌∷◌, ◌++◌, true, false, length, IfOk, IfSome, IfNone, OnSome, IfErr, OnOk, OnErr, IsOk, slice_index, slice_index_or, slice_set};
+ghost use Rattle.std.specs.VecDeque.{deque_capacity};
 ghost use Rattle.egl_calls.specs.Kinds.{is_built};
 ghost use Rattle.surface_store.specs.Windows.{windows_ok};
-ghost use Rattle.egl_model.specs.State.{opening};
+ghost use Rattle.egl_model.specs.Frame.{IsReady};
+ghost use Rattle.egl_model.specs.Hidden.{hide};
+ghost use Rattle.egl_model.specs.Parts.{part_of};
+ghost use Rattle.egl_model.specs.Sound.{IsSound};
+ghost use Rattle.egl_model.specs.State.{State, opening};
 ghost use Rattle.egl_model.specs.Step.{step};
+ghost use Rattle.driver_core.specs.Machine.{outs};
 ghost use Rattle.driver_core.specs.Memory.{takes_no_memory};
-ghost use Rattle.shared_driver.specs.Cores.{entry, halt_call, is_waiting, owed, own_call, place_for, wait_end_call, wait_ended, IsFull};
+ghost use Rattle.driver_core.specs.Parts.{FitsThread};
+ghost use Rattle.shared_driver.specs.Cores.{entry, halt_call, is_waiting, owed, own_call, place_for, wait_end_call, wait_ended};
 
-use crate::tokens::AttachError;
 use driver_core::Driver;
 use egl_calls::{
     Call, Entry, Journal, Kind, NoMemory, Numbers, Outcome, OwnKind, Reply, ReplyPair,
 };
 use ref_store::Steps;
 use std::alloc::Global;
+use std::collections::VecDeque;
 use std::marker::Brand;
 use std::sync::ledger::{Blank, Ledger};
 use surface_store::WindowSpec;
+use thread_part::ThreadPart;
 use turn_lock::Replays;
 
-/// A driver with its journal. What each live token may still add without memory stands in its room, which is one more than that.
+/// A driver with its journal. What each live token may still add without memory stands in its room, which is one more than that. The private part of a live token's thread is out of the driver.
 #[derive(Drop)]
 pub struct Core {
     pub driver: Driver,
@@ -40,14 +48,24 @@ impl Replays for Core {
     ghost meaning = { meaning };
 }
 
-/// The room of a new token: it is live, and it may halt.
-pub const FIRST_ROOM: u64 = 2;
+/// How many calls a token may make without memory before it makes one that takes memory.
+pub const PLACES: u64 = 256;
+
+/// The room of a new token: it is live, it may halt, and all its places are free.
+pub const FIRST_ROOM: u64 = 258;
 
 /// Whether a reply says that the thread now waits for a sync.
 pub fn is_waiting(outcome: Outcome) -> bool
     ensures { result ≡ is_waiting outcome }
 {
     matches!(outcome, Outcome::Waiting)
+}
+
+/// The place that a wait which was begun keeps for its end.
+fn place_for(waits: bool) -> u64
+    ensures { result ≡ place_for waits }
+{
+    if waits { 1 } else { 0 }
 }
 
 // A step whose counter nobody reads.
@@ -99,17 +117,30 @@ fn own_call(alloc: Global, kind: OwnKind) -> Call
     }
 }
 
+/// Moves a token's own calls to the end of the journal. It takes no memory.
+fn move_entries(journal: &mut Journal, tail: &mut VecDeque<Entry>)
+    requires { length tail.old.items ≤ journal.old.spare }
+    ensures entries { journal.new.entries ≡ journal.old.entries ++ tail.old.items }
+    ensures spare { journal.new.spare + length tail.old.items ≡ journal.old.spare }
+    ensures tail { tail.new.items ≡ [] }
+    ensures capacity { deque_capacity tail.new ≡ deque_capacity tail.old }
+{
+    'moving: while let Some(entry) = tail.pop_front() {
+        journal.push(entry);
+    }
+}
+
 impl Core {
-    /// A new driver, for one token.
+    /// A new driver, for one token. All parts are in.
     pub fn new(alloc: Global, windows: &[WindowSpec], video: u64) -> Result<Core, NoMemory>
         requires windows { windows_ok windows.now ≡ true }
         requires video { video ≤ 1073741824 }
-        ensures driver { IfOk result (λ x. (x.driver.state ≡ opening windows.now video) × (x.driver.made ≡ 1)) }
-        ensures journal { IfOk result (λ x. (x.journal.entries ≡ []) × (1 ≤ x.journal.spare)) }
-        ensures rooms { IfOk result (λ x. (x.live ≡ 1) × (x.rooms.items ≡ 2 ∷ []) × (x.promised ≡ 1)) }
+        ensures driver { IfOk result (λ x. (x.driver.state ≡ opening windows.now video) × (x.driver.made ≡ 1) × (x.driver.away ≡ false ∷ [])) }
+        ensures journal { IfOk result (λ x. (x.journal.entries ≡ []) × (257 ≤ x.journal.spare)) }
+        ensures rooms { IfOk result (λ x. (x.live ≡ 1) × (x.rooms.items ≡ 258 ∷ []) × (x.promised ≡ 257)) }
     {
         let mut journal = Journal::new(alloc);
-        journal.reserve(1)?;
+        journal.reserve(FIRST_ROOM - 1)?;
         let mut rooms = Vec::new(alloc);
         let Ok(()) = rooms.push(FIRST_ROOM) else {
             return Err(NoMemory);
@@ -119,146 +150,217 @@ impl Core {
             journal,
             live: 1,
             rooms,
-            promised: 1,
+            promised: FIRST_ROOM - 1,
         })
     }
 
-    /// Plays a call, and adds its entry.
+    /// Puts a thread's private part back into the driver.
+    pub fn part_in(&mut self, number: u32, part: ThreadPart)
+        requires made { number < self.old.driver.made }
+        requires out { slice_index_or self.old.driver.away number false ≡ true }
+        requires fits { FitsThread self.old.driver.state number part }
+        ensures outside { (s : State) → IsSound s → self.old.driver.state ≡ hide (outs self.old.driver.away) s → part ≡ part_of s number → self.new.driver.state ≡ hide (outs self.new.driver.away) s }
+        ensures driver { (self.new.driver.made ≡ self.old.driver.made) × (self.new.driver.away ≡ slice_set self.old.driver.away number false) }
+        ensures kept { (self.new.journal ≡ self.old.journal) × (self.new.live ≡ self.old.live) × (self.new.rooms ≡ self.old.rooms) × (self.new.promised ≡ self.old.promised) }
+    {
+        self.driver.part_in(number, part.into_parts());
+    }
+
+    /// Hands out a thread's private part.
+    pub fn part_out(&mut self, number: u32) -> ThreadPart
+        requires made { number < self.old.driver.made }
+        requires here { slice_index_or self.old.driver.away number false ≡ false }
+        ensures outside { (s : State) → IsReady s number → self.old.driver.state ≡ hide (outs self.old.driver.away) s → (result ≡ part_of s number) × (self.new.driver.state ≡ hide (outs self.new.driver.away) s) }
+        ensures driver { (self.new.driver.made ≡ self.old.driver.made) × (self.new.driver.away ≡ slice_set self.old.driver.away number true) }
+        ensures opening { (self.new.driver.state.windows ≡ self.old.driver.state.windows) × (self.new.driver.state.video ≡ self.old.driver.state.video) }
+        ensures kept { (self.new.journal ≡ self.old.journal) × (self.new.live ≡ self.old.live) × (self.new.rooms ≡ self.old.rooms) × (self.new.promised ≡ self.old.promised) }
+    {
+        ThreadPart::new(self.driver.part_out(number))
+    }
+
+    // The room of a token changes, and so does what the rooms promise.
+    fn set_room(&mut self, number: u32, room: u64)
+        requires number { number < length self.old.rooms.items }
+        requires owed { self.old.promised ≡ owed self.old.rooms.items }
+        requires fits { slice_index self.old.rooms.items number < room → self.old.promised + (room - slice_index self.old.rooms.items number) < 18446744073709551616 }
+        ensures rooms { self.new.rooms.items ≡ slice_set self.old.rooms.items number room }
+        ensures owed { self.new.promised ≡ owed self.new.rooms.items }
+        ensures promised { self.new.promised + (slice_index self.old.rooms.items number - 1) ≡ self.old.promised + (room - 1) }
+        ensures kept { (self.new.driver ≡ self.old.driver) × (self.new.journal ≡ self.old.journal) × (self.new.live ≡ self.old.live) }
+    {
+        let former = self.rooms[number as usize];
+        self.promised -= former.saturating_sub(1);
+        self.promised += room.saturating_sub(1);
+        self.rooms[number as usize] = room;
+    }
+
+    /// The room of a token grows.
+    pub fn promise(&mut self, number: u32, more: u64)
+        requires number { number < length self.old.rooms.items }
+        requires room { 0 < slice_index self.old.rooms.items number }
+        requires owed { self.old.promised ≡ owed self.old.rooms.items }
+        requires fits { self.old.promised + more + 1 < 18446744073709551616 }
+        ensures rooms { self.new.rooms.items ≡ slice_set self.old.rooms.items number (slice_index self.old.rooms.items number + more) }
+        ensures owed { self.new.promised ≡ owed self.new.rooms.items }
+        ensures promised { self.new.promised ≡ self.old.promised + more }
+        ensures kept { (self.new.driver ≡ self.old.driver) × (self.new.journal ≡ self.old.journal) × (self.new.live ≡ self.old.live) }
+    {
+        let room = self.rooms[number as usize];
+        self.set_room(number, room + more);
+    }
+
+    /// Makes room in the journal for what the rooms promise, and for so many entries more.
+    pub fn make_room(&mut self, more: u64) -> Result<(), NoMemory>
+        requires spare { self.old.promised ≤ self.old.journal.spare }
+        ensures room { OnOk result (self.old.promised + more ≤ self.new.journal.spare) }
+        ensures fits { OnOk result (self.old.promised + more < 18446744073709551616) }
+        ensures spare { self.new.promised ≤ self.new.journal.spare }
+        ensures entries { self.new.journal.entries ≡ self.old.journal.entries }
+        ensures kept { (self.new.driver ≡ self.old.driver) × (self.new.live ≡ self.old.live) × (self.new.rooms ≡ self.old.rooms) × (self.new.promised ≡ self.old.promised) }
+    {
+        let Some(entries) = self.promised.checked_add(more) else {
+            return Err(NoMemory);
+        };
+        self.journal.reserve(entries)
+    }
+
+    /// Adds a token's own calls to the journal, each in a place that its room promises. It takes no memory.
+    pub fn hand_in(&mut self, number: u32, tail: &mut VecDeque<Entry>)
+        requires number { number < length self.old.rooms.items }
+        requires room { length tail.old.items < slice_index self.old.rooms.items number }
+        requires owed { self.old.promised ≡ owed self.old.rooms.items }
+        requires spare { self.old.promised ≤ self.old.journal.spare }
+        ensures entries { self.new.journal.entries ≡ self.old.journal.entries ++ tail.old.items }
+        ensures tail { tail.new.items ≡ [] }
+        ensures capacity { deque_capacity tail.new ≡ deque_capacity tail.old }
+        ensures rooms { self.new.rooms.items ≡ slice_set self.old.rooms.items number (slice_index self.old.rooms.items number - length tail.old.items) }
+        ensures owed { self.new.promised ≡ owed self.new.rooms.items }
+        ensures promised { self.new.promised + length tail.old.items ≡ self.old.promised }
+        ensures spare { self.new.journal.spare + length tail.old.items ≡ self.old.journal.spare }
+        ensures kept { (self.new.driver ≡ self.old.driver) × (self.new.live ≡ self.old.live) }
+    {
+        let room = self.rooms[number as usize];
+        self.set_room(number, room - tail.len() as u64);
+        move_entries(&mut self.journal, tail);
+    }
+
+    /// Plays a call, and adds the token's own calls and its entry. Its room then grows by so many places; the journal has room for these and for the entry.
     pub fn play(
         &mut self,
         alloc: Global,
         number: u32,
         mark: u64,
         call: Call,
+        tail: &mut VecDeque<Entry>,
+        more: u64,
     ) -> Result<Reply, NoMemory>
-        requires number { number < self.old.driver.made }
+        requires number { (number < self.old.driver.made) × (number < length self.old.rooms.items) }
         requires built { is_built call.kind ≡ true }
-        requires spare { self.old.promised ≤ self.old.journal.spare }
+        requires room { length tail.old.items < slice_index self.old.rooms.items number }
+        requires owed { self.old.promised ≡ owed self.old.rooms.items }
+        requires spare { self.old.promised + more + 1 ≤ self.old.journal.spare }
+        requires fits { self.old.promised + more + 1 < 18446744073709551616 }
         ensures reply { IfOk result (λ r. r ≡ (step self.old.driver.state number call).reply) }
         ensures driver { OnOk result (self.new.driver ≡ record self.old.driver { state = (step self.old.driver.state number call).state }) }
-        ensures added { IfOk result (λ r. self.new.journal.entries ≡ self.old.journal.entries ++ entry number mark call r ∷ []) }
-        ensures err { OnErr result ((self.new.driver ≡ self.old.driver) × (self.new.journal.entries ≡ self.old.journal.entries)) }
-        ensures kept { (self.new.live ≡ self.old.live) × (self.new.rooms ≡ self.old.rooms) × (self.new.promised ≡ self.old.promised) }
-        ensures spare { self.new.promised ≤ self.new.journal.spare }
-        ensures one { self.old.journal.spare ≤ self.new.journal.spare + 1 }
+        ensures added { IfOk result (λ r. self.new.journal.entries ≡ (self.old.journal.entries ++ tail.old.items) ++ entry number mark call r ∷ []) }
+        ensures tail { OnOk result (tail.new.items ≡ []) }
+        ensures capacity { deque_capacity tail.new ≡ deque_capacity tail.old }
+        ensures rooms { OnOk result (self.new.rooms.items ≡ slice_set self.old.rooms.items number (slice_index self.old.rooms.items number - length tail.old.items + more)) }
+        ensures owed { self.new.promised ≡ owed self.new.rooms.items }
+        ensures promised { OnOk result (self.new.promised + length tail.old.items ≡ self.old.promised + more) }
+        ensures spare { OnOk result (self.new.promised + self.old.journal.spare ≡ self.new.journal.spare + (self.old.promised + more + 1)) }
+        ensures err { OnErr result ((self.new ≡ self.old) × (tail.new.items ≡ tail.old.items)) }
+        ensures live { self.new.live ≡ self.old.live }
     {
-        let Some(more) = self.promised.checked_add(1) else {
-            return Err(NoMemory);
-        };
-        self.journal.reserve(more)?;
         let ReplyPair { reply, copy } = stepped(&mut self.driver, alloc, number, &call)?;
+        self.hand_in(number, tail);
         self.journal.push(Entry {
             thread: number,
             mark,
             call,
             reply: copy,
         });
+        self.promise(number, more);
         Ok(reply)
     }
 
-    // Where a wait was begun, the room of the token grows by a place, and so does what the rooms promise.
-    fn keep_place(&mut self, number: u32, waits: bool)
-        requires number { number < length self.old.rooms.items }
-        requires room { 0 < slice_index self.old.rooms.items number }
-        requires owed { self.old.promised ≡ owed self.old.rooms.items }
-        requires fits { self.old.promised + 2 < 18446744073709551616 }
-        ensures rooms { self.new.rooms.items ≡ slice_set self.old.rooms.items number (slice_index self.old.rooms.items number + place_for waits) }
-        ensures owed { self.new.promised ≡ owed self.new.rooms.items }
-        ensures promised { self.new.promised ≤ self.old.promised + 1 }
-        ensures kept { (self.new.driver ≡ self.old.driver) × (self.new.journal ≡ self.old.journal) × (self.new.live ≡ self.old.live) }
-    {
-        if !waits {
-            return;
-        }
-        let former = self.rooms[number as usize];
-        self.promised += 1;
-        self.rooms[number as usize] = former + 1;
-    }
-
-    /// Plays a call, and adds its entry. Where the call begins a wait, the token's room has a place more then, for the end of the wait.
+    /// Plays a call that gives places back, and adds the token's own calls and its entry. Where the call begins a wait, the token's room has a place more then, for the end of the wait. Where memory runs out nothing has changed.
     pub fn begin(
         &mut self,
         alloc: Global,
         number: u32,
         mark: u64,
         call: Call,
+        tail: &mut VecDeque<Entry>,
+        back: u64,
     ) -> Result<Reply, NoMemory>
         requires number { (number < self.old.driver.made) × (number < length self.old.rooms.items) }
         requires built { is_built call.kind ≡ true }
-        requires room { 0 < slice_index self.old.rooms.items number }
+        requires room { length tail.old.items < slice_index self.old.rooms.items number }
+        requires back { back ≤ 256 }
         requires owed { self.old.promised ≡ owed self.old.rooms.items }
         requires spare { self.old.promised ≤ self.old.journal.spare }
         ensures reply { IfOk result (λ r. r ≡ (step self.old.driver.state number call).reply) }
         ensures driver { OnOk result (self.new.driver ≡ record self.old.driver { state = (step self.old.driver.state number call).state }) }
-        ensures added { IfOk result (λ r. self.new.journal.entries ≡ self.old.journal.entries ++ entry number mark call r ∷ []) }
-        ensures rooms { IfOk result (λ r. self.new.rooms.items ≡ slice_set self.old.rooms.items number (slice_index self.old.rooms.items number + place_for (is_waiting r.outcome))) }
+        ensures added { IfOk result (λ r. self.new.journal.entries ≡ (self.old.journal.entries ++ tail.old.items) ++ entry number mark call r ∷ []) }
+        ensures tail { OnOk result (tail.new.items ≡ []) }
+        ensures capacity { deque_capacity tail.new ≡ deque_capacity tail.old }
+        ensures rooms { IfOk result (λ r. self.new.rooms.items ≡ slice_set self.old.rooms.items number (slice_index self.old.rooms.items number - length tail.old.items + back + place_for (is_waiting r.outcome))) }
         ensures owed { self.new.promised ≡ owed self.new.rooms.items }
-        ensures err { OnErr result ((self.new.driver ≡ self.old.driver) × (self.new.journal.entries ≡ self.old.journal.entries) × (self.new.rooms ≡ self.old.rooms)) }
+        ensures err { OnErr result ((self.new.driver ≡ self.old.driver) × (self.new.journal.entries ≡ self.old.journal.entries) × (self.new.rooms ≡ self.old.rooms) × (tail.new.items ≡ tail.old.items)) }
         ensures spare { self.new.promised ≤ self.new.journal.spare }
         ensures live { self.new.live ≡ self.old.live }
     {
-        let Some(more) = self.promised.checked_add(2) else {
-            return Err(NoMemory);
-        };
-        self.journal.reserve(more)?;
-        let reply = self.play(alloc, number, mark, call)?;
-        self.keep_place(number, is_waiting(reply.outcome));
+        self.make_room(back + 2)?;
+        let reply = self.play(alloc, number, mark, call, tail, back)?;
+        let place = place_for(is_waiting(reply.outcome));
+        self.promise(number, place);
         Ok(reply)
     }
 
-    /// Makes a thread and its room.
-    pub fn admit(&mut self) -> Result<u32, AttachError>
-        requires live { self.old.live ≤ 65536 }
-        requires spare { self.old.promised ≤ self.old.journal.spare }
-        ensures number { IfOk result (λ n. (n ≡ self.old.driver.made) × (n < 65536)) }
-        ensures full { IfErr result (IsFull self.old.driver.made) }
-        ensures driver { OnOk result ((self.new.driver.state ≡ self.old.driver.state) × (self.new.driver.made ≡ self.old.driver.made + 1)) }
-        ensures rooms { OnOk result ((self.new.live ≡ self.old.live + 1) × (self.new.rooms.items ≡ self.old.rooms.items ++ 2 ∷ []) × (self.new.promised ≡ self.old.promised + 1)) }
-        ensures err { OnErr result ((self.new.driver ≡ self.old.driver) × (self.new.live ≡ self.old.live) × (self.new.rooms.items ≡ self.old.rooms.items) × (self.new.promised ≡ self.old.promised)) }
-        ensures entries { self.new.journal.entries ≡ self.old.journal.entries }
-        ensures spare { self.new.promised ≤ self.new.journal.spare }
-    {
-        let made = self.driver.threads();
-        if made >= 65536 {
-            return Err(AttachError::Full { made });
-        }
-        let Some(more) = self.promised.checked_add(1) else {
-            return Err(AttachError::NoMemory);
-        };
-        if self.journal.reserve(more).is_err() {
-            return Err(AttachError::NoMemory);
-        }
-        if self.rooms.reserve(1).is_err() {
-            return Err(AttachError::NoMemory);
-        }
-        if self.driver.add_thread().is_err() {
-            return Err(AttachError::NoMemory);
-        }
-        self.rooms.push_reserved(FIRST_ROOM);
-        self.live += 1;
-        self.promised = more;
-        Ok(made)
-    }
-
-    // The room of a token falls, and so does what the rooms promise.
-    fn lower(&mut self, number: u32, room: u64)
-        requires number { number < length self.old.rooms.items }
-        requires room { room < slice_index self.old.rooms.items number }
+    /// Plays a call that takes no memory. The token's own calls and its entry are added in places that the token's room promises.
+    pub fn add(
+        &mut self,
+        alloc: Global,
+        number: u32,
+        mark: u64,
+        call: Call,
+        tail: &mut VecDeque<Entry>,
+    ) -> Reply
+        requires number { (number < self.old.driver.made) × (number < length self.old.rooms.items) }
+        requires built { is_built call.kind ≡ true }
+        requires memory { takes_no_memory call.kind ≡ true }
+        requires room { length tail.old.items + 1 < slice_index self.old.rooms.items number }
         requires owed { self.old.promised ≡ owed self.old.rooms.items }
-        ensures rooms { self.new.rooms.items ≡ slice_set self.old.rooms.items number room }
+        requires spare { self.old.promised ≤ self.old.journal.spare }
+        ensures reply { result ≡ (step self.old.driver.state number call).reply }
+        ensures driver { self.new.driver ≡ record self.old.driver { state = (step self.old.driver.state number call).state } }
+        ensures added { self.new.journal.entries ≡ (self.old.journal.entries ++ tail.old.items) ++ entry number mark call result ∷ [] }
+        ensures tail { tail.new.items ≡ [] }
+        ensures capacity { deque_capacity tail.new ≡ deque_capacity tail.old }
+        ensures rooms { self.new.rooms.items ≡ slice_set self.old.rooms.items number (slice_index self.old.rooms.items number - length tail.old.items - 1) }
         ensures owed { self.new.promised ≡ owed self.new.rooms.items }
-        ensures promised { self.new.promised + ((slice_index self.old.rooms.items number - 1) - (room - 1)) ≡ self.old.promised }
-        ensures kept { (self.new.driver ≡ self.old.driver) × (self.new.journal ≡ self.old.journal) × (self.new.live ≡ self.old.live) }
+        ensures spare { self.new.promised ≤ self.new.journal.spare }
+        ensures live { self.new.live ≡ self.old.live }
     {
-        let former = self.rooms[number as usize];
-        self.promised -= (former - 1) - room.saturating_sub(1);
-        self.rooms[number as usize] = room;
+        self.hand_in(number, tail);
+        let room = self.rooms[number as usize];
+        self.set_room(number, room - 1);
+        let Ok(ReplyPair { reply, copy }) = stepped(&mut self.driver, alloc, number, &call) else {
+            unreachable!()
+        };
+        self.journal.push(Entry {
+            thread: number,
+            mark,
+            call,
+            reply: copy,
+        });
+        reply
     }
 
     /// The token is about to end in another, and promises nothing more.
     pub fn leave(&mut self, number: u32)
         requires number { number < length self.old.rooms.items }
-        requires room { 0 < slice_index self.old.rooms.items number }
         requires owed { self.old.promised ≡ owed self.old.rooms.items }
         requires spare { self.old.promised ≤ self.old.journal.spare }
         ensures rooms { self.new.rooms.items ≡ slice_set self.old.rooms.items number 0 }
@@ -266,35 +368,26 @@ impl Core {
         ensures spare { self.new.promised ≤ self.new.journal.spare }
         ensures kept { (self.new.driver ≡ self.old.driver) × (self.new.journal ≡ self.old.journal) × (self.new.live ≡ self.old.live) }
     {
-        self.lower(number, 0);
+        self.set_room(number, 0);
     }
 
-    /// Adds the entry by which a token halts, in the place that its room promises.
-    pub fn halt(&mut self, alloc: Global, number: u32)
+    /// Adds the token's own calls, and the entry by which it halts.
+    pub fn halt(&mut self, alloc: Global, number: u32, tail: &mut VecDeque<Entry>)
         requires number { (number < self.old.driver.made) × (number < length self.old.rooms.items) }
-        requires room { 2 ≤ slice_index self.old.rooms.items number }
+        requires room { length tail.old.items + 1 < slice_index self.old.rooms.items number }
         requires owed { self.old.promised ≡ owed self.old.rooms.items }
         requires spare { self.old.promised ≤ self.old.journal.spare }
         ensures driver { self.new.driver ≡ record self.old.driver { state = (step self.old.driver.state number halt_call).state } }
-        ensures added { self.new.journal.entries ≡ self.old.journal.entries ++ entry number 0 halt_call (step self.old.driver.state number halt_call).reply ∷ [] }
-        ensures rooms { self.new.rooms.items ≡ slice_set self.old.rooms.items number (slice_index self.old.rooms.items number - 1) }
+        ensures added { self.new.journal.entries ≡ (self.old.journal.entries ++ tail.old.items) ++ entry number 0 halt_call (step self.old.driver.state number halt_call).reply ∷ [] }
+        ensures tail { tail.new.items ≡ [] }
+        ensures capacity { deque_capacity tail.new ≡ deque_capacity tail.old }
+        ensures rooms { self.new.rooms.items ≡ slice_set self.old.rooms.items number (slice_index self.old.rooms.items number - length tail.old.items - 1) }
         ensures owed { self.new.promised ≡ owed self.new.rooms.items }
         ensures spare { self.new.promised ≤ self.new.journal.spare }
         ensures live { self.new.live ≡ self.old.live }
     {
-        let room = self.rooms[number as usize];
-        self.lower(number, room - 1);
         let call = own_call(alloc, OwnKind::Halt);
-        let Ok(ReplyPair { reply: _, copy }) = stepped(&mut self.driver, alloc, number, &call)
-        else {
-            unreachable!()
-        };
-        self.journal.push(Entry {
-            thread: number,
-            mark: 0,
-            call,
-            reply: copy,
-        });
+        self.add(alloc, number, 0, call, tail);
     }
 
     // Whether the wait of a token can end.
@@ -306,37 +399,34 @@ impl Core {
         self.driver.wait_ready(number)
     }
 
-    /// Ends the wait of a token, where it can end, in the place that its room promises.
-    pub fn try_end(&mut self, alloc: Global, number: u32, mark: u64) -> Option<Reply>
+    /// Ends the wait of a token, where it can end, in a place that its room promises.
+    pub fn try_end(
+        &mut self,
+        alloc: Global,
+        number: u32,
+        mark: u64,
+        tail: &mut VecDeque<Entry>,
+    ) -> Option<Reply>
         requires number { (number < self.old.driver.made) × (number < length self.old.rooms.items) }
-        requires room { 2 ≤ slice_index self.old.rooms.items number }
+        requires room { length tail.old.items + 1 < slice_index self.old.rooms.items number }
         requires owed { self.old.promised ≡ owed self.old.rooms.items }
         requires spare { self.old.promised ≤ self.old.journal.spare }
         ensures ended { IfSome result (λ r. (r ≡ wait_ended) × (r ≡ (step self.old.driver.state number wait_end_call).reply)) }
         ensures driver { OnSome result (self.new.driver ≡ record self.old.driver { state = (step self.old.driver.state number wait_end_call).state }) }
-        ensures added { OnSome result (self.new.journal.entries ≡ self.old.journal.entries ++ entry number mark wait_end_call wait_ended ∷ []) }
-        ensures rooms { OnSome result (self.new.rooms.items ≡ slice_set self.old.rooms.items number (slice_index self.old.rooms.items number - 1)) }
+        ensures added { OnSome result (self.new.journal.entries ≡ (self.old.journal.entries ++ tail.old.items) ++ entry number mark wait_end_call wait_ended ∷ []) }
+        ensures tail { OnSome result (tail.new.items ≡ []) }
+        ensures capacity { deque_capacity tail.new ≡ deque_capacity tail.old }
+        ensures rooms { OnSome result (self.new.rooms.items ≡ slice_set self.old.rooms.items number (slice_index self.old.rooms.items number - length tail.old.items - 1)) }
         ensures owed { OnSome result (self.new.promised ≡ owed self.new.rooms.items) }
         ensures spare { OnSome result (self.new.promised ≤ self.new.journal.spare) }
         ensures live { self.new.live ≡ self.old.live }
-        ensures none { IfNone result (self.new ≡ self.old) }
+        ensures none { IfNone result ((self.new ≡ self.old) × (tail.new.items ≡ tail.old.items)) }
     {
         if !self.can_end(number) {
             return None;
         }
-        let room = self.rooms[number as usize];
-        self.lower(number, room - 1);
         let call = own_call(alloc, OwnKind::WaitEnd);
-        let Ok(ReplyPair { reply, copy }) = stepped(&mut self.driver, alloc, number, &call) else {
-            unreachable!()
-        };
-        self.journal.push(Entry {
-            thread: number,
-            mark,
-            call,
-            reply: copy,
-        });
-        Some(reply)
+        Some(self.add(alloc, number, mark, call, tail))
     }
 
     /// Counts one live token fewer.

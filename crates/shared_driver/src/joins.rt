@@ -1,14 +1,19 @@
 //! Tokens that begin and end.
-ghost use Rattle.std.specs.Prelude.{◌≡◌, ◌∷◌, ◌++◌, [], false, OnErr, OnOk, IfOk, IfErr};
+ghost use Rattle.std.specs.Prelude.{◌≡◌, ◌∷◌, ◌++◌, [], false, slice_index, OnErr, OnOk, IfOk, IfErr};
+ghost use Rattle.turn_lock.specs.Passes as passes;
+ghost use Rattle.turn_lock.specs.Passes.{view_of, IsFree};
 ghost use Rattle.shared_driver.specs.Cores.{IsFull, of_number};
 ghost use Rattle.shared_driver.specs.Tokens.{Goes, Includes, IsNew, IsOf, IsSame, KnowsEnded, Learns, mine, token_of};
+ghost use Rattle.shared_driver.specs.Turns.{Holds, Retires};
 
-use crate::cores::FIRST_ROOM;
-use crate::tokens::{AttachError, Shared, Thread};
+use crate::cores::{Core, FIRST_ROOM, PLACES};
+use crate::newcomers::Newcomer;
+use crate::tokens::{AttachError, Holding, Shared, Thread};
 use std::sync::Wait;
+use turn_lock::Pass;
 
 impl Shared {
-    /// Makes a token that has seen what this one has. Where none can be made, this one sees at most what others added.
+    /// Makes a token that has seen what this one has. First this one hands in its own calls. Where none can be made, this one sees at most what others added.
     pub fn attach<R: Wait>(&self, from: &mut Thread, rt: &R) -> Result<Thread, AttachError>
         requires owns { IsOf self.now from.old }
         ensures owns { IsOf self.now from.new × IfOk result (λ t. IsOf self.now t) }
@@ -19,27 +24,66 @@ impl Shared {
         ensures mine { mine (token_of from.new) ≡ mine (token_of from.old) }
         ensures new { IfOk result (λ t. IsNew (token_of from.new) (token_of t)) }
         ensures new_mine { IfOk result (λ t. mine (token_of t) ≡ []) }
+        ensures places { OnOk result ((token_of from.new).places ≡ 256) × OnErr result ((token_of from.new).places ≡ (token_of from.old).places) }
         ensures full { IfErr result (IsFull (token_of from.new).made) }
     {
-        let mut held = self.turns.take_turn(&mut from.pass, rt);
-        match held.value().admit() {
-            Ok(number) => {
-                let pass = self.turns.split(&mut from.pass, FIRST_ROOM);
-                self.turns.give_back(&mut from.pass, held);
+        let back = PLACES - from.places;
+        let alloc = *from.hold.tail.allocator();
+        let mut held = self.begin_turn(&mut from.hold, rt);
+        let core = held.value();
+        match core.admit(alloc, from.hold.number, &mut from.hold.tail, back) {
+            Ok(Newcomer { number, part, tail }) => {
+                let pass = self
+                    .turns
+                    .split_after(&mut from.hold.pass, &held, FIRST_ROOM);
+                self.end_turn(&mut from.hold, held);
+                from.places = PLACES;
                 from.sole = false;
+                self.news.tell();
                 Ok(Thread {
-                    pass,
-                    number,
+                    hold: Holding {
+                        pass,
+                        number,
+                        part: Some(part),
+                        tail,
+                    },
+                    places: PLACES,
                     halted: false,
                     sole: false,
                 })
             }
             Err(error) => {
-                self.turns.give_back(&mut from.pass, held);
+                self.end_turn(&mut from.hold, held);
                 from.sole = false;
                 Err(error)
             }
         }
+    }
+
+    // The last turn of a token: its own calls are handed in, its part stays in the driver, and its room is then 0.
+    fn retire<R: Wait>(&self, mut hold: Holding, rt: &R) -> Pass<Core>
+        requires owns { passes.IsOf self.now.turns hold.pass }
+        requires holds { Holds hold }
+        ensures owns { passes.IsOf self.now.turns result × IsFree result }
+        ensures room { slice_index (view_of result).rooms (view_of result).number ≡ 0 }
+        ensures retires { Retires hold result }
+    {
+        let mut held = self.begin_turn(&mut hold, rt);
+        let core = held.value();
+        core.hand_in(hold.number, &mut hold.tail);
+        core.leave(hold.number);
+        let Holding {
+            mut pass,
+            number: _,
+            part: None,
+            tail: _,
+        } = hold
+        else {
+            unreachable!()
+        };
+        self.turns.give_back(&mut pass, held);
+        self.news.tell();
+        pass
     }
 
     /// Ends the other token. First that hands in its own calls, in its own turn. It takes no memory.
@@ -52,23 +96,22 @@ impl Shared {
         ensures seen { Learns (token_of into.old) (token_of into.new) }
         ensures other { Includes (token_of other) (token_of into.new).seen }
         ensures mine { mine (token_of into.new) ≡ mine (token_of into.old) }
+        ensures places { (token_of into.new).places ≡ (token_of into.old).places }
         ensures other_mine { of_number (token_of other).number (token_of into.new).seen ≡ mine (token_of other) }
         ensures other_ended { KnowsEnded (token_of other) (token_of into.new).seen }
         ensures into_ended { KnowsEnded (token_of into.old) (token_of into.new).seen }
     {
         let Thread {
-            mut pass,
-            number,
+            hold,
+            places: _,
             halted: _,
             sole: _,
         } = other;
-        let mut held = self.turns.take_turn(&mut pass, rt);
-        held.value().leave(number);
-        self.turns.give_back(&mut pass, held);
-        let mut held = self.turns.take_turn(&mut into.pass, rt);
-        self.turns.join(&mut into.pass, pass);
+        let pass = self.retire(hold, rt);
+        let mut held = self.turns.take_turn(&mut into.hold.pass, rt);
+        self.turns.join(&mut into.hold.pass, pass);
         held.value().dismiss();
-        self.turns.give_back(&mut into.pass, held);
+        self.turns.give_back(&mut into.hold.pass, held);
         into.sole = false;
     }
 }

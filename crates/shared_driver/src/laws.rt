@@ -1,5 +1,6 @@
 //! What holds of every token.
 ghost use Rattle.std.specs.Prelude.{◌++◌};
+ghost use Rattle.egl_model.specs.Frame.{AreOf};
 ghost use Rattle.egl_model.specs.History.{IsLegalFrom};
 ghost use Rattle.shared_driver.specs.Tokens.{IsOf, opening_of, token_of};
 
@@ -9,4 +10,9 @@ use crate::tokens::{Shared, Thread};
 pub fn what_a_token_has_seen_is_legal(shared: &Shared, thread: &Thread)
     requires owns { IsOf shared.now thread.now }
     ensures { IsLegalFrom (opening_of shared.now) ((token_of thread.now).seen ++ (token_of thread.now).tail) }
+{}
+
+/// The calls that a token hasn't handed in are its own. This is a law.
+pub fn a_token_keeps_its_own_calls(thread: &Thread)
+    ensures { AreOf (token_of thread.now).number (token_of thread.now).tail }
 {}

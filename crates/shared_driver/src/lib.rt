@@ -5,15 +5,19 @@ mod calls;
 mod cores;
 mod joins;
 mod laws;
+mod locals;
+mod newcomers;
 mod news;
 mod picks;
 #[cfg(test)]
 mod tests;
 mod threads;
 mod tokens;
+mod turns;
 mod waits;
 
-pub use laws::what_a_token_has_seen_is_legal;
+pub use laws::{a_token_keeps_its_own_calls, what_a_token_has_seen_is_legal};
+pub use news::Heard;
 pub use picks::{Pick, Picked, Picker};
 pub use threads::finish_all;
 pub use tokens::{AttachError, Closed, Opened, Shared, Thread};

@@ -1,15 +1,18 @@
 //! A call that is picked in the turn.
-ghost use Rattle.std.specs.Prelude.{◌≡◌, ◌<◌, ◌≤◌, IfOk, OnErr, List};
+ghost use Rattle.std.specs.Prelude.{◌≡◌, ◌<◌, ◌≤◌, ◌+◌, [], length, slice_index, slice_set, IfOk, OnOk, OnErr, List};
+ghost use Rattle.std.specs.VecDeque.{deque_capacity};
 ghost use Rattle.egl_calls.specs.Journals.{is_halt_kind};
 ghost use Rattle.egl_calls.specs.declared.entries.Entry.{Entry};
 ghost use Rattle.driver_core.specs.Machine.{Machine};
 ghost use Rattle.shared_driver.specs.declared.picks.Pick.{Pick as ThePick};
+ghost use Rattle.shared_driver.specs.Cores.{owed};
 ghost use Rattle.shared_driver.specs.Picks.{IsBuiltPick, IsDone, halts};
 
 use crate::cores::Core;
 use driver_core::Driver;
-use egl_calls::{Call, Journal, Kind, NoMemory, OwnKind, Reply};
+use egl_calls::{Call, Entry, Journal, Kind, NoMemory, OwnKind, Reply};
 use std::alloc::Global;
+use std::collections::VecDeque;
 
 /// What a picker wants done: a call with its mark, or nothing now, or nothing any more.
 #[derive(Drop)]
@@ -54,6 +57,11 @@ pub struct PickedCall {
     pub halts: bool,
 }
 
+/// Whether a picked call was played.
+pub fn was_played(picked: &Picked) -> bool {
+    matches!(picked, Picked::Replied(_))
+}
+
 /// Whether a call of this kind is a thread's giving up.
 pub fn is_halt(kind: Kind) -> bool
     ensures { result ≡ is_halt_kind kind }
@@ -62,38 +70,54 @@ pub fn is_halt(kind: Kind) -> bool
 }
 
 impl Core {
-    /// Plays the call that is picked.
+    /// Plays the call that is picked, after the token's own calls were handed in. Its room then grows by so many places.
     pub fn pick<P: Picker>(
         &mut self,
         alloc: Global,
         number: u32,
         picker: &mut P,
+        tail: &mut VecDeque<Entry>,
+        back: u64,
     ) -> Result<PickedCall, NoMemory>
         requires may { P.may picker.old self.old.journal.entries self.old.driver }
-        requires number { number < self.old.driver.made }
+        requires number { (number < self.old.driver.made) × (number < length self.old.rooms.items) }
+        requires room { 0 < slice_index self.old.rooms.items number }
+        requires tail { tail.old.items ≡ [] }
+        requires back { back ≤ 256 }
+        requires owed { self.old.promised ≡ owed self.old.rooms.items }
         requires spare { self.old.promised ≤ self.old.journal.spare }
         ensures ok { IfOk result (λ r. (p : ThePick) × P.picks picker.old self.old.journal.entries self.old.driver p picker.new × IsDone self.old number p r.picked self.new × (r.halts ≡ halts p)) }
-        ensures err { OnErr result ((self.new.driver ≡ self.old.driver) × (self.new.journal.entries ≡ self.old.journal.entries)) }
-        ensures kept { (self.new.live ≡ self.old.live) × (self.new.rooms ≡ self.old.rooms) × (self.new.promised ≡ self.old.promised) }
+        ensures rooms { OnOk result (self.new.rooms.items ≡ slice_set self.old.rooms.items number (slice_index self.old.rooms.items number + back)) }
+        ensures err { OnErr result ((self.new.driver ≡ self.old.driver) × (self.new.journal.entries ≡ self.old.journal.entries) × (self.new.rooms ≡ self.old.rooms)) }
+        ensures tail { (tail.new.items ≡ []) × (deque_capacity tail.new ≡ deque_capacity tail.old) }
+        ensures live { self.new.live ≡ self.old.live }
+        ensures owed { self.new.promised ≡ owed self.new.rooms.items }
         ensures spare { self.new.promised ≤ self.new.journal.spare }
     {
+        self.make_room(back + 1)?;
         match picker.pick(&self.journal, &self.driver)? {
             Pick::Call(mark, call) => {
                 let halts = is_halt(call.kind);
-                let reply = self.play(alloc, number, mark, call)?;
+                let reply = self.play(alloc, number, mark, call, tail, back)?;
                 Ok(PickedCall {
                     picked: Picked::Replied(reply),
                     halts,
                 })
             }
-            Pick::Wait => Ok(PickedCall {
-                picked: Picked::Waited,
-                halts: false,
-            }),
-            Pick::Stop => Ok(PickedCall {
-                picked: Picked::Stopped,
-                halts: false,
-            }),
+            Pick::Wait => {
+                self.promise(number, back);
+                Ok(PickedCall {
+                    picked: Picked::Waited,
+                    halts: false,
+                })
+            }
+            Pick::Stop => {
+                self.promise(number, back);
+                Ok(PickedCall {
+                    picked: Picked::Stopped,
+                    halts: false,
+                })
+            }
         }
     }
 }

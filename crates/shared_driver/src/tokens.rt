@@ -1,12 +1,17 @@
-//! A thread's right to make calls.
-ghost use Rattle.std.specs.Prelude.{◌≡◌, ◌≤◌, true, slice_index};
+//! Tokens, and what they are tokens of.
+ghost use Rattle.std.specs.Prelude.{◌≡◌, ◌<◌, ◌≤◌, ◌+◌, ◌++◌, true, Some, All, length, slice_index};
+ghost use Rattle.std.specs.VecDeque.{deque_capacity};
+ghost use Rattle.surface_store.specs.WindowTables.{HasSides};
+ghost use Rattle.egl_model.specs.History.{replay_from};
 ghost use Rattle.turn_lock.specs.Passes.{view_of, IsFree};
-ghost use Rattle.shared_driver.specs.Cores.{IsLegalIn, has_halted, room_for};
+ghost use Rattle.shared_driver.specs.Cores.{IsLegalAt, are_local, has_halted, part_after, room_for, start_in};
 
 use crate::cores::Core;
 use crate::news::News;
 use driver_core::Driver;
-use egl_calls::Journal;
+use egl_calls::{Entry, Journal};
+use std::collections::VecDeque;
+use thread_part::ThreadPart;
 use turn_lock::{Pass, Turns};
 
 /// A driver and its journal, to be shared by reference. It must be spent, by `close`.
@@ -15,20 +20,39 @@ pub struct Shared {
     pub(crate) news: News,
 }
 
-/// A thread's right to make calls: its token. It must be spent, by `Shared::join` or `Shared::close`.
-pub struct Thread {
+/// What a thread holds between its turns: its pass, its private part, and its own calls.
+pub(crate) struct Holding {
     pub(crate) pass: Pass<Core>,
     pub(crate) number: u32,
+    // in the thread's turn it is in the driver
+    pub(crate) part: Option<ThreadPart>,
+    // not handed in yet
+    pub(crate) tail: VecDeque<Entry>,
+}
+
+/// A thread's right to make calls: its token. It must be spent, by `Shared::join` or `Shared::close`.
+///
+/// The thread's private part is in its token, and so are the calls that the part alone answered. These enter the history directly before the thread's next shared call, or when they are handed in.
+pub struct Thread {
+    pub(crate) hold: Holding,
+    // of the 256 calls that take no memory
+    pub(crate) places: u64,
     // an entry of its own is a Halt
     pub(crate) halted: bool,
     // a `live` answered 1, and nothing was attached since
     pub(crate) sole: bool,
-    ghost free: { IsFree pass },
-    ghost numbered: { number ≡ (view_of pass).number },
-    ghost room: { room_for halted ≤ slice_index (view_of pass).rooms (view_of pass).number },
-    ghost halts: { halted ≡ has_halted (view_of pass).number (view_of pass).seen },
-    ghost counted: { sole ≡ true → (view_of pass).counts.live ≡ 1 },
-    ghost legal: { IsLegalIn (view_of pass).first (view_of pass).seen },
+    ghost free: { IsFree hold.pass },
+    ghost numbered: { hold.number ≡ (view_of hold.pass).number },
+    ghost few: { hold.number < 65536 },
+    ghost sides: { All HasSides (start_in (view_of hold.pass).first).windows },
+    ghost legal: { IsLegalAt (start_in (view_of hold.pass).first) ((view_of hold.pass).seen ++ hold.tail.items) },
+    ghost local: { are_local (replay_from (start_in (view_of hold.pass).first) (view_of hold.pass).seen) hold.number hold.tail.items ≡ true },
+    ghost part: { hold.part ≡ Some (part_after (start_in (view_of hold.pass).first) hold.number ((view_of hold.pass).seen ++ hold.tail.items)) },
+    ghost room: { room_for halted + places + length hold.tail.items ≤ slice_index (view_of hold.pass).rooms (view_of hold.pass).number },
+    ghost many: { places + length hold.tail.items ≤ 256 },
+    ghost spare: { 256 ≤ deque_capacity hold.tail },
+    ghost halts: { halted ≡ has_halted (view_of hold.pass).number ((view_of hold.pass).seen ++ hold.tail.items) },
+    ghost counted: { sole ≡ true → (view_of hold.pass).counts.live ≡ 1 },
 }
 
 /// A driver, with its first token.

@@ -25,16 +25,18 @@ impl Shared {
         ensures reply { IfSome result (λ r. r ≡ wait_ended) }
         ensures ended { OnSome result (Goes (token_of thread.old) (entry (token_of thread.old).number mark wait_end_call wait_ended ∷ []) (token_of thread.new)) }
         ensures none { IfNone result (Learns (token_of thread.old) (token_of thread.new) × HasPlace thread.new) }
+        ensures places { (token_of thread.new).places ≡ (token_of thread.old).places }
     {
-        let mut held = self.turns.take_turn(&mut thread.pass, rt);
-        match held.value().try_end(alloc, thread.number, mark) {
+        let mut held = self.begin_turn(&mut thread.hold, rt);
+        let core = held.value();
+        match core.try_end(alloc, thread.hold.number, mark, &mut thread.hold.tail) {
             Some(reply) => {
-                self.turns.give_back(&mut thread.pass, held);
+                self.end_turn(&mut thread.hold, held);
                 self.news.tell();
                 Some(reply)
             }
             None => {
-                self.turns.give_back(&mut thread.pass, held);
+                self.end_turn(&mut thread.hold, held);
                 None
             }
         }
@@ -55,6 +57,7 @@ impl Shared {
         ensures sole { (token_of thread.new).sole ≡ (token_of thread.old).sole }
         ensures reply { result ≡ wait_ended }
         ensures ended { Goes (token_of thread.old) (entry (token_of thread.old).number mark wait_end_call wait_ended ∷ []) (token_of thread.new) }
+        ensures places { (token_of thread.new).places ≡ (token_of thread.old).places }
     {
         'waiting: for _ in rt.forever() {
             let heard = self.news.heard();

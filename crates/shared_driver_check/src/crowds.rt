@@ -4,12 +4,14 @@ ghost use Rattle.egl_calls.specs.Kinds.{is_built};
 ghost use Rattle.egl_model.specs.Waits.{is_wait_end};
 ghost use Rattle.shared_driver.specs.Tokens.{IsOf};
 
-use crate::draws::{Draws, built_call, display_call};
-use egl_calls::Call;
+use crate::draws::{Draws, built_call, display_call, own_call};
+use egl_calls::{Call, Reply};
 use shared_driver::{AttachError, Closed, Opened, Shared, Thread};
 use std::alloc::Global;
 use std::process::Abort;
 use std::sync::Wait;
+use std::sync::atomic::AtomicU64;
+use std::sync::atomic::Ordering::SeqCst;
 use std::thread;
 use std::thread::Threads;
 
@@ -24,18 +26,50 @@ pub fn opened<R: Abort>(rt: &R, alloc: Global, video: u64) -> Opened
     }
 }
 
-// The display's call, or one of any kind that is built.
-fn call_of(alloc: Global, draws: &mut Draws, any: bool) -> Call
+// The display's call, or one of any kind that is built, or of any that a thread's part may answer.
+fn call_of(alloc: Global, draws: &mut Draws, any: bool, own: bool) -> Call
     ensures built { is_built result.kind ≡ true }
     ensures kind { is_wait_end result.kind ≡ false }
 {
+    if own {
+        return own_call(alloc, draws);
+    }
     if any {
         return built_call(alloc, draws);
     }
     display_call(alloc)
 }
 
-// Calls of one thread: the display's, or any that are built, drawn by the token's number.
+// Plays a call on the token's own part, where that may answer it and is asked to.
+fn made<R: Abort + Wait>(
+    rt: &R,
+    alloc: Global,
+    shared: &Shared,
+    thread: &mut Thread,
+    mark: u64,
+    call: Call,
+    own: bool,
+    counted: &AtomicU64,
+) -> Reply
+    requires owns { IsOf shared.now thread.old }
+    requires built { is_built call.kind ≡ true }
+    requires kind { is_wait_end call.kind ≡ false }
+    ensures { IsOf shared.now thread.new }
+{
+    if own && thread.is_local(&call) {
+        counted.fetch_add(1, SeqCst);
+        let Ok(reply) = thread.local(alloc, mark, call) else {
+            panic!(rt; "memory");
+        };
+        return reply;
+    }
+    match shared.call(thread, rt, alloc, mark, call) {
+        Ok(reply) => reply,
+        Err(_) => panic!(rt; "memory"),
+    }
+}
+
+// Calls of one thread: the display's; or any that are built, drawn by the token's number, of which half are such as its part may answer.
 fn calls<R: Abort + Wait>(
     rt: &R,
     alloc: Global,
@@ -43,22 +77,22 @@ fn calls<R: Abort + Wait>(
     thread: &mut Thread,
     any: bool,
     count: u64,
+    counted: &AtomicU64,
 )
     requires { IsOf shared.now thread.old }
     ensures { IsOf shared.now thread.new }
 {
     let mut draws = Draws::new(u64::from(thread.number()));
     'calling: for mark in 0..count {
-        let call = call_of(alloc, &mut draws, any);
+        let own = any && draws.next(2) == 0;
+        let call = call_of(alloc, &mut draws, any, own);
         let kind = call.kind;
-        match shared.call(thread, rt, alloc, mark, call) {
-            Ok(reply) => draws.learn(kind, &reply),
-            Err(_) => panic!(rt; "memory"),
-        }
+        let reply = made(rt, alloc, shared, thread, mark, call, own, counted);
+        draws.learn(kind, &reply);
     }
 }
 
-/// Makes so many calls in each of so many threads, with tokens that it joins in the end: eglGetDisplay, or any that are built.
+/// Makes so many calls in each of so many threads, with tokens that it joins in the end: eglGetDisplay, or any that are built. It answers how many of them the threads' parts answered.
 pub fn crowd<R: Abort + Threads + Wait + Sync>(
     rt: &R,
     alloc: Global,
@@ -67,11 +101,12 @@ pub fn crowd<R: Abort + Threads + Wait + Sync>(
     threads: usize,
     any: bool,
     count: u64,
-)
+) -> u64
     requires owns { IsOf shared.now thread.old }
     requires threads { 0 < threads }
     ensures { IsOf shared.now thread.new }
 {
+    let counted = AtomicU64::new(0);
     let Ok(mut tokens) = Vec::with_capacity(alloc, threads) else {
         panic!(rt; "memory");
     };
@@ -88,12 +123,13 @@ pub fn crowd<R: Abort + Threads + Wait + Sync>(
         &|_, t: &mut Thread|
             requires { IsOf shared.now t.now }
             ensures { IsOf shared.entry.now t.exit.now }
-        { calls(rt, alloc, shared, t, any, count) },
+        { calls(rt, alloc, shared, t, any, count, &counted) },
     );
     'joining: while let Some(other) = tokens.pop() {
         shared.join(thread, rt, other);
     }
     tokens.destroy_empty();
+    counted.load(SeqCst)
 }
 
 /// Attaches tokens and joins them, until there can be no more, and answers how many were made.

@@ -213,6 +213,19 @@ fn list_of(alloc: Global, draws: &mut Draws, kind: Kind) -> Numbers
     }
 }
 
+// The kinds that a thread's private part may answer.
+const OWN: [u32; 11] = [0, 11, 12, 16, 17, 18, 28, 31, 32, 33, 39];
+
+/// A call that a thread's private part may answer, with numbers and sizes that are small.
+pub fn own_call(alloc: Global, draws: &mut Draws) -> Call
+    ensures built { is_built result.kind ≡ true }
+    ensures kind { is_wait_end result.kind ≡ false }
+{
+    let kind = kind_of(OWN[draws.next(11) as usize]);
+    let numbers = numbers_of(draws, kind);
+    call_with(kind, numbers, Numbers::new(alloc))
+}
+
 /// A call of a kind that the driver plays, on the first display, with numbers and sizes that are small.
 pub fn built_call(alloc: Global, draws: &mut Draws) -> Call
     ensures built { is_built result.kind ≡ true }

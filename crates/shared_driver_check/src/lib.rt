@@ -6,6 +6,8 @@ mod crowds;
 #[cfg(test)]
 mod draws;
 #[cfg(test)]
+mod places;
+#[cfg(test)]
 mod replays;
 #[cfg(test)]
 mod sides;

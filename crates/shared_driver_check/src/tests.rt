@@ -2,6 +2,7 @@ ghost use Rattle.std.specs.Prelude.{◌≤◌, ◌<◌, All};
 ghost use Rattle.shared_driver.specs.Tokens.{IsOf};
 
 use crate::crowds::{attached_all, crowd, finish, opened};
+use crate::places::{Row, Step, holds, queries};
 use crate::replays::is_replayed;
 use crate::sides::{set_scene, two_sides};
 use driver_core::Driver;
@@ -30,8 +31,9 @@ fn rising(entries: &[Entry], number: u32) -> u64 {
 #[test]
 fn two_threads_make_500_calls_each(rt: HostRuntime) -> Result<(), Fail> {
     let Opened { shared, mut thread } = opened(&rt, rt.alloc(), 1000);
-    crowd(&rt, rt.alloc(), &shared, &mut thread, 2, false, 500);
+    let own = crowd(&rt, rt.alloc(), &shared, &mut thread, 2, false, 500);
     let run = finish(&rt, shared, thread);
+    assert_eq!(rt; own, 0);
     assert_eq!(rt; run.journal.len(), 1000);
     assert_eq!(rt; rising(run.journal.as_slice(), 1), 500);
     assert_eq!(rt; rising(run.journal.as_slice(), 2), 500);
@@ -161,16 +163,66 @@ fn a_token_halts_once(rt: HostRuntime) -> Result<(), Fail> {
     Ok(())
 }
 
+#[test]
+fn local_calls_take_the_places_that_other_calls_give_back(rt: HostRuntime) -> Result<(), Fail> {
+    let rows = [
+        Row {
+            local: 256,
+            before: None,
+            last: Step::Census,
+        },
+        Row {
+            local: 255,
+            before: Some(Step::Flush),
+            last: Step::Flush,
+        },
+    ];
+    'rows: for row in &rows {
+        assert!(rt; holds(&rt, rt.alloc(), row), "{} local calls", row.local);
+    }
+    Ok(())
+}
+
+// Local calls of a token before it makes another, and of that one before it is joined.
+fn queried<R: Abort + Wait>(rt: &R, alloc: Global, shared: &Shared, thread: &mut Thread) -> u64
+    requires { IsOf shared.now thread.old }
+    ensures { IsOf shared.now thread.new }
+{
+    let first = queries(alloc, shared, thread, 3);
+    let Ok(mut other) = shared.attach(thread, rt) else {
+        panic!(rt; "no token");
+    };
+    let second = queries(alloc, shared, &mut other, 2);
+    shared.join(thread, rt, other);
+    let third = queries(alloc, shared, thread, 1);
+    first.wrapping_add(second).wrapping_add(third)
+}
+
+#[test]
+fn own_calls_are_handed_in_once(rt: HostRuntime) -> Result<(), Fail> {
+    let Opened { shared, mut thread } = opened(&rt, rt.alloc(), 1000);
+    let made = queried(&rt, rt.alloc(), &shared, &mut thread);
+    let run = finish(&rt, shared, thread);
+    let entries = run.journal.as_slice();
+    let of_other = entries.iter().filter(|e| e.thread == 1).count();
+    assert_eq!(rt; made, 6);
+    assert_eq!(rt; entries.len(), 6);
+    assert_eq!(rt; of_other, 2);
+    assert!(rt; is_replayed(&rt, rt.alloc(), &run.journal, 2, 1000));
+    Ok(())
+}
+
 // How many bytes of pixels the random calls may make.
 const VIDEO: u64 = 1 << 20;
 
 #[test]
 fn sixteen_threads_make_1_000_calls_each(rt: HostRuntime) -> Result<(), Fail> {
     let Opened { shared, mut thread } = opened(&rt, rt.alloc(), VIDEO);
-    crowd(&rt, rt.alloc(), &shared, &mut thread, 16, true, 1000);
+    let own = crowd(&rt, rt.alloc(), &shared, &mut thread, 16, true, 1000);
     let run = finish(&rt, shared, thread);
     let entries = run.journal.as_slice();
     let reads = entries.iter().filter(|e| e.reply.bytes.len() != 0).count();
+    assert!(rt; own > 7_500, "{own} calls took no turn");
     assert_eq!(rt; run.journal.len(), 16_000);
     assert_eq!(rt; run.driver.threads(), 17);
     assert!(rt; reads != 0, "no pixels were read");

@@ -94,6 +94,7 @@ module _ {S E : Type 0} (m : Meaning S E) (k : Snapshot S) where
           found = finds m k s r id v at live h.0 h.1;
           history = h.1.stands.is ∙ all_seen;
           owned = subst (All (λ e. Owns v (m.number e))) (sym h.1.stands.is) owns;
+          made_owned = λ n inside. let p = r.owned n (subst (λ k. n < k) h.1.made_is inside) in subst (λ (u : View S E). Owns u n) (me p.0 p.1 p.2 p.3).1 p.4;
           sole = h.1.live_is ∙ one;
         };
       })

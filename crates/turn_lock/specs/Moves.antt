@@ -1,5 +1,5 @@
 -- What each move of the lock does to a view, and what a step tells its caller.
-use Rattle.std.specs.Prelude.{◌≡◌, ◌≢◌, ℕ, ◌+◌, ◌-◌, ◌%◌, ◌^◌, true, false, [], ◌∷◌, ◌++◌, Some, None}
+use Rattle.std.specs.Prelude.{◌≡◌, ◌≢◌, ℕ, ◌+◌, ◌-◌, ◌%◌, ◌^◌, true, false, List, [], ◌∷◌, ◌++◌, Some, None}
 use Rattle.std.specs.Prelude as std
 use Rattle.atomic_table.specs.Table.{Me, Step}
 use Rattle.std.specs.declared.snapshot.Snapshot.{Snapshot}
@@ -23,13 +23,13 @@ module _ {S E : Type 0} (m : Meaning S E) where
   went v x = record v { in_turn = false; ticket = None; seen = m.history x; rooms = m.rooms x; joined = None }
 
 module _ {S E : Type 0} where
-  -- The view of a pass that made another: one more was made, and one more is live
-  abbrev pub grown : ℕ → View S E → View S E
-  grown room v = record v { counts = record { made = v.counts.made + 1; live = v.counts.live + 1 }; rooms = v.rooms ++ room ∷ [] }
+  -- The view of a pass that made another: it has seen this history, one more was made, and one more is live
+  abbrev pub grown : ℕ → List E → View S E → View S E
+  grown room seen v = record v { seen = seen; joined = None; counts = record { made = v.counts.made + 1; live = v.counts.live + 1 }; rooms = v.rooms ++ room ∷ [] }
 
   -- The view of the pass that it made: its number is that of the passes made before, and it has seen what its maker has seen
-  abbrev pub fresh : ℕ → View S E → View S E
-  fresh room v = record { first = v.first; live = true; number = v.counts.made; seen = v.seen; ticket = None; in_turn = false; counts = record { made = 0; live = 0 }; rooms = v.rooms ++ room ∷ []; ended = []; joined = None }
+  abbrev pub fresh : ℕ → List E → View S E → View S E
+  fresh room seen v = record { first = v.first; live = true; number = v.counts.made; seen = seen; ticket = None; in_turn = false; counts = record { made = 0; live = 0 }; rooms = v.rooms ++ room ∷ []; ended = []; joined = None }
 
   -- what a joined pass knew
   abbrev pub joined_of : View S E → Joined E

@@ -53,5 +53,7 @@ module _ {S E : Type 0} (m : Meaning S E) where
     pub history : m.history x ≡ v.seen
     -- each entry is the pass's own, or of a pass that ended in it
     pub owned : All (λ e. Owns v (m.number e)) (m.history x)
+    -- so is each number made
+    pub made_owned : (n : ℕ) → n < m.made x → Owns v n
     -- and there is no other pass
     pub sole : m.live x ≡ 1

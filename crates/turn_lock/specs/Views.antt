@@ -33,6 +33,10 @@ module _ {S E : Type 0} (m : Meaning S E) where
   abbrev pub AreOwn : View S E → List E → Type 0
   AreOwn v es = All (λ e. m.number e ≡ v.number) es
 
+  -- the history is what the pass has seen, and then entries of its own number
+  abbrev pub ThenOwn : View S E → List E → Type 0
+  ThenOwn v all = (own : List E) × (all ≡ v.seen ++ own) × AreOwn v own
+
   -- all is what the pass has seen, and then entries of others
   abbrev pub ThenOthers : View S E → List E → Type 0
   ThenOthers v all = (between : List E) × (all ≡ v.seen ++ between) × AreOthers v between

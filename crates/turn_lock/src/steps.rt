@@ -35,19 +35,25 @@ impl<S: Replays> Play<Option<S>, View<S, S::Entry>> for Tell {
     ghost then = { told S.meaning };
 }
 
-/// The room of a new pass, as a number that a step's type can carry.
+/// The room of a new pass and the history that it has seen, as a step's type can carry them.
 ///
 /// A `Split` is a type and has no arguments, but the room is known only when the program runs. So `Cut` takes a type parameter
 /// that names the room. The one type that it is used at is `Brand`, which stands for any member that a call picks:
 /// `Turns::split` picks the room that it was passed. Nothing of this is left when it runs.
-pub(crate) trait Room {
-    ghost use Rattle.std.specs.Prelude.{ℕ};
+pub(crate) trait Room<E> {
+    ghost use Rattle.std.specs.Prelude.{ℕ, List};
 
     ghost room: { ℕ };
+
+    ghost seen: { List E };
 }
 
-impl Room for Brand {
+impl<E> Room<E> for Brand {
+    ghost use Rattle.std.specs.Prelude.{[]};
+
     ghost room = { 0 };
+
+    ghost seen = { [] };
 }
 
 /// A pass makes another, with the room `K.room`.
@@ -55,10 +61,10 @@ pub(crate) struct Cut<K> {
     room: PhantomData<K>,
 }
 
-impl<S, E, K: Room> Split<View<S, E>> for Cut<K> {
-    ghost left = { grown K.room };
+impl<S, E, K: Room<E>> Split<View<S, E>> for Cut<K> {
+    ghost left = { grown K.room K.seen };
 
-    ghost right = { fresh K.room };
+    ghost right = { fresh K.room K.seen };
 }
 
 /// A pass ends in another.

@@ -47,7 +47,7 @@ impl<S: Replays> Turns<S> {
     ghost use Rattle.turn_lock.specs.Moves.{newcomer, went, grown, fresh, joining, joined_of};
     ghost use Rattle.turn_lock.specs.Passes.{first_of, view_of, value_of, IsOf, IsHeldOf, IsFree, IsInTurn, HasCome};
     ghost use Rattle.turn_lock.specs.Values.{Begins, Finds, Returns, Leaves};
-    ghost use Rattle.turn_lock.specs.Views.{Includes};
+    ghost use Rattle.turn_lock.specs.Views.{Includes, ThenOwn};
 
     /// Puts a value under a lock of its own. Its opening is that of every history in this lock.
     pub fn new(alloc: Global, value: S) -> Result<Opening<S>, NoMemory>
@@ -127,16 +127,17 @@ impl<S: Replays> Turns<S> {
         }
     }
 
-    // The body of `split`, for a room that its type names: see `Room`.
-    fn cut<K: Room>(&self, pass: &mut Pass<S>, room: u64) -> Pass<S>
+    // The body of `split`, for a room and a history that its type names: see `Room`.
+    fn cut<K: Room<S::Entry>>(&self, pass: &mut Pass<S>, room: u64) -> Pass<S>
         requires lock { IsOf self.now pass.old }
         requires turn { IsInTurn pass.old }
         requires few { (view_of pass.old).counts.made < 65536 }
         requires room { room ≡ K.room }
+        requires seen { ThenOwn S.meaning (view_of pass.old) K.seen }
         ensures lock { IsOf self.now pass.new × IsOf self.now result }
         ensures turn { IsInTurn pass.new × IsFree result }
-        ensures view { view_of pass.new ≡ grown room (view_of pass.old) }
-        ensures new { view_of result ≡ fresh room (view_of pass.old) }
+        ensures view { view_of pass.new ≡ grown room K.seen (view_of pass.old) }
+        ensures new { view_of result ≡ fresh room K.seen (view_of pass.old) }
     {
         Pass {
             seat: self.table.shared.split_seat::<Cut<K>>(&mut pass.seat),
@@ -151,10 +152,41 @@ impl<S: Replays> Turns<S> {
         requires few { (view_of pass.old).counts.made < 65536 }
         ensures lock { IsOf self.now pass.new × IsOf self.now result }
         ensures turn { IsInTurn pass.new × IsFree result }
-        ensures view { view_of pass.new ≡ grown room (view_of pass.old) }
-        ensures new { view_of result ≡ fresh room (view_of pass.old) }
+        ensures view { view_of pass.new ≡ grown room (view_of pass.old).seen (view_of pass.old) }
+        ensures new { view_of result ≡ fresh room (view_of pass.old).seen (view_of pass.old) }
     {
         self.cut::<Brand>(pass, room)
+    }
+
+    // The body of `split_after`, for a room that its type names and the history of the value in hand.
+    fn cut_after<K: Room<S::Entry>>(&self, pass: &mut Pass<S>, held: &Held<S>, room: u64) -> Pass<S>
+        requires lock { IsOf self.now pass.old }
+        requires turn { IsInTurn pass.old }
+        requires few { (view_of pass.old).counts.made < 65536 }
+        requires room { room ≡ K.room }
+        requires seen { S.meaning.history (value_of held.now) ≡ K.seen }
+        requires added { ThenOwn S.meaning (view_of pass.old) (S.meaning.history (value_of held.now)) }
+        ensures lock { IsOf self.now pass.new × IsOf self.now result }
+        ensures turn { IsInTurn pass.new × IsFree result }
+        ensures view { view_of pass.new ≡ grown room (S.meaning.history (value_of held.now)) (view_of pass.old) }
+        ensures new { view_of result ≡ fresh room (S.meaning.history (value_of held.now)) (view_of pass.old) }
+    {
+        let Held { value: _, taken: _ } = held;
+        self.cut::<K>(pass, room)
+    }
+
+    /// The same once this pass has added entries of its own number to the value in hand. Both have then seen these too.
+    pub fn split_after(&self, pass: &mut Pass<S>, held: &Held<S>, room: u64) -> Pass<S>
+        requires lock { IsOf self.now pass.old }
+        requires turn { IsInTurn pass.old }
+        requires few { (view_of pass.old).counts.made < 65536 }
+        requires added { ThenOwn S.meaning (view_of pass.old) (S.meaning.history (value_of held.now)) }
+        ensures lock { IsOf self.now pass.new × IsOf self.now result }
+        ensures turn { IsInTurn pass.new × IsFree result }
+        ensures view { view_of pass.new ≡ grown room (S.meaning.history (value_of held.now)) (view_of pass.old) }
+        ensures new { view_of result ≡ fresh room (S.meaning.history (value_of held.now)) (view_of pass.old) }
+    {
+        self.cut_after::<Brand>(pass, held, room)
     }
 
     /// Ends the other pass, whose room is 0. The value is out, and has to count one live pass fewer before it is given back.

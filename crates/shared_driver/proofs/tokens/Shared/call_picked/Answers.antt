@@ -1,120 +1,215 @@
-use Rattle.std.proofs.Common.{[], ap, ◌∙◌, ◌||◌, ◌++◌, ◌≤◌, ◌<◌, ℕ, Bool, false, sym, refl, subst, List}
+use Rattle.std.proofs.Common.{◌≡◌, ◌≤◌, ◌<◌, ◌+◌, ◌-◌, ◌∙◌, ◌++◌, [], ℕ, Bool, false, List, arith, refl, ap, sym, subst, length}
 use Rattle.std.specs.Prelude.{slice_index}
-use Rattle.std.proofs.lemmas.List.{append-nil}
+use Rattle.std.specs.Prelude as std
+use Rattle.std.specs.VecDeque.{deque_capacity}
+use Rattle.std.proofs.lemmas.List.{append-nil, append_assoc, get_or-set_same}
+use Rattle.egl_calls.specs.Journals.{are_halted}
 use Rattle.egl_calls.specs.declared.entries.Entry.{Entry}
-use Rattle.driver_core.specs.Machine.{Machine}
+use Rattle.egl_model.specs.Hidden.{hide}
+use Rattle.egl_model.specs.History.{IsLegalFrom, replay_from}
+use Rattle.driver_core.specs.Machine.{Machine, outs}
 use Rattle.turn_lock.specs.Passes.{first_of, view_of}
 use Rattle.turn_lock.specs.declared.view.View.{View}
 use Rattle.shared_driver.specs.declared.cores.Core.{Core}
-use Rattle.shared_driver.specs.Cores.{has_halted, origin, room_for}
+use Rattle.shared_driver.specs.Cores.{origin, room_for}
 use Rattle.shared_driver.specs.Picks.{picked_entries}
-use Rattle.shared_driver.specs.Tokens.{mine, token_of}
-use Rattle.shared_driver.proofs.Owned.{mine_goes}
-use Rattle.shared_driver.proofs.Picking.{adds, answers, done, picked_own}
-use Rattle.shared_driver.proofs.Standing.{legal_from, mine_idle, nobody, returns_kept, room_stays, same_stands, token_after, token_idle, unplayed}
+use Rattle.shared_driver.specs.Turns.{IsTurn}
+use Rattle.shared_driver.proofs.Histories.{of_thread}
+use Rattle.shared_driver.proofs.Owned.{halted_more, halted_same, mine_goes, own_append}
+use Rattle.shared_driver.proofs.Standing.{has_part}
+use Rattle.shared_driver.proofs.Rooms.{set_twice}
+use Rattle.shared_driver.proofs.Turning.{after, hands_ends, hands_goes, hands_mine, hands_turn, lent_begun, many_now, may_end, room_found, room_hands, room_now, room_picks, tok}
+use Rattle.std.proofs.Common.{set}
+use Rattle.shared_driver.specs.Tokens.{Goes, mine}
+use Rattle.shared_driver.proofs.Owned.{all_own}
+use Rattle.shared_driver.proofs.Picking.{adds, answers, done, done_made, picked_halts, picked_of}
 use Rattle.shared_driver.proofs.tokens.Shared.call_picked.Goals as goal
 
 pub pick-requires-clause-may : goal.pick-requires-clause-may
 pick-requires-clause-may g c =
-    let f = (first_of c.args.self.now.turns).value in
-    let v = view_of c.args.thread.now.pass in
-    let z = c.value.result.now in
-    let is = c.value.ensures.value in
-    let found = c.take_turn-held.ensures.found in
-    let k = same_stands f z c.take_turn-held.result.value is found.stands in
-    c.requires.may z.journal.entries z.driver (legal_from (origin f) z.journal.entries k.legal)
-    (found.history.0, found.history.2, ap (λ (q : Core). q.journal.entries) is ∙ found.history.1 ∙ sym (append-nil (v.seen ++ found.history.0))) k.driver
-    (subst (λ (q : Core). v.number < q.driver.made) (sym is) found.number)
-
-pub give_back-requires-clause-value : goal.give_back-requires-clause-value
-give_back-requires-clause-value g c =
     let t = c.args.thread.now in
+    let h = t.hold in
     let f = (first_of c.args.self.now.turns).value in
-    let x = c.take_turn-held.result.value in
-    let z = c.value.result.now in
+    let u = c.begin_turn-held.new.hold in
+    let z = c.value-core.result.now in
+    let b = lent_begun f h u c.begin_turn-held.result.value z c.value-core.ensures.value c.begin_turn-held.ensures.begun in
+    let m = c.hand_in.new.self in
+    let q = c.hand_in.ensures in
+    let n = u.number in
+    let handed = hands_turn f h u z m _ b q.kept.0 q.entries q.rooms q.owed (omega (arith, q.promised, q.spare, b.turn.spare)) in
+    let its : n ≡ (view_of h.pass).number = b.numbered ∙ ap (λ (v : View Core Entry). v.number) b.view in
+    c.requires.may m.journal.entries m.driver (subst (IsLegalFrom (origin f)) (append-nil m.journal.entries) handed.legal) (b.between, b.others, q.entries ∙ (λ j. b.entries j ++ (b.same_tail j).items))
+    (handed.driver ∙ ap (λ (l : List Entry). hide (outs m.driver.away) (replay_from (origin f) l)) (append-nil m.journal.entries))
+    (subst (λ k. k < m.driver.made) its (subst (λ k. n < k) handed.known handed.number)) (subst (λ k. std.slice_index_or m.driver.away k false ≡ false) its (has_part f m n [] handed))
+
+pub end_turn-requires-clause-ends : goal.end_turn-requires-clause-ends
+end_turn-requires-clause-ends g c =
+    let t = c.args.thread.now in
+    let h = t.hold in
+    let f = (first_of c.args.self.now.turns).value in
+    let u = c.begin_turn-held.new.hold in
+    let z = c.value-core.result.now in
+    let b = lent_begun f h u c.begin_turn-held.result.value z c.value-core.ensures.value c.begin_turn-held.ensures.begun in
+    let m = c.hand_in.new.self in
+    let q = c.hand_in.ensures in
+    let n = u.number in
+    let handed = hands_turn f h u z m _ b q.kept.0 q.entries q.rooms q.owed (omega (arith, q.promised, q.spare, b.turn.spare)) in
     let y = c.pick.new.self in
-    let is = c.value.ensures.value in
     let p = c.in-Ok.ensures in
-    let k = done f z x y t.number p.ok.0 c.in-Ok.field-0.picked is c.take_turn-held.ensures.found.stands p.ok.2 p.kept p.spare in
-    returns_kept f (view_of t.pass) (view_of c.take_turn-held.new.pass) x z y k.more t.number is c.take_turn-held.ensures.view t.numbered k.core k.added k.own k.made p.kept.0 (ap (λ r. r.items) p.kept.1)
+    let r = c.in-Ok.field-0.picked in
+    let rooms = p.rooms ∙ ap (λ (l : List ℕ). set l n (slice_index m.rooms.items n + (256 - t.places))) q.rooms ∙ set_twice z.rooms.items n (slice_index z.rooms.items n - length u.tail.items) (slice_index m.rooms.items n + (256 - t.places)) in
+    let left : slice_index m.rooms.items n ≡ slice_index z.rooms.items n - length u.tail.items = ap (λ (l : List ℕ). slice_index l n) q.rooms ∙ get_or-set_same z.rooms.items n _ 0 b.turn.number in
+    let added : y.journal.entries ≡ (z.journal.entries ++ u.tail.items) ++ picked_entries n p.ok.0 r = adds m y n p.ok.0 r p.ok.2 ∙ ap (λ l. l ++ picked_entries n p.ok.0 r) q.entries in
+    may_end f h u _ z y (u.tail.items ++ picked_entries n p.ok.0 r) _ b refl refl
+    (subst (IsTurn f y n) (sym p.tail.0) (done f m y n p.ok.0 r handed (record { room = slice_index m.rooms.items n + (256 - t.places); rooms = p.rooms; promised = p.owed; spare = p.spare }) p.ok.2))
+    (added ∙ append_assoc z.journal.entries u.tail.items (picked_entries n p.ok.0 r)) (own_append n u.tail.items (picked_entries n p.ok.0 r) (of_thread _ n u.tail.items b.turn.local) (picked_of n p.ok.0 r))
+    (done_made m y n p.ok.0 r p.ok.2 ∙ ap (λ (x : Machine). x.made) q.kept.0) (p.live ∙ q.kept.1) rooms
+    (subst (λ (l : List Entry). length l < slice_index m.rooms.items n + (256 - t.places)) (sym p.tail.0) (omega (arith, left, b.room)))
 
-pub give_back-requires-in-Err-clause-value : goal.give_back-requires-in-Err-clause-value
-give_back-requires-in-Err-clause-value g c =
+pub end_turn-requires-in-Err-clause-ends : goal.end_turn-requires-in-Err-clause-ends
+end_turn-requires-in-Err-clause-ends g c =
     let t = c.args.thread.now in
+    let h = t.hold in
     let f = (first_of c.args.self.now.turns).value in
-    let x = c.take_turn-held.result.value in
-    let z = c.value.result.now in
+    let u = c.begin_turn-held.new.hold in
+    let z = c.value-core.result.now in
+    let b = lent_begun f h u c.begin_turn-held.result.value z c.value-core.ensures.value c.begin_turn-held.ensures.begun in
+    let m = c.hand_in.new.self in
+    let q = c.hand_in.ensures in
+    let n = u.number in
+    let handed = hands_turn f h u z m _ b q.kept.0 q.entries q.rooms q.owed (omega (arith, q.promised, q.spare, b.turn.spare)) in
     let y = c.pick.new.self in
-    let is = c.value.ensures.value in
     let p = c.in-Err.ensures in
-    returns_kept f (view_of t.pass) (view_of c.take_turn-held.new.pass) x z y [] t.number is c.take_turn-held.ensures.view t.numbered (unplayed f z x y is c.take_turn-held.ensures.found.stands p.err.1 p.err.0 p.kept p.spare)
-    (p.err.1 ∙ sym (append-nil z.journal.entries)) (nobody t.number) (ap (λ (m : Machine). m.made) p.err.0) p.kept.0 (ap (λ r. r.items) p.kept.1)
+    let rooms = ap (λ r. r.items) p.err.2 ∙ q.rooms in
+    hands_ends f h u _ z y _ b refl refl p.tail.0 (p.err.0 ∙ q.kept.0) (p.err.1 ∙ q.entries) rooms p.owed p.spare (p.live ∙ q.kept.1) (omega (arith, b.room))
 
 pub invariant_of-thread : goal.invariant_of-thread
 invariant_of-thread g c =
     let t = c.args.thread.now in
-    let f = first_of c.args.self.now.turns in
-    let v = view_of t.pass in
-    let x = c.take_turn-held.result.value in
-    let z = c.value.result.now in
+    let h = t.hold in
+    let f = (first_of c.args.self.now.turns).value in
+    let u = c.begin_turn-held.new.hold in
+    let z = c.value-core.result.now in
+    let b = lent_begun f h u c.begin_turn-held.result.value z c.value-core.ensures.value c.begin_turn-held.ensures.begun in
+    let m = c.hand_in.new.self in
+    let q = c.hand_in.ensures in
+    let n = u.number in
+    let handed = hands_turn f h u z m _ b q.kept.0 q.entries q.rooms q.owed (omega (arith, q.promised, q.spare, b.turn.spare)) in
     let y = c.pick.new.self in
-    let is = c.value.ensures.value in
     let p = c.in-Ok.ensures in
-    let found = c.take_turn-held.ensures.found in
-    let d = done f.value z x y t.number p.ok.0 c.in-Ok.field-0.picked is found.stands p.ok.2 p.kept p.spare in
-    let one = ap (λ n. has_halted n d.more) (sym t.numbered) ∙ d.halts_is in
-    let rooms = ap (λ (r : List ℕ). slice_index r v.number) (ap (λ r. r.items) p.kept.1 ∙ ap (λ (q : Core). q.rooms.items) is) ∙ found.own_room in
-    let k = token_after f v (view_of c.take_turn-held.new.pass) (view_of c.give_back.new.pass) x y d.more t.number t.halted c.either-thread.result t.sole
-    (record { numbered = t.numbered; room = t.room; halts = t.halts; counted = t.counted; legal = t.legal }) c.requires.owns.1 found c.take_turn-held.ensures.view c.give_back.ensures.view d.core
-    (d.added ∙ ap (λ (q : Core). q.journal.entries ++ d.more) is) (c.either-thread.ensures ∙ ap (λ b. t.halted || b) (p.ok.3 ∙ sym one))
-    (subst (λ (q : Bool × ℕ). room_for q.0 ≤ q.1) (λ j. (sym c.either-thread.ensures j, sym rooms j)) (room_stays t.halted _ _ t.room)) in
-    record { free = c.give_back.ensures.free; numbered = k.numbered; room = k.room; halts = k.halts; counted = k.counted; legal = k.legal }
+    let r = c.in-Ok.field-0.picked in
+    let rooms = p.rooms ∙ ap (λ (l : List ℕ). set l n (slice_index m.rooms.items n + (256 - t.places))) q.rooms ∙ set_twice z.rooms.items n (slice_index z.rooms.items n - length u.tail.items) (slice_index m.rooms.items n + (256 - t.places)) in
+    let left : slice_index m.rooms.items n ≡ slice_index z.rooms.items n - length u.tail.items = ap (λ (l : List ℕ). slice_index l n) q.rooms ∙ get_or-set_same z.rooms.items n _ 0 b.turn.number in
+    let added : y.journal.entries ≡ (z.journal.entries ++ u.tail.items) ++ picked_entries n p.ok.0 r = adds m y n p.ok.0 r p.ok.2 ∙ ap (λ l. l ++ picked_entries n p.ok.0 r) q.entries in
+    let w = c.end_turn.new.hold in
+    let k = c.end_turn.ensures.holds in
+    let a = after f h u u w z y _ b refl c.end_turn.ensures.view rooms in
+    let none : w.tail.items ≡ [] = ap (λ s. s.items) c.end_turn.ensures.kept.1 ∙ p.tail.0 in
+    let its : n ≡ (view_of h.pass).number = b.numbered ∙ ap (λ (v : View Core Entry). v.number) b.view in
+    let goes : Goes (tok h) (picked_entries (view_of h.pass).number p.ok.0 r) (tok w) =
+    (b.between, b.others, a.seen ∙ added ∙ (λ j. (b.entries j ++ (b.same_tail j).items) ++ picked_entries (its j) p.ok.0 r), none) in
+    let own = mine_goes (tok h) (tok w) (picked_entries (view_of h.pass).number p.ok.0 r) a.number goes ∙ ap (λ l. mine (tok h) ++ l) (all_own (view_of h.pass).number (picked_entries (view_of h.pass).number p.ok.0 r) (picked_of (view_of h.pass).number p.ok.0 r)) in
+    record {
+      free = k.free;
+      numbered = k.numbered;
+      few = k.few;
+      sides = k.sides;
+      legal = k.legal;
+      local = k.local;
+      part = k.part;
+      room = room_now c.either-thread.result 256 w _ none a.room_is (subst (λ (x : Bool). room_for x + 256 ≤ slice_index m.rooms.items n + (256 - t.places)) (sym c.either-thread.ensures) (room_picks t.halted c.in-Ok.field-0.halts t.places (length u.tail.items) (slice_index z.rooms.items n) (slice_index m.rooms.items n) (room_found f h u z t.halted t.places b t.room) (omega (arith, t.many)) left));
+      many = many_now 256 w none (omega arith);
+      spare = subst (λ k. 256 ≤ k) (sym (ap (λ s. deque_capacity s) c.end_turn.ensures.kept.1 ∙ p.tail.1 ∙ q.capacity ∙ ap (λ s. deque_capacity s) b.same_tail)) t.spare;
+      halts = c.either-thread.ensures ∙ halted_more (view_of h.pass).number (view_of w.pass).number ((view_of h.pass).seen ++ h.tail.items) ((view_of w.pass).seen ++ w.tail.items) (picked_entries (view_of h.pass).number p.ok.0 r) t.halted c.in-Ok.field-0.halts a.number t.halts own (ap (λ k. are_halted (picked_entries k p.ok.0 r)) (sym its) ∙ picked_halts m y n p.ok.0 r p.ok.2 ∙ sym p.ok.3);
+      counted = λ s. a.sole (t.counted s);
+    }
 
 pub invariant_of-thread-in-Err : goal.invariant_of-thread-in-Err
 invariant_of-thread-in-Err g c =
     let t = c.args.thread.now in
-    let f = first_of c.args.self.now.turns in
-    let x = c.take_turn-held.result.value in
-    let z = c.value.result.now in
+    let h = t.hold in
+    let f = (first_of c.args.self.now.turns).value in
+    let u = c.begin_turn-held.new.hold in
+    let z = c.value-core.result.now in
+    let b = lent_begun f h u c.begin_turn-held.result.value z c.value-core.ensures.value c.begin_turn-held.ensures.begun in
+    let m = c.hand_in.new.self in
+    let q = c.hand_in.ensures in
+    let n = u.number in
+    let handed = hands_turn f h u z m _ b q.kept.0 q.entries q.rooms q.owed (omega (arith, q.promised, q.spare, b.turn.spare)) in
     let y = c.pick.new.self in
-    let is = c.value.ensures.value in
     let p = c.in-Err.ensures in
-    let found = c.take_turn-held.ensures.found in
-    let k = token_idle f (view_of t.pass) (view_of c.take_turn-held.new.pass) (view_of c.give_back-in-Err.new.pass) x y t.number t.halted t.sole
-    (record { numbered = t.numbered; room = t.room; halts = t.halts; counted = t.counted; legal = t.legal }) c.requires.owns.1 found c.take_turn-held.ensures.view c.give_back-in-Err.ensures.view
-    (unplayed f.value z x y is found.stands p.err.1 p.err.0 p.kept p.spare) (p.err.1 ∙ ap (λ (q : Core). q.journal.entries) is) (ap (λ r. r.items) p.kept.1 ∙ ap (λ (q : Core). q.rooms.items) is) in
-    record { free = c.give_back-in-Err.ensures.free; numbered = k.numbered; room = k.room; halts = k.halts; counted = k.counted; legal = k.legal }
+    let rooms = ap (λ r. r.items) p.err.2 ∙ q.rooms in
+    let w = c.end_turn-in-Err.new.hold in
+    let k = c.end_turn-in-Err.ensures.holds in
+    let a = after f h u u w z y _ b refl c.end_turn-in-Err.ensures.view rooms in
+    let none : w.tail.items ≡ [] = ap (λ s. s.items) c.end_turn-in-Err.ensures.kept.1 ∙ p.tail.0 in
+    let goes = hands_goes f h u w z y _ b a none (p.err.1 ∙ q.entries) in
+    record {
+      free = k.free;
+      numbered = k.numbered;
+      few = k.few;
+      sides = k.sides;
+      legal = k.legal;
+      local = k.local;
+      part = k.part;
+      room = room_now t.halted t.places w _ none a.room_is (room_hands t.halted t.places _ _ (room_found f h u z t.halted t.places b t.room));
+      many = many_now t.places w none (omega (arith, t.many));
+      spare = subst (λ k. 256 ≤ k) (sym (ap (λ s. deque_capacity s) c.end_turn-in-Err.ensures.kept.1 ∙ p.tail.1 ∙ q.capacity ∙ ap (λ s. deque_capacity s) b.same_tail)) t.spare;
+      halts = halted_same (view_of h.pass).number (view_of w.pass).number ((view_of h.pass).seen ++ h.tail.items) ((view_of w.pass).seen ++ w.tail.items) t.halted a.number t.halts (hands_mine h w a.number goes);
+      counted = λ s. a.sole (t.counted s);
+    }
 
 pub returns-in-Ok-clause-ok : goal.returns-in-Ok-clause-ok
 returns-in-Ok-clause-ok g c =
     let t = c.args.thread.now in
+    let h = t.hold in
     let f = (first_of c.args.self.now.turns).value in
-    let v = view_of t.pass in
-    let u = view_of c.give_back.new.pass in
-    let z = c.value.result.now in
+    let u = c.begin_turn-held.new.hold in
+    let z = c.value-core.result.now in
+    let b = lent_begun f h u c.begin_turn-held.result.value z c.value-core.ensures.value c.begin_turn-held.ensures.begun in
+    let m = c.hand_in.new.self in
+    let q = c.hand_in.ensures in
+    let n = u.number in
+    let handed = hands_turn f h u z m _ b q.kept.0 q.entries q.rooms q.owed (omega (arith, q.promised, q.spare, b.turn.spare)) in
     let y = c.pick.new.self in
-    let is = c.value.ensures.value in
     let p = c.in-Ok.ensures in
     let r = c.in-Ok.field-0.picked in
-    let left = c.give_back.ensures.view in
-    let found = c.take_turn-held.ensures.found in
-    let at = ap (λ (q : Core). q.journal.entries) is ∙ found.history.1 ∙ sym (append-nil (v.seen ++ found.history.0)) in
-    let seen = ap (λ (q : View Core Entry). q.seen) left ∙ adds z y t.number p.ok.0 r p.ok.2 ∙ ap (λ n. z.journal.entries ++ picked_entries n p.ok.0 r) t.numbered in (
-      z.journal.entries,
-      z.driver,
+    let rooms = p.rooms ∙ ap (λ (l : List ℕ). set l n (slice_index m.rooms.items n + (256 - t.places))) q.rooms ∙ set_twice z.rooms.items n (slice_index z.rooms.items n - length u.tail.items) (slice_index m.rooms.items n + (256 - t.places)) in
+    let left : slice_index m.rooms.items n ≡ slice_index z.rooms.items n - length u.tail.items = ap (λ (l : List ℕ). slice_index l n) q.rooms ∙ get_or-set_same z.rooms.items n _ 0 b.turn.number in
+    let added : y.journal.entries ≡ (z.journal.entries ++ u.tail.items) ++ picked_entries n p.ok.0 r = adds m y n p.ok.0 r p.ok.2 ∙ ap (λ l. l ++ picked_entries n p.ok.0 r) q.entries in
+    let w = c.end_turn.new.hold in
+    let a = after f h u u w z y _ b refl c.end_turn.ensures.view rooms in
+    let none : w.tail.items ≡ [] = ap (λ s. s.items) c.end_turn.ensures.kept.1 ∙ p.tail.0 in
+    let its : n ≡ (view_of h.pass).number = b.numbered ∙ ap (λ (v : View Core Entry). v.number) b.view in
+    let goes : Goes (tok h) (picked_entries (view_of h.pass).number p.ok.0 r) (tok w) =
+    (b.between, b.others, a.seen ∙ added ∙ (λ j. (b.entries j ++ (b.same_tail j).items) ++ picked_entries (its j) p.ok.0 r), none) in
+    let own = mine_goes (tok h) (tok w) (picked_entries (view_of h.pass).number p.ok.0 r) a.number goes ∙ ap (λ l. mine (tok h) ++ l) (all_own (view_of h.pass).number (picked_entries (view_of h.pass).number p.ok.0 r) (picked_of (view_of h.pass).number p.ok.0 r)) in (
+      m.journal.entries,
+      m.driver,
       p.ok.0,
-      (found.history.0, found.history.2, at),
-      (same_stands f z c.take_turn-held.result.value is found.stands).driver,
+      (b.between, b.others, q.entries ∙ (λ j. b.entries j ++ (b.same_tail j).items)),
+      handed.driver ∙ ap (λ (l : List Entry). hide (outs m.driver.away) (replay_from (origin f) l)) (append-nil m.journal.entries),
       p.ok.1,
-      answers z y t.number p.ok.0 r p.ok.2,
-      seen,
-      mine_goes (token_of t) (record { number = u.number; seen = u.seen; tail = []; ended = u.ended; made = 0; live = 0; sole = false }) (picked_entries v.number p.ok.0 r) (ap (λ (q : View Core Entry). q.number) left ∙ ap (λ (q : View Core Entry). q.number) c.take_turn-held.ensures.view)
-          (found.history.0, found.history.2, seen ∙ ap (λ l. l ++ picked_entries v.number p.ok.0 r) at, refl)
-          ∙ ap (λ l. mine (token_of t) ++ l) (picked_own v.number p.ok.0 r),
+      answers m y n p.ok.0 r p.ok.2,
+      a.seen ∙ adds m y n p.ok.0 r p.ok.2 ∙ ap (λ k. m.journal.entries ++ picked_entries k p.ok.0 r) its,
+      own,
     )
 
 pub returns-in-Err-clause-err_mine : goal.returns-in-Err-clause-err_mine
 returns-in-Err-clause-err_mine g c =
-    let left = c.give_back-in-Err.ensures.view in
-    mine_idle (first_of c.args.self.now.turns).value (view_of c.args.thread.now.pass) (view_of c.give_back-in-Err.new.pass) c.take_turn-held.result.value c.pick.new.self c.take_turn-held.ensures.found
-    (ap (λ (z : View Core Entry). z.number) left ∙ ap (λ (z : View Core Entry). z.number) c.take_turn-held.ensures.view) (ap (λ (z : View Core Entry). z.seen) left) (c.in-Err.ensures.err.1 ∙ ap (λ (z : Core). z.journal.entries) c.value.ensures.value)
+    let t = c.args.thread.now in
+    let h = t.hold in
+    let f = (first_of c.args.self.now.turns).value in
+    let u = c.begin_turn-held.new.hold in
+    let z = c.value-core.result.now in
+    let b = lent_begun f h u c.begin_turn-held.result.value z c.value-core.ensures.value c.begin_turn-held.ensures.begun in
+    let m = c.hand_in.new.self in
+    let q = c.hand_in.ensures in
+    let n = u.number in
+    let handed = hands_turn f h u z m _ b q.kept.0 q.entries q.rooms q.owed (omega (arith, q.promised, q.spare, b.turn.spare)) in
+    let y = c.pick.new.self in
+    let p = c.in-Err.ensures in
+    let rooms = ap (λ r. r.items) p.err.2 ∙ q.rooms in
+    let w = c.end_turn-in-Err.new.hold in
+    let a = after f h u u w z y _ b refl c.end_turn-in-Err.ensures.view rooms in
+    hands_mine h w a.number (hands_goes f h u w z y _ b a (ap (λ s. s.items) c.end_turn-in-Err.ensures.kept.1 ∙ p.tail.0) (p.err.1 ∙ q.entries))

@@ -6,7 +6,7 @@ use Rattle.shared_driver.proofs.Learning.{goes_then, learns_twice, same_twice}
 use Rattle.shared_driver.proofs.tokens.Shared.end_wait.Goals as goal
 
 pub waiting-init : goal.waiting-init
-waiting-init g c = (c.requires.owns, (refl, refl), ([], (λ i d l. absurd (omega arith)), sym (append-nil _), refl), c.requires.place, refl)
+waiting-init g c = (c.requires.owns, (refl, refl), ([], (λ i d l. absurd (omega arith)), sym (append-nil _), refl), c.requires.place, refl, refl)
 
 pub returns-in-Some-try_end-clause-ended : goal.returns-in-Some-try_end-clause-ended
 returns-in-Some-try_end-clause-ended g c =
@@ -14,7 +14,7 @@ returns-in-Some-try_end-clause-ended g c =
     let u = token_of c.waiting.thread in
     let w = token_of c.try_end.new.thread in
     let h = c.waiting.invariant in
-    goes_then t u w (entry t.number c.args.mark wait_end_call wait_ended ∷ []) refl h.1 h.2 (subst (λ n. Goes u (entry n c.args.mark wait_end_call wait_ended ∷ []) w) h.1.0 c.in-Some-try_end.ensures.ended)
+    goes_then t u w (entry t.number c.args.mark wait_end_call wait_ended ∷ []) h.1 h.2 (subst (λ n. Goes u (entry n c.args.mark wait_end_call wait_ended ∷ []) w) h.1.0 c.in-Some-try_end.ensures.ended)
 
 pub waiting-preserved : goal.waiting-preserved
 waiting-preserved g c =
@@ -22,4 +22,4 @@ waiting-preserved g c =
     let u = token_of c.waiting.thread in
     let w = token_of c.try_end.new.thread in
     let h = c.waiting.invariant in
-    (c.try_end.ensures.owns, same_twice t u w h.1 c.try_end.ensures.same, learns_twice t u w h.1 h.2 c.in_default.ensures.none.0, c.in_default.ensures.none.1, c.try_end.ensures.sole ∙ h.4)
+    (c.try_end.ensures.owns, same_twice t u w h.1 c.try_end.ensures.same, learns_twice t u w h.1 h.2 c.in_default.ensures.none.0, c.in_default.ensures.none.1, c.try_end.ensures.sole ∙ h.4, c.try_end.ensures.places ∙ h.5)

@@ -1,11 +1,39 @@
+use Rattle.std.proofs.Common.{◌∙◌, ap, Some}
+use Rattle.egl_model.specs.Parts.{Private}
+use Rattle.egl_model.specs.State.{opening}
 use Rattle.turn_lock.specs.Passes.{first_of, view_of}
-use Rattle.shared_driver.proofs.Standing.{begins, first_token}
+use Rattle.shared_driver.proofs.Opening.{all_in, begins, first_ready, first_token}
 use Rattle.shared_driver.proofs.tokens.Shared.open.Goals as goal
 
 pub new-requires-2 : goal.new-requires-2
-new-requires-2 c = begins c.in_ok-core.core c.args.windows.now c.args.video c.in_ok-core.ensures.driver c.in_ok-core.ensures.journal c.in_ok-core.ensures.rooms
+new-requires-2 c =
+    let windows = c.args.windows.now in
+    let x = c.in_ok-core.core in
+    let d = c.in_ok-core.ensures in
+    let p = c.part_out-part.ensures in
+    begins x c.part_out-part.new.self windows c.args.video d.driver d.journal d.rooms
+    (p.outside (opening windows c.args.video) (first_ready windows c.args.video c.requires.windows) (all_in x (opening windows c.args.video) d.driver.0 d.driver.2)).1 p.driver p.opening p.kept
 
 pub invariant_of-result : goal.invariant_of-result
 invariant_of-result c =
-    let k = first_token (view_of c.in-Ok.field-0.pass) (first_of c.in-Ok.field-0.turns) c.in_ok-core.core c.in-Ok.ensures.pass.2 c.in-Ok.ensures.first c.in_ok-core.ensures.rooms.1 in
-    record { free = c.in-Ok.ensures.pass.1; numbered = k.numbered; room = k.room; halts = k.halts; counted = k.counted; legal = k.legal }
+    let windows = c.args.windows.now in
+    let x = c.in_ok-core.core in
+    let d = c.in_ok-core.ensures in
+    let p = c.part_out-part.ensures in
+    let part = (p.outside (opening windows c.args.video) (first_ready windows c.args.video c.requires.windows) (all_in x (opening windows c.args.video) d.driver.0 d.driver.2)).0 in
+    let k = first_token (view_of c.in-Ok.field-0.pass) (first_of c.in-Ok.field-0.turns) x c.part_out-part.new.self c.part_out-part.result c.in_ok-tail.tail.items windows c.args.video c.requires.windows
+    c.in-Ok.ensures.pass.2 c.in-Ok.ensures.first d.driver.0 p.opening part c.in_ok-tail.ensures.items (ap (λ r. r.items) p.kept.2 ∙ d.rooms.1) in
+    record {
+      free = c.in-Ok.ensures.pass.1;
+      numbered = k.numbered;
+      few = k.few;
+      sides = k.sides;
+      legal = k.legal;
+      local = k.local;
+      part = ap (λ (q : Private). Some q) k.part;
+      room = k.room;
+      many = k.many;
+      spare = c.in_ok-tail.ensures.capacity;
+      halts = k.halts;
+      counted = k.counted;
+    }

@@ -1,77 +1,92 @@
-use Rattle.std.proofs.Common.{ap, ◌∙◌, ◌||◌, ◌∷◌, ◌++◌, [], sym, subst}
-use Rattle.egl_calls.specs.declared.entries.Entry.{Entry}
+use Rattle.std.proofs.Common.{◌≡◌, ◌≤◌, ◌∙◌, ◌∷◌, ◌++◌, [], false, arith, refl, ap, sym, subst}
+use Rattle.std.specs.VecDeque.{deque_capacity}
 use Rattle.turn_lock.specs.Passes.{first_of, view_of}
-use Rattle.turn_lock.specs.declared.view.View.{View}
 use Rattle.shared_driver.specs.declared.cores.Core.{Core}
-use Rattle.shared_driver.specs.Cores.{wait_end_call, wait_ended, entry, has_halted, room_for}
-use Rattle.shared_driver.proofs.Standing.{halted_one, core_more, same_stands, token_idle, or_false, IsCore, own_alone, returns_idle, returns_set, room_falls, token_gen}
+use Rattle.shared_driver.specs.Cores.{entry, owed, wait_end_call, wait_ended}
+use Rattle.shared_driver.proofs.Owned.{halted_more, halted_same, or_false}
+use Rattle.shared_driver.proofs.Turning.{adds_ends, adds_goes, adds_mine, after, enough_less, keeps_ends, keeps_learns, keeps_mine, kept_rooms, lent_begun, many_kept, many_now, room_ends, room_found, room_kept, room_now, room_of}
 use Rattle.shared_driver.proofs.tokens.Shared.try_end.Goals as goal
 
-pub give_back-requires-clause-value : goal.give_back-requires-clause-value
-give_back-requires-clause-value g c =
+pub end_turn-requires-clause-ends : goal.end_turn-requires-clause-ends
+end_turn-requires-clause-ends g c =
     let t = c.args.thread.now in
+    let h = t.hold in
     let f = (first_of c.args.self.now.turns).value in
-    let v = view_of t.pass in
-    let x = c.take_turn-held.result.value in
-    let z = c.value.result.now in
-    let y = c.try_end.new.self in
-    let e = entry t.number c.args.mark wait_end_call wait_ended in
-    let is = c.value.ensures.value in
+    let u = c.begin_turn-held.new.hold in
+    let z = c.value-core.result.now in
+    let b = lent_begun f h u c.begin_turn-held.result.value z c.value-core.ensures.value c.begin_turn-held.ensures.begun in
     let p = c.in-Some.ensures in
-    returns_set f v (view_of c.take_turn-held.new.pass) x z y (e ∷ []) t.number _ is c.take_turn-held.ensures.view t.numbered
-    (core_more f z y e (same_stands f z x is c.take_turn-held.ensures.found.stands) p.added (sym p.ended.0 ∙ p.ended.1) (ap (λ m. m.state) p.driver) p.owed p.spare)
-    p.added (own_alone e v.number t.numbered) (ap (λ m. m.made) p.driver) p.live p.rooms
+    adds_ends f h u _ z c.try_end.new.self c.args.mark wait_end_call wait_ended _ b refl refl p.tail (sym p.ended.0 ∙ p.ended.1) p.driver p.added p.rooms p.owed p.spare p.live (enough_less t.halted t.places _ _ (room_of f h u z t.halted t.places 1 b c.requires.place))
 
-pub give_back-requires-in-None-clause-value : goal.give_back-requires-in-None-clause-value
-give_back-requires-in-None-clause-value g c =
+pub end_turn-requires-in-None-clause-ends : goal.end_turn-requires-in-None-clause-ends
+end_turn-requires-in-None-clause-ends g c =
     let t = c.args.thread.now in
+    let h = t.hold in
     let f = (first_of c.args.self.now.turns).value in
-    let x = c.take_turn-held.result.value in
-    let z = c.value.result.now in
+    let u = c.begin_turn-held.new.hold in
+    let z = c.value-core.result.now in
+    let b = lent_begun f h u c.begin_turn-held.result.value z c.value-core.ensures.value c.begin_turn-held.ensures.begun in
     let y = c.try_end.new.self in
-    let is = c.value.ensures.value in
-    let none = c.in-None.ensures.none in
-    returns_idle f (view_of t.pass) (view_of c.take_turn-held.new.pass) x z y t.number is c.take_turn-held.ensures.view t.numbered
-    (subst (λ (q : Core). IsCore f q) (sym none) (same_stands f z x is c.take_turn-held.ensures.found.stands))
-    (ap (λ (q : Core). q.journal.entries) none) (ap (λ (q : Core). q.driver.made) none) (ap (λ (q : Core). q.live) none) (ap (λ (q : Core). q.rooms.items) none)
+    let n = c.in-None.ensures.none in
+    keeps_ends f h u _ z y b refl refl n.1 (ap (λ (q : Core). q.driver) n.0) (ap (λ (q : Core). q.journal.entries) n.0) (ap (λ (q : Core). q.rooms.items) n.0)
+    (subst (λ (q : Core). q.promised ≡ owed q.rooms.items) (sym n.0) b.turn.promised) (subst (λ (q : Core). q.promised ≤ q.journal.spare) (sym n.0) b.turn.spare) (ap (λ (q : Core). q.live) n.0)
 
 pub invariant_of-thread : goal.invariant_of-thread
 invariant_of-thread g c =
     let t = c.args.thread.now in
-    let f = first_of c.args.self.now.turns in
-    let v = view_of t.pass in
-    let u = view_of c.give_back.new.pass in
-    let x = c.take_turn-held.result.value in
-    let z = c.value.result.now in
+    let h = t.hold in
+    let f = (first_of c.args.self.now.turns).value in
+    let u = c.begin_turn-held.new.hold in
+    let z = c.value-core.result.now in
+    let b = lent_begun f h u c.begin_turn-held.result.value z c.value-core.ensures.value c.begin_turn-held.ensures.begun in
+    let w = c.end_turn.new.hold in
+    let k = c.end_turn.ensures.holds in
     let y = c.try_end.new.self in
-    let e = entry t.number c.args.mark wait_end_call wait_ended in
-    let is = c.value.ensures.value in
     let p = c.in-Some.ensures in
-    let found = c.take_turn-held.ensures.found in
-    let left = c.give_back.ensures.view in
-    let view = c.take_turn-held.ensures.view in
-    let one = ap (λ n. has_halted n (e ∷ [])) (sym t.numbered) ∙ halted_one t.number c.args.mark wait_end_call wait_ended in
-    let k = token_gen f v u x y (e ∷ []) t.number t.halted t.halted t.sole t.sole
-    (record { numbered = t.numbered; room = t.room; halts = t.halts; counted = t.counted; legal = t.legal })
-    (ap (λ (q : View Core Entry). q.number) left ∙ ap (λ (q : View Core Entry). q.number) view) (ap (λ (q : View Core Entry). q.seen) left) (ap (λ (q : View Core Entry). q.rooms) left)
-    (ap (λ (q : View Core Entry). q.first) left ∙ ap (λ (q : View Core Entry). q.first) view ∙ c.requires.owns.1) found
-    (core_more f.value z y e (same_stands f.value z x is found.stands) p.added (sym p.ended.0 ∙ p.ended.1) (ap (λ m. m.state) p.driver) p.owed p.spare)
-    (p.added ∙ ap (λ (q : Core). q.journal.entries ++ e ∷ []) is) (sym (ap (λ b. t.halted || b) one ∙ or_false t.halted))
-    (room_falls f.value v x z y t.number (room_for t.halted) found is t.numbered p.rooms c.requires.place)
-    (λ s. ap (λ (q : View Core Entry). q.counts.live) left ∙ ap (λ (q : View Core Entry). q.counts.live) view ∙ found.sole (t.counted s)) in
-    record { free = c.give_back.ensures.free; numbered = k.numbered; room = k.room; halts = k.halts; counted = k.counted; legal = k.legal }
+    let a = after f h u u w z y _ b refl c.end_turn.ensures.view p.rooms in
+    let none : w.tail.items ≡ [] = ap (λ q. q.items) c.end_turn.ensures.kept.1 ∙ p.tail in
+    let goes = adds_goes f h u w z y _ c.args.mark wait_end_call wait_ended b a none p.added in
+    record {
+      free = k.free;
+      numbered = k.numbered;
+      few = k.few;
+      sides = k.sides;
+      legal = k.legal;
+      local = k.local;
+      part = k.part;
+      room = room_now t.halted t.places w _ none a.room_is (room_ends t.halted t.places _ _ (room_of f h u z t.halted t.places 1 b c.requires.place));
+      many = many_now t.places w none (omega (arith, t.many));
+      spare = subst (λ n. 256 ≤ n) (sym (ap (λ q. deque_capacity q) c.end_turn.ensures.kept.1 ∙ p.capacity ∙ ap (λ q. deque_capacity q) b.same_tail)) t.spare;
+      halts = sym (or_false t.halted) ∙ halted_more (view_of h.pass).number (view_of w.pass).number ((view_of h.pass).seen ++ h.tail.items) ((view_of w.pass).seen ++ w.tail.items) (entry (view_of h.pass).number c.args.mark wait_end_call wait_ended ∷ []) t.halted false a.number t.halts (adds_mine h w c.args.mark wait_end_call wait_ended a.number goes) (refl);
+      counted = λ s. a.sole (t.counted s);
+    }
 
 pub invariant_of-thread-in-None : goal.invariant_of-thread-in-None
 invariant_of-thread-in-None g c =
     let t = c.args.thread.now in
-    let f = first_of c.args.self.now.turns in
-    let x = c.take_turn-held.result.value in
-    let z = c.value.result.now in
+    let h = t.hold in
+    let f = (first_of c.args.self.now.turns).value in
+    let u = c.begin_turn-held.new.hold in
+    let z = c.value-core.result.now in
+    let b = lent_begun f h u c.begin_turn-held.result.value z c.value-core.ensures.value c.begin_turn-held.ensures.begun in
+    let w = c.end_turn-in-None.new.hold in
+    let k = c.end_turn-in-None.ensures.holds in
     let y = c.try_end.new.self in
-    let is = c.value.ensures.value in
-    let found = c.take_turn-held.ensures.found in
-    let none = c.in-None.ensures.none in
-    let k = token_idle f (view_of t.pass) (view_of c.take_turn-held.new.pass) (view_of c.give_back-in-None.new.pass) x y t.number t.halted t.sole
-    (record { numbered = t.numbered; room = t.room; halts = t.halts; counted = t.counted; legal = t.legal }) c.requires.owns.1 found c.take_turn-held.ensures.view c.give_back-in-None.ensures.view
-    (subst (λ (q : Core). IsCore f.value q) (sym none) (same_stands f.value z x is found.stands)) (ap (λ (q : Core). q.journal.entries) none ∙ ap (λ (q : Core). q.journal.entries) is) (ap (λ (q : Core). q.rooms.items) none ∙ ap (λ (q : Core). q.rooms.items) is) in
-    record { free = c.give_back-in-None.ensures.free; numbered = k.numbered; room = k.room; halts = k.halts; counted = k.counted; legal = k.legal }
+    let n = c.in-None.ensures.none in
+    let a = after f h u u w z y _ b refl c.end_turn-in-None.ensures.view (kept_rooms f h u z y b (ap (λ (q : Core). q.rooms.items) n.0)) in
+    let left : w.tail.items ≡ u.tail.items = ap (λ q. q.items) c.end_turn-in-None.ensures.kept.1 ∙ n.1 in
+    let learns = keeps_learns f h u w z y _ b a left (ap (λ (q : Core). q.journal.entries) n.0) in
+    record {
+      free = k.free;
+      numbered = k.numbered;
+      few = k.few;
+      sides = k.sides;
+      legal = k.legal;
+      local = k.local;
+      part = k.part;
+      room = room_kept t.halted t.places u w _ left a.room_is (room_found f h u z t.halted t.places b t.room);
+      many = many_kept t.places h w (left ∙ ap (λ q. q.items) b.same_tail) t.many;
+      spare = subst (λ n. 256 ≤ n) (sym (ap (λ q. deque_capacity q) c.end_turn-in-None.ensures.kept.1 ∙ c.in-None.ensures.capacity ∙ ap (λ q. deque_capacity q) b.same_tail)) t.spare;
+      halts = halted_same (view_of h.pass).number (view_of w.pass).number ((view_of h.pass).seen ++ h.tail.items) ((view_of w.pass).seen ++ w.tail.items) t.halted a.number t.halts (keeps_mine h w a.number learns);
+      counted = λ s. a.sole (t.counted s);
+    }

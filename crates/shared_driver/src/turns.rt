@@ -1,0 +1,49 @@
+//! How a turn of a thread begins, and how it ends.
+ghost use Rattle.std.specs.Prelude.{◌≡◌, None};
+ghost use Rattle.turn_lock.specs.Moves.{went};
+ghost use Rattle.turn_lock.specs.Passes as passes;
+ghost use Rattle.turn_lock.specs.Passes.{first_of, value_of, view_of, IsHeldOf, IsInTurn};
+ghost use Rattle.shared_driver.specs.Cores.{meaning};
+ghost use Rattle.shared_driver.specs.Turns.{Begun, Ends, Holds};
+
+use crate::cores::Core;
+use crate::tokens::{Holding, Shared};
+use std::sync::Wait;
+use turn_lock::Held;
+
+impl Shared {
+    /// Waits for a turn of the thread, and puts its private part back into the driver. Its own calls aren't handed in yet.
+    pub(crate) fn begin_turn<R: Wait>(&self, hold: &mut Holding, rt: &R) -> Held<Core>
+        requires owns { passes.IsOf self.now.turns hold.old.pass }
+        requires holds { Holds hold.old }
+        ensures lock { passes.IsOf self.now.turns hold.new.pass × IsHeldOf self.now.turns result }
+        ensures turn { IsInTurn hold.new.pass }
+        ensures begun { Begun (first_of self.now.turns).value hold.old hold.new (value_of result) }
+        ensures kept { (hold.new.number ≡ hold.old.number) × (hold.new.tail ≡ hold.old.tail) × (hold.new.part ≡ None) }
+    {
+        let mut held = self.turns.take_turn(&mut hold.pass, rt);
+        let Some(part) = hold.part.take() else {
+            unreachable!()
+        };
+        held.value().part_in(hold.number, part);
+        held
+    }
+
+    /// Hands out the thread's private part again, and passes the turn on.
+    pub(crate) fn end_turn(&self, hold: &mut Holding, mut held: Held<Core>)
+        requires lock { passes.IsOf self.now.turns hold.old.pass × IsHeldOf self.now.turns held }
+        requires turn { IsInTurn hold.old.pass }
+        requires gone { hold.old.part ≡ None }
+        requires ends { Ends (first_of self.now.turns).value hold.old (value_of held) }
+        ensures owns { passes.IsOf self.now.turns hold.new.pass }
+        ensures holds { Holds hold.new }
+        ensures view { view_of hold.new.pass ≡ went meaning (view_of hold.old.pass) (value_of held) }
+        ensures kept { (hold.new.number ≡ hold.old.number) × (hold.new.tail ≡ hold.old.tail) }
+    {
+        let part = held.value().part_out(hold.number);
+        let None = hold.part.replace(part) else {
+            unreachable!()
+        };
+        self.turns.give_back(&mut hold.pass, held);
+    }
+}
