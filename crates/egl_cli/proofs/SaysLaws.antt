@@ -15,8 +15,7 @@ use Rattle.egl_calls.specs.declared.entries.Entry.{Entry}
 use Rattle.trace_reader.specs.Order.{IsTrace}
 use Rattle.trace_model.specs.Serial.{state_behind, serial}
 use Rattle.trace_model.specs.Stalled.{is_stalled}
-use Rattle.trace_model.proofs.SerialLaws.{serial_legal}
-use Rattle.trace_model.proofs.FollowsLaws.{follows_serial}
+use Rattle.trace_model.proofs.FollowsLaws.{serial_plays}
 use Rattle.trace_model.proofs.OutcomeLaws.{not_stalled}
 use Rattle.egl_cli.specs.declared.statuses.Status.{Status}
 use Rattle.egl_cli.specs.declared.statuses.Status.TheVariants.{Ok as Fine, Usage, ReadFault, Malformed, WriteFault, Stalled, NoMemory, TooLong}
@@ -25,7 +24,7 @@ use Rattle.egl_cli.specs.declared.commands.Command.{Command}
 use Rattle.egl_cli.specs.declared.commands.Command.TheVariants.{Serial}
 use Rattle.egl_cli.proofs.AnswerLaws.{answer_ok, answer_malformed}
 use Rattle.egl_cli.specs.Answers.{serial_answer, trace_answer, journal_answer, run_answer, played_answer, malformed_text, usage_text, read_fault_text, too_long_text, most_input}
-use Rattle.egl_cli.specs.Says.{WhereTold, Wrote, Told, WantsMemory, IsAnswered, IsMeant, Says, IsPlayOf, IsRecorded, IsRecordedStalled, IsHeadline, IsStalledHeadline}
+use Rattle.egl_cli.specs.Says.{WhereTold, Wrote, Told, WantsMemory, IsAnswered, IsMeant, Says, IsRecorded, IsRecordedStalled, IsHeadline, IsStalledHeadline}
 
 -- ---- The answer to bytes within the limit and past it.
 within : (b : List ℕ) → length b ≤ most_input → serial_answer b ≡ trace_answer b
@@ -139,9 +138,6 @@ memory_of command named left rest faults_before faults e w =
     subst P (sym e) w
 
 -- ---- What statuses Ok and Stalled are worth.
-serial_plays : (t : TraceValue) → IsTrace t → IsPlayOf t (serial t)
-serial_plays t h = record { legal = serial_legal t; follows = follows_serial t h }
-
 module _ (b : List ℕ) (before after : Option (List ℕ)) (t : TraceValue) (spelt : trace b ≡ Ok t) (traced : IsTrace t) where
   recorded_by : (stalled : Bool) → is_stalled t (serial t) (state_behind t (serial t)) ≡ stalled → (journal_answer t (serial t) stalled).status ≡ Fine → Took before (journal_answer t (serial t) stalled).text after → IsRecorded b before after
   recorded_by true h s w = absurd (let f : Stalled ≡ Fine = s in cc)

@@ -1,8 +1,6 @@
 -- What each status of the program promises of what was read and written.
 use Rattle.std.specs.Prelude.{◌≡◌, ℕ, ◌⊎◌, List, [], ◌++◌, Option, None, Some, Result, Ok as Spelt, Err}
 use Rattle.egl_calls.specs.declared.entries.Entry.{Entry}
-use Rattle.egl_model.specs.State.{opening}
-use Rattle.egl_model.specs.History.{IsLegalFrom}
 use Rattle.egl_flow.specs.Flow.{AtEnd, Took, TookFront}
 use Rattle.egl_flow.specs.Causes.{GavePast, GaveWithin}
 use Rattle.trace_reader.specs.declared.traces.TraceError.{TraceError}
@@ -10,7 +8,7 @@ use Rattle.trace_reader.specs.declared.traces.TraceError.TheVariants.{Malformed 
 use Rattle.trace_reader.specs.Traces.{TraceValue}
 use Rattle.trace_reader.specs.Grammar.{trace}
 use Rattle.trace_reader.specs.Order.{IsTrace}
-use Rattle.trace_model.specs.Follows.{Follows}
+use Rattle.trace_model.specs.Follows.{IsPlayOf}
 use Rattle.trace_model.specs.Stalled.{IsComplete, IsStalled}
 use Rattle.trace_model.specs.Recording.{recording}
 use Rattle.egl_cli.specs.StalledLines.{stalled_lines}
@@ -80,11 +78,6 @@ abbrev pub IsUnread : Option Command → Option (List ℕ) → Option (List ℕ)
 IsUnread None left rest faults_before faults = (rest ≡ left) × (faults ≡ faults_before)
 IsUnread (Some Serial) left rest faults_before faults = Unit {0}
 IsUnread (Some Configs) left rest faults_before faults = (rest ≡ left) × (faults ≡ faults_before)
-
--- a journal in which each reply is the one that the one-thread specification gives there, and in which the calls of each thread are its lines in their order
-pub record IsPlayOf (t : TraceValue) (journal : List Entry) : Type 0 where
-  pub legal : IsLegalFrom (opening t.windows t.video) journal
-  pub follows : Follows t journal
 
 -- the bytes spell a trace, and what was written is the recording of a journal that plays it to the end of all threads
 abbrev pub IsRecorded : List ℕ → Option (List ℕ) → Option (List ℕ) → Type 0

@@ -1,6 +1,5 @@
 //! The lines at which the threads of a stalled run wait.
-ghost use Rattle.std.specs.Prelude.{◌≡◌, ◌++◌, IfOk, OnOk};
-ghost use Rattle.trace_session.specs.Sessions.{Knows};
+ghost use Rattle.std.specs.Prelude.{◌≡◌, ◌++◌, OnOk};
 ghost use Rattle.egl_cli.specs.StalledLines.{stalled_line, stalled_lines};
 
 use egl_calls::{Bytes, Journal, NoMemory};
@@ -8,22 +7,6 @@ use journal_text::texts::{put_decimal, put_text};
 use std::alloc::Global;
 use trace_reader::Trace;
 use trace_session::Session;
-
-/// A session that has learnt a journal's entries.
-fn session_behind<'a>(
-    alloc: Global,
-    trace: &'a Trace,
-    journal: &Journal,
-) -> Result<Session<'a>, NoMemory>
-    ensures trace { IfOk result (λ s. s.trace ≡ trace.now) }
-    ensures learnt { IfOk result (Knows journal.now.entries) }
-{
-    let mut session = Session::new(alloc, trace)?;
-    'each: for entry in journal.as_slice() {
-        session.learn(alloc, entry)?;
-    }
-    Ok(session)
-}
 
 /// The line of a thread whose next line has this number.
 fn put_stalled_line(out: &mut Bytes, thread: u32, number: Option<u64>) -> Result<(), NoMemory>
@@ -49,7 +32,7 @@ pub fn put_stalled(
 ) -> Result<(), NoMemory>
     ensures { OnOk result (out.new ≡ out.old ++ stalled_lines trace.now journal.now.entries) }
 {
-    let session = session_behind(alloc, trace, journal)?;
+    let session = Session::behind(alloc, trace, journal)?;
     let threads = session.threads();
     'each: for thread in 0..threads {
         put_stalled_line(out, thread, session.next(thread))?;

@@ -1,5 +1,5 @@
 -- The serial journal plays its trace: each turn is the next line of its thread, or the end of the wait that the thread began.
-use Rattle.std.proofs.Common.{◌≡◌, ◌≢◌, ℕ, zero, suc, ◌+◌, ◌<◌, ◌≤◌, Bool, true, false, not, ◌&&◌, List, [], ◌∷◌, ◌++◌, refl, sym, ap, ◌∙◌, arith, subst, append_assoc, Option, None, Some}
+use Rattle.std.proofs.Common.{◌≡◌, ◌≢◌, ℕ, zero, suc, ◌+◌, ◌<◌, Bool, true, false, not, ◌&&◌, List, [], ◌∷◌, ◌++◌, refl, sym, ap, ◌∙◌, arith, subst, append_assoc, Option, None, Some}
 use Rattle.std.proofs.lemmas.Bool.{eqb-true, eq-eqb}
 use Rattle.std.proofs.lemmas.Bool.Decides.{nat_tests}
 use Rattle.std.proofs.lemmas.List.{append-nil}
@@ -19,10 +19,10 @@ use Rattle.trace_reader.specs.Order.{IsTrace, variables_of}
 use Rattle.trace_model.specs.Resolve.{is_waiting, answers, resolved}
 use Rattle.trace_model.specs.Turns.{is_answered, next_line, last_entry, where_waiting, begun_wait, bare_wait_end, is_free}
 use Rattle.trace_model.specs.Serial.{state_behind, serial}
-use Rattle.trace_model.specs.Follows.{lines_of, is_answer_of, line_due, PlaysLine, EndsWait, GoesOn, IsNextOf, FollowsAs, PassesTo, PlaysAs, FollowsFrom, Follows}
+use Rattle.trace_model.specs.Follows.{lines_of, is_answer_of, line_due, PlaysLine, EndsWait, GoesOn, IsNextOf, FollowsAs, PassesTo, PlaysAs, FollowsFrom, Follows, IsPlayOf}
 use Rattle.trace_model.proofs.FoundLaws.{IsFoundAt}
 use Rattle.trace_model.proofs.EntryLaws.{answered_by, answered_before, other_mark, other_thread, still_waits, answers_own, last_stays}
-use Rattle.trace_model.proofs.SerialLaws.{serial_keeps}
+use Rattle.trace_model.proofs.SerialLaws.{serial_keeps, serial_legal}
 use Rattle.trace_model.proofs.TurnLaws.{Turn, turn_at, goes_of}
 use Rattle.trace_model.proofs.EndLaws.{next_stays, waits_by}
 use Rattle.trace_model.proofs.RisingLaws.{rise}
@@ -303,3 +303,6 @@ pub follows_serial : (t : TraceValue) → IsTrace t → Follows t (serial t)
 follows_serial t is =
     let p : Plays t (serial t) = serial_keeps t (Plays t) (λ journal e h p. plays_more t is journal e (goes_of t journal e h) p) (record { each = plays_none t; below = λ k d lt. absurd (omega (arith, lt)) }) in
     all_follow t (serial t) (λ thread lt. p.each thread) p.below
+
+pub serial_plays : (t : TraceValue) → IsTrace t → IsPlayOf t (serial t)
+serial_plays t is = record { legal = serial_legal t; follows = follows_serial t is }

@@ -1,11 +1,12 @@
 //! Body lines.
-ghost use Rattle.std.specs.Prelude.{◌≡◌, ◌<◌, ◌≤◌, length, map, true, IfOk, OnOk};
+ghost use Rattle.std.specs.Prelude.{◌≡◌, ◌<◌, ◌≤◌, length, map, true, false, IfOk, OnOk};
 ghost use Rattle.std.specs.Option.{option_map};
 ghost use Rattle.trace_reader.specs.CallRows.{result_of};
 ghost use Rattle.trace_reader.specs.Arguments.{are_placed};
 ghost use Rattle.trace_reader.specs.Body.{target_of, thread_of, signature_in, is_assignable, assigned, line_in, body_of};
 ghost use Rattle.trace_reader.specs.Reading.{GivesLine};
 ghost use Rattle.trace_reader.specs.Order.{IsNext, IsLineAt, more_variables};
+ghost use Rattle.egl_calls.specs.Journals.{is_halt_kind};
 ghost use Rattle.egl_calls.specs.Kinds.{is_built};
 
 use crate::arguments::{are_known, call_of, have_unknown_name, references};
@@ -42,6 +43,7 @@ fn thread_of(threads: u32, word: &[u8]) -> Result<u32, Reason>
 fn signature_in(call: &[u8], arguments: &[&[u8]]) -> Result<(Kind, &'static [Form]), Reason>
     ensures value { result_of result ≡ signature_in call.now (map (λ w. w.now) arguments.now) }
     ensures built { IfOk result (λ s. is_built s.0 ≡ true) }
+    ensures no_halt { IfOk result (λ s. is_halt_kind s.0 ≡ false) }
     ensures few { IfOk result (λ s. length s.1.now ≤ 8) }
     ensures placed { IfOk result (λ s. are_placed s.0 0 s.1.now ≡ true) }
 {
@@ -98,6 +100,7 @@ fn line_in(
     arguments: &[&[u8]],
 ) -> Result<Line, LineError>
     requires built { is_built kind ≡ true }
+    requires no_halt { is_halt_kind kind ≡ false }
     requires few { length forms.now ≤ 8 }
     requires placed { are_placed kind 0 forms.now ≡ true }
     requires count { count ≤ length variables.now }

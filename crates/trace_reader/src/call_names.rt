@@ -1,6 +1,7 @@
 //! The calls: the words that name them, their kinds, and the forms of their arguments.
-ghost use Rattle.std.specs.Prelude.{◌≡◌, ℕ, length, ◌≤◌, true, map, IfSome};
+ghost use Rattle.std.specs.Prelude.{◌≡◌, ℕ, length, ◌≤◌, true, false, map, IfSome};
 ghost use Rattle.std.specs.Option.{option_map};
+ghost use Rattle.egl_calls.specs.Journals.{is_halt_kind};
 ghost use Rattle.egl_calls.specs.Kinds.{is_built};
 ghost use Rattle.egl_names.specs.Names.{value_in};
 ghost use Rattle.trace_reader.specs.CallNames.{signature, call_named};
@@ -95,6 +96,7 @@ fn beside(rows: &[Row], word: &[u8]) -> Option<(Kind, &'static [Form])>
 pub fn call_named(word: &[u8]) -> Option<(Kind, &'static [Form])>
     ensures value { option_map signature_of result ≡ call_named word.now }
     ensures built { IfSome result (λ s. is_built s.0 ≡ true) }
+    ensures no_halt { IfSome result (λ s. is_halt_kind s.0 ≡ false) }
     ensures few { IfSome result (λ s. length s.1.now ≤ 8) }
     ensures placed { IfSome result (λ s. are_placed s.0 0 s.1.now ≡ true) }
 {

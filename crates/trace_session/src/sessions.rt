@@ -11,14 +11,14 @@ ghost use Rattle.trace_model.specs.Stalled.{is_at_rest, is_complete, is_stalled}
 ghost use Rattle.trace_session.specs.Sessions.{Knows, variables_of, line_at, answer_in, is_among};
 ghost use Rattle.trace_session.specs.Uses.{IsUse};
 ghost use Rattle.trace_session.specs.Facts.{HasFacts};
-ghost use Rattle.trace_session.specs.Answers.{call_at, goes_on_at, held_at};
+ghost use Rattle.trace_session.specs.Answers.{IsLone, IsLoneAt, call_at, goes_on_at, held_at};
 
 use crate::answers::{answer_of, keep, no_answers, resolved, variables_of};
 use crate::chains::chains_of;
 use crate::places::{advance, answered_place, assigned_at, flag, none_set, note_wait};
-use crate::posts::{Posts, is_free, keep_post};
+use crate::posts::{Posts, is_await, is_free, keep_post};
 use driver_core::Driver;
-use egl_calls::{Call, Entry, Kind, NoMemory, Numbers, OwnKind, Reply};
+use egl_calls::{Call, Entry, Journal, Kind, NoMemory, Numbers, OwnKind, Reply};
 use std::alloc::Global;
 use std::marker::Model;
 use trace_reader::{Line, Trace};
@@ -89,6 +89,22 @@ impl<'a> Session<'a> {
         })
     }
 
+    /// A session that has learnt a journal's entries.
+    pub fn behind(
+        alloc: Global,
+        trace: &'a Trace,
+        journal: &Journal,
+    ) -> Result<Session<'a>, NoMemory>
+        ensures trace { IfOk result (λ s. s.trace ≡ trace.now) }
+        ensures learnt { IfOk result (Knows journal.now.entries) }
+    {
+        let mut session = Session::new(alloc, trace)?;
+        'each: for entry in journal.as_slice() {
+            session.learn(alloc, entry)?;
+        }
+        Ok(session)
+    }
+
     /// How many threads the trace has.
     pub fn threads(&self) -> u32
         ensures { result ≡ self.now.trace.threads }
@@ -124,7 +140,7 @@ impl<'a> Session<'a> {
     /// Whether a thread that isn't at its end waits at its line.
     fn is_held(&self, driver: &Driver, thread: u32) -> bool
         requires thread { thread < self.now.trace.threads }
-        requires made { self.now.trace.threads ≤ driver.now.made }
+        requires made { thread < driver.now.made }
         ensures { result ≡ held_at self.now driver.now.state thread (line_at self.now thread) }
     {
         let Some(line) = line_of(self.trace, self.places[thread as usize]) else {
@@ -137,7 +153,7 @@ impl<'a> Session<'a> {
     }
 
     /// The references of each line lead to variables of the trace. This is a law.
-    pub(crate) fn facts(&self)
+    pub fn facts(&self)
         ensures { HasFacts self.now.trace }
     {
         self.trace.lines();
@@ -163,10 +179,33 @@ impl<'a> Session<'a> {
         self.call_at(alloc, thread)
     }
 
+    /// The line at which a thread is, where that waits for nobody.
+    fn lone_at(&self, thread: u32) -> Option<&'a Line>
+        requires { thread < self.now.trace.threads }
+        ensures { IfSome result (λ l. IsLoneAt self.now thread l.now) }
+    {
+        if self.begun[thread as usize] {
+            return None;
+        }
+        let line = self.trace.line(self.places[thread as usize] as u64)?;
+        if line.uses.len() != 0 || is_await(line.call.kind) {
+            return None;
+        }
+        Some(line)
+    }
+
+    /// The next line of a thread, where that waits for nobody: the thread isn't in a wait, and the line names no variable and is no `await`.
+    pub fn lone_line(&self, thread: u32) -> Option<&'a Line>
+        requires { thread < self.now.trace.threads }
+        ensures { (journal : List AnEntry) → Knows journal self.now → IfSome result (λ l. IsLone self.now.trace journal thread l.now) }
+    {
+        self.lone_at(thread)
+    }
+
     /// Whether a thread isn't at its end and waits: for the sync of the wait that it began, or for an answer or a post that its next line needs.
     pub fn blocked(&self, driver: &Driver, thread: u32) -> bool
         requires thread { thread < self.now.trace.threads }
-        requires made { self.now.trace.threads ≤ driver.now.made }
+        requires made { thread < driver.now.made }
         ensures { (journal : List AnEntry) → Knows journal self.now → result ≡ is_blocked self.now.trace.lines journal driver.now.state thread }
     {
         self.facts();
@@ -212,7 +251,7 @@ impl<'a> Session<'a> {
     }
 
     /// Whether all threads are at their end.
-    fn is_complete(&self) -> bool
+    pub fn is_complete(&self) -> bool
         ensures { (journal : List AnEntry) → Knows journal self.now → result ≡ is_complete self.now.trace journal }
     {
         let threads = self.threads();

@@ -6,6 +6,7 @@ pub returns-clause-order : goal.returns-clause-order
 returns-clause-order c = record {
   number_is = refl;
   built = search rules;
+  no_halt = search rules;
   assigns = c.assigned.ensures.next;
   uses = number_uses (length c.args.variables.now) (length c.in-Some.call.list) c.in-Ok-references.uses c.in-Ok-references.ensures.all;
 }
