@@ -1,0 +1,5 @@
+pub mod PickLaws
+pub mod WorkLaws
+pub mod PlayLaws
+pub mod Sending
+pub mod HiddenLaws

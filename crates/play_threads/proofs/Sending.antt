@@ -1,0 +1,61 @@
+-- What a worker takes along to another thread, and what is lent to it.
+use denote.Param.Send.{IsSend, IsSync, recorded_send, recorded_sync, sendable, struct_send, struct_sync, view_sync}
+use denote.Struct.Declared as declared
+use Rattle.std.proofs.Crossing.{crosses}
+use Rattle.std.specs.contracts.option.Option as option
+use Rattle.egl_calls.specs.contracts.number_list.Numbers as numbers
+use Rattle.egl_calls.specs.contracts.byte_list.Bytes as bytes
+use Rattle.egl_calls.specs.contracts.kinds.Kind as kind
+use Rattle.egl_calls.specs.contracts.calls.Call as call
+use Rattle.egl_calls.specs.contracts.calls.Call.TheInside as inside
+use Rattle.surface_store.specs.contracts.windows.WindowSpec as window
+use Rattle.trace_reader.specs.contracts.traces.Uses as uses
+use Rattle.trace_reader.specs.contracts.traces.Line as line
+use Rattle.trace_reader.specs.contracts.traces.Trace as trace
+use Rattle.atomic_table.proofs.shared.Seat.TheSendSync as seat
+use Rattle.shared_driver.specs.contracts.tokens.Thread as thread
+use Rattle.shared_driver.proofs.Sending.{core_send, entry_send, part_send}
+use Rattle.play_threads.specs.contracts.starts.Start as start
+use Rattle.play_threads.specs.contracts.workers.Worker as worker
+
+pub numbers_sync : IsSync numbers.the_row
+numbers_sync = search (sendable, crosses) depth 60
+
+pub bytes_sync : IsSync bytes.the_row
+bytes_sync = search (sendable, crosses) depth 60
+
+pub kind_sync : IsSync (kind.the_field).row
+kind_sync = search (sendable, crosses) depth 60 fits 20000
+
+pub some_bytes_sync : IsSync (option.the_field bytes.the_row).row
+some_bytes_sync = let a = bytes_sync in search (sendable, crosses) depth 60 fits 20000
+
+pub inside_sync : IsSync inside.the_row
+inside_sync = recorded_sync _ inside.the_type.D inside.the_type.to inside.the_type.to_one (struct_sync (declared.shape inside.the_type) (kind_sync, (search sendable depth 20, (numbers_sync, (some_bytes_sync, tt)))))
+
+pub call_sync : IsSync call.the_row
+call_sync = view_sync _ _ _ _ _ inside_sync
+
+pub uses_sync : IsSync uses.the_row
+uses_sync = search (sendable, crosses) depth 60 fits 20000
+
+pub line_sync : IsSync line.the_row
+line_sync = let a = call_sync in let b = uses_sync in search (sendable, crosses) depth 60 fits 20000
+
+pub window_sync : IsSync window.the_row
+window_sync = search (sendable, crosses) depth 60 fits 20000
+
+-- a trace may be lent to another thread
+pub trace_sync : IsSync trace.the_row
+trace_sync = let a = line_sync in let b = window_sync in search (sendable, crosses) depth 60 fits 20000
+
+-- so may the count of those that have begun
+pub start_sync : IsSync start.the_row
+start_sync = search (sendable, crosses) depth 60 fits 20000
+
+-- and a worker, with its token, may move there
+pub token_send : IsSend (thread.the_field).row
+token_send = let a = core_send in let b = part_send in let d = entry_send in search (sendable, crosses, seat.the_send) depth 60 fits 40000
+
+pub worker_send : IsSend worker.the_row
+worker_send = recorded_send _ worker.the_type.D worker.the_type.to worker.the_type.to_one (struct_send (declared.shape worker.the_type) (token_send, (search sendable depth 20, tt)))

@@ -1,0 +1,58 @@
+-- What a worker picks in its turn.
+use Rattle.std.specs.Prelude.{◌≡◌, ◌≢◌, ◌⊎◌, ℕ, ◌<◌, ◌≤◌, Bool, true, not, ◌&&◌, ◌==◌, List, length, take, Some}
+use Rattle.std.specs.List.{list_any}
+use Rattle.egl_calls.specs.Journals.{is_halt}
+use Rattle.egl_calls.specs.declared.entries.Entry.{Entry}
+use Rattle.egl_model.specs.State.{State}
+use Rattle.driver_core.specs.Machine.{Machine}
+use Rattle.trace_reader.specs.declared.traces.Line.{Line}
+use Rattle.trace_reader.specs.Traces.{TraceValue}
+use Rattle.trace_model.specs.Turns.{next_line, goes_on, is_at_end, is_blocked}
+use Rattle.trace_model.specs.Serial.{next_call}
+use Rattle.trace_model.specs.Stalled.{is_stalled}
+use Rattle.trace_session.specs.Sessions.{Knows}
+use Rattle.shared_driver.specs.Cores.{of_number}
+use Rattle.shared_driver.specs.declared.picks.Pick.{Pick}
+use Rattle.shared_driver.specs.declared.picks.Pick.TheVariants.{Call, Wait, Stop}
+use Rattle.play_threads.specs.declared.pickers.LinePicker.{LinePicker}
+
+-- an entry by which another thread gave up
+abbrev pub is_halt_beside : ℕ → Entry → Bool
+is_halt_beside thread e = is_halt e && not (e.thread == thread)
+
+-- whether another thread gave up
+abbrev pub have_others_halted : ℕ → List Entry → Bool
+have_others_halted thread es = list_any (is_halt_beside thread) es
+
+-- a picker has learnt the entries of other threads in a journal, up to a place, and these of its own
+pub record HasLearnt (p : LinePicker) (own es : List Entry) : Type 0 where
+  pub within : p.learnt ≤ length es
+  pub learned : List Entry
+  pub knows : Knows learned p.session
+  pub mine : of_number p.thread learned ≡ own
+  pub others : (n : ℕ) → n ≢ p.thread → of_number n learned ≡ of_number n (take p.learnt es)
+  pub halted : p.halted ≡ have_others_halted p.thread (take p.learnt es)
+
+-- a picker may look at a journal that goes on behind what it learnt and whose entries of its own it knows, and at a driver that has its thread
+pub record MayLook (p : LinePicker) (es : List Entry) (d : Machine) : Type 0 where
+  pub learnt : HasLearnt p (of_number p.thread es) es
+  pub thread : p.thread < p.session.trace.threads
+  pub made : p.thread < d.made
+
+-- nothing is left to play for a thread: it is at its end, or the run has stalled, or another thread gave up
+abbrev pub IsOver : TraceValue → List Entry → State → ℕ → Type 0
+IsOver t es s thread = (is_at_end t.lines es thread ≡ true) ⊎ (is_stalled t es s ≡ true) ⊎ (have_others_halted thread es ≡ true)
+
+-- the call that a thread makes next, with its line's number; nothing now where the thread is blocked, and nothing any more where nothing is left
+abbrev pub IsPickOf : TraceValue → List Entry → State → ℕ → Pick → Type 0
+IsPickOf t es s thread (Call mark call) = (l : Line) × (next_line t.lines es thread ≡ Some l) × (goes_on t.lines es s thread l ≡ true) × (mark ≡ l.number) × (call ≡ next_call t.lines es thread l)
+IsPickOf t es s thread Wait = is_blocked t.lines es s thread ≡ true
+IsPickOf t es s thread Stop = IsOver t es s thread
+
+-- a picker that has learnt all entries gave the pick of its thread
+pub record Picks (p : LinePicker) (es : List Entry) (d : Machine) (k : Pick) (q : LinePicker) : Type 0 where
+  pub thread : q.thread ≡ p.thread
+  pub trace : q.session.trace ≡ p.session.trace
+  pub all : q.learnt ≡ length es
+  pub learnt : HasLearnt q (of_number p.thread es) es
+  pub pick : IsPickOf p.session.trace es d.state p.thread k

@@ -1,0 +1,14 @@
+//! A trace of several threads, played by as many at once over one driver, in one legal history.
+#![tactic(auto)]
+
+mod gates;
+mod lone_lines;
+mod pickers;
+mod plays;
+mod starts;
+mod thread_work;
+mod workers;
+
+pub use gates::{Gate, OpenGate};
+pub use plays::play;
+pub use thread_work::work;

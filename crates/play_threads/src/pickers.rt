@@ -1,0 +1,175 @@
+//! What a worker picks, by what it knows of the journal.
+ghost use Rattle.std.specs.Prelude.{◌≡◌, ◌<◌, ◌≤◌, ◌+◌, ◌-◌, ◌^◌, ◌||◌, ◌∷◌, ◌++◌, [], true, length, slice_get, Some, IfOk, IfSome, OnOk, List};
+ghost use Rattle.egl_calls.specs.Journals.{is_halt};
+ghost use Rattle.egl_calls.specs.declared.entries.Entry.{Entry as AnEntry};
+ghost use Rattle.egl_model.specs.State.{State};
+ghost use Rattle.driver_core.specs.Machine.{Machine};
+ghost use Rattle.trace_reader.specs.declared.traces.Line.{Line as ALine};
+ghost use Rattle.trace_model.specs.Turns.{next_line};
+ghost use Rattle.trace_model.specs.Serial.{next_call};
+ghost use Rattle.trace_model.specs.Stalled.{is_stalled};
+ghost use Rattle.trace_session.specs.Answers.{IsLone};
+ghost use Rattle.trace_session.specs.Facts.{HasFacts};
+ghost use Rattle.trace_session.specs.Sessions.{Knows};
+ghost use Rattle.shared_driver.specs.declared.picks.Pick.{Pick as ThePick};
+ghost use Rattle.shared_driver.specs.Cores.{entry, of_number};
+ghost use Rattle.shared_driver.specs.Picks.{IsBuiltPick};
+ghost use Rattle.play_threads.specs.Picks.{HasLearnt, IsPickOf, MayLook, Picks, have_others_halted};
+
+use driver_core::Driver;
+use egl_calls::{Entry, Journal, NoMemory, Reply};
+use shared_driver::{Pick, Picker};
+use std::alloc::Global;
+use trace_reader::{Line, Trace};
+use trace_session::Session;
+
+/// Picks the next call of one thread of a trace. In its look it learns the entries of other threads that were added since the last one; its own it is told when they are answered.
+#[derive(Drop)]
+pub struct LinePicker<'a> {
+    pub(crate) alloc: Global,
+    pub(crate) thread: u32,
+    pub(crate) session: Session<'a>,
+    // how many of the journal's entries it has looked at
+    pub(crate) learnt: u64,
+    // another thread gave up
+    pub(crate) halted: bool,
+}
+
+impl<'a> LinePicker<'a> {
+    /// A picker for a thread, that has learnt nothing.
+    pub fn new(alloc: Global, trace: &'a Trace, thread: u32) -> Result<LinePicker<'a>, NoMemory>
+        ensures trace { IfOk result (λ p. p.session.trace ≡ trace.now) }
+        ensures thread { IfOk result (λ p. p.thread ≡ thread) }
+        ensures learnt { IfOk result (λ p. (es : List AnEntry) → HasLearnt p [] es) }
+    {
+        Ok(LinePicker {
+            alloc,
+            thread,
+            session: Session::new(alloc, trace)?,
+            learnt: 0,
+            halted: false,
+        })
+    }
+
+    // Takes in the next entry of a journal, which is another thread's.
+    fn learn_other(&mut self, entry: &Entry) -> Result<(), NoMemory>
+        requires { self.old.learnt < 2 ^ 64 - 1 }
+        ensures same { (self.new.thread ≡ self.old.thread) × (self.new.session.trace ≡ self.old.session.trace) }
+        ensures next { OnOk result (self.new.learnt ≡ self.old.learnt + 1) }
+        ensures knows { (es : List AnEntry) → Knows es self.old.session → OnOk result (Knows (es ++ entry.now ∷ []) self.new.session) }
+        ensures halted { OnOk result (self.new.halted ≡ (self.old.halted || is_halt entry.now)) }
+    {
+        self.session.learn(self.alloc, entry)?;
+        self.halted = self.halted || entry.is_halt();
+        self.learnt += 1;
+        Ok(())
+    }
+
+    // Takes in the next entry of a journal. One of its own thread it knows.
+    fn learn_one(&mut self, entry: &Entry) -> Result<(), NoMemory>
+        requires { self.old.learnt < 2 ^ 64 - 1 }
+        ensures same { (self.new.thread ≡ self.old.thread) × (self.new.session.trace ≡ self.old.session.trace) }
+        ensures next { OnOk result (self.new.learnt ≡ self.old.learnt + 1) }
+        ensures learnt { (own es : List AnEntry) → HasLearnt self.old own es → slice_get es self.old.learnt ≡ Some entry.now → OnOk result (HasLearnt self.new own es) }
+    {
+        if entry.thread != self.thread {
+            return self.learn_other(entry);
+        }
+        self.learnt += 1;
+        Ok(())
+    }
+
+    // Takes in the entries that were added since the last look.
+    fn learn(&mut self, journal: &Journal) -> Result<(), NoMemory>
+        requires { HasLearnt self.old (of_number self.old.thread journal.now.entries) journal.now.entries }
+        ensures same { (self.new.thread ≡ self.old.thread) × (self.new.session.trace ≡ self.old.session.trace) }
+        ensures all { OnOk result (self.new.learnt ≡ length journal.now.entries) }
+        ensures learnt { OnOk result (HasLearnt self.new (of_number self.old.thread journal.now.entries) journal.now.entries) }
+    {
+        let count = journal.len();
+        'each: while self.learnt < count {
+            match journal.entry(self.learnt) {
+                Some(entry) => self.learn_one(entry)?,
+                None => unreachable!(),
+            }
+        }
+        Ok(())
+    }
+
+    // Whether the run has stalled. While threads of the trace have no token yet, it hasn't.
+    fn is_stalled(&self, driver: &Driver) -> bool
+        ensures { (es : List AnEntry) → Knows es self.now.session → result ≡ true → is_stalled self.now.session.trace es driver.now.state ≡ true }
+    {
+        driver.threads() >= self.session.threads() && self.session.stalled(driver)
+    }
+
+    // The pick by all that was learnt.
+    fn picked(&self, driver: &Driver) -> Result<Pick, NoMemory>
+        requires thread { self.now.thread < self.now.session.trace.threads }
+        requires made { self.now.thread < driver.now.made }
+        ensures built { (es : List AnEntry) → Knows es self.now.session → IfOk result IsBuiltPick }
+        ensures pick { (es : List AnEntry) → Knows es self.now.session → self.now.halted ≡ have_others_halted self.now.thread es → IfOk result (IsPickOf self.now.session.trace es driver.now.state self.now.thread) }
+    {
+        self.session.facts();
+        if self.halted {
+            return Ok(Pick::Stop);
+        }
+        let Some(mark) = self.session.next(self.thread) else {
+            return Ok(Pick::Stop);
+        };
+        if !self.session.blocked(driver, self.thread) {
+            return Ok(Pick::Call(mark, self.session.call(self.alloc, self.thread)?));
+        }
+        if self.is_stalled(driver) {
+            Ok(Pick::Stop)
+        } else {
+            Ok(Pick::Wait)
+        }
+    }
+
+    /// The number of the line that comes next.
+    pub(crate) fn coming(&self) -> Option<u64>
+        requires { self.now.thread < self.now.session.trace.threads }
+    {
+        self.session.next(self.thread)
+    }
+
+    /// The thread's next line, where it waits for nobody. Its call is built and is no Halt.
+    pub(crate) fn lone_line(&self) -> Option<&'a Line>
+        requires { self.now.thread < self.now.session.trace.threads }
+        ensures facts { HasFacts self.now.session.trace }
+        ensures lone { (es : List AnEntry) → Knows es self.now.session → IfSome result (λ l. IsLone self.now.session.trace es self.now.thread l.now) }
+    {
+        self.session.facts();
+        self.session.lone_line(self.thread)
+    }
+
+    /// Takes in that the thread's next call was answered so.
+    pub(crate) fn learn_own(&mut self, reply: Reply) -> Result<(), NoMemory>
+        requires { self.old.thread < self.old.session.trace.threads }
+        ensures same { (self.new.thread ≡ self.old.thread) × (self.new.session.trace ≡ self.old.session.trace) × (self.new.learnt ≡ self.old.learnt) × (self.new.halted ≡ self.old.halted) }
+        ensures knows { (es : List AnEntry) (l : ALine) → Knows es self.old.session → next_line self.old.session.trace.lines es self.old.thread ≡ Some l → OnOk result (Knows (es ++ entry self.old.thread l.number (next_call self.old.session.trace.lines es self.old.thread l) reply ∷ []) self.new.session) }
+    {
+        let Some(mark) = self.session.next(self.thread) else {
+            return Ok(());
+        };
+        let entry = Entry {
+            thread: self.thread,
+            mark,
+            call: self.session.call(self.alloc, self.thread)?,
+            reply,
+        };
+        self.session.learn(self.alloc, &entry)
+    }
+}
+
+impl<'a> Picker for LinePicker<'a> {
+    ghost may = { λ p es d. MayLook p es d };
+
+    ghost picks = { λ p es d k q. Picks p es d k q };
+
+    fn pick(&mut self, journal: &Journal, driver: &Driver) -> Result<Pick, NoMemory> {
+        self.learn(journal)?;
+        self.picked(driver)
+    }
+}

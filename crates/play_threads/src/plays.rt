@@ -1,0 +1,106 @@
+//! The run of all threads of a trace at once.
+ghost use Rattle.std.specs.Prelude.{◌≡◌, true, IfOk, IfErr};
+ghost use Rattle.egl_model.specs.History.{IsLegalFrom, replay_from};
+ghost use Rattle.trace_reader.specs.Traces.{TraceValue};
+ghost use Rattle.trace_model.specs.Follows.{Follows};
+ghost use Rattle.trace_model.specs.Stalled.{IsComplete, is_stalled};
+ghost use Rattle.shared_driver.specs.Tokens.{IsOf, opening_of, token_of};
+ghost use Rattle.play_threads.specs.declared.plays.Reached.TheVariants.{End, Stall};
+ghost use Rattle.play_threads.specs.Plays.{IsRunOf, IsStalledRunOf, OwnersPlay};
+
+use crate::gates::Gate;
+use crate::workers::{Gathered, play_together};
+use driver_core::Run;
+use egl_calls::NoMemory;
+use shared_driver::{Closed, Opened, Shared, Thread};
+use std::alloc::Global;
+use std::sync::Wait;
+use std::thread::Threads;
+use trace_reader::Trace;
+use trace_session::{RunError, Session, run_serial};
+
+/// How far a run came.
+#[derive(Drop)]
+enum Reached {
+    /// All threads are at their end.
+    End,
+    /// The threads wait for one another.
+    Stall,
+    /// Neither: no worker played a line.
+    Neither,
+}
+
+// Ends the driver, once its other tokens are joined.
+fn close<R: Wait>(rt: &R, shared: Shared, mut thread: Thread) -> Closed
+    requires owns { IsOf shared thread }
+    ensures legal { IsLegalFrom (opening_of shared) result.journal.entries }
+    ensures driver { result.driver.state ≡ replay_from (opening_of shared) result.journal.entries }
+    ensures follows { (t : TraceValue) → OwnersPlay t (token_of thread) → Follows t result.journal.entries }
+{
+    'waiting: for _ in rt.forever() {
+        if shared.live(&mut thread, rt) == 1 {
+            return shared.close(thread);
+        }
+    }
+    unreachable!()
+}
+
+// Plays a trace by workers, as far as they come.
+fn run<R: Threads + Wait + Sync, G: Gate + Sync>(
+    rt: &R,
+    alloc: Global,
+    trace: &Trace,
+    gate: &G,
+) -> Result<Run, NoMemory>
+    ensures { IfOk result (IsRunOf trace.now) }
+{
+    // That a trace's windows and limit of bytes are within bounds stands on `lines`.
+    trace.lines();
+    let Opened { shared, thread } = Shared::open(alloc, trace.windows(), trace.video())?;
+    let Gathered { thread, wanted } = play_together(rt, alloc, trace, gate, &shared, thread);
+    let Closed { driver, journal } = close(rt, shared, thread);
+    if wanted {
+        return Err(NoMemory);
+    }
+    Ok(Run { journal, driver })
+}
+
+// How far a run came.
+fn how_far(alloc: Global, trace: &Trace, run: &Run) -> Result<Reached, NoMemory>
+    ensures end { IfOk result (λ r. r ≡ End → IsComplete trace.now run.now.journal.entries) }
+    ensures stall { IfOk result (λ r. r ≡ Stall → is_stalled trace.now run.now.journal.entries run.now.driver.state ≡ true) }
+{
+    let session = Session::behind(alloc, trace, &run.journal)?;
+    if session.is_complete() {
+        return Ok(Reached::End);
+    }
+    if run.driver.threads() >= session.threads() && session.stalled(&run.driver) {
+        return Ok(Reached::Stall);
+    }
+    Ok(Reached::Neither)
+}
+
+/// Plays a trace by as many threads at once as it has, and answers the run: its journal is one legal history in which each thread plays its lines, and its driver stands behind it. Which of the legal histories it is, differs from run to run.
+///
+/// Where not all threads can run at once, it is the run by turns of `run_serial`.
+pub fn play<R: Threads + Wait + Sync, G: Gate + Sync>(
+    rt: &R,
+    alloc: Global,
+    trace: &Trace,
+    gate: &G,
+) -> Result<Run, RunError>
+    ensures complete { IfOk result (λ r. IsRunOf trace.now r × IsComplete trace.now r.journal.entries) }
+    ensures stalled { IfErr result (IsStalledRunOf trace.now) }
+{
+    // That a trace's lines are in order stands on `lines`.
+    trace.lines();
+    let Ok(run) = run(rt, alloc, trace, gate) else {
+        return Err(RunError::NoMemory);
+    };
+    match how_far(alloc, trace, &run) {
+        Ok(Reached::End) => Ok(run),
+        Ok(Reached::Stall) => Err(RunError::Stalled(run)),
+        Ok(Reached::Neither) => run_serial(alloc, trace),
+        Err(_) => Err(RunError::NoMemory),
+    }
+}
