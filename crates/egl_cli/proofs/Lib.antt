@@ -2,3 +2,5 @@ pub mod ConfigLaws
 pub mod StalledLaws
 pub mod AnswerLaws
 pub mod SaysLaws
+pub mod SerialLaws
+pub mod PlayLaws

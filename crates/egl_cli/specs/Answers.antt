@@ -1,5 +1,5 @@
 -- What the program says: a status and a text, by the bytes of its input.
-use Rattle.std.specs.Prelude.{ℕ, nat_lt, Bool, true, false, List, ◌++◌, if◌then◌else◌, length, codes, decimal, Result, Ok, Err}
+use Rattle.std.specs.Prelude.{◌≡◌, ◌⊎◌, ℕ, nat_lt, Bool, true, false, List, ◌++◌, if◌then◌else◌, length, codes, decimal, Result, Ok, Err}
 use Rattle.trace_reader.specs.declared.traces.Reason.{Reason}
 use Rattle.trace_reader.specs.declared.traces.Reason.TheVariants.{Header, Window, Thread, Name, Argument, Variable, Limit, Entry}
 use Rattle.trace_reader.specs.declared.traces.Defect.{Defect}
@@ -7,7 +7,8 @@ use Rattle.trace_reader.specs.Traces.{TraceValue}
 use Rattle.trace_reader.specs.Grammar.{trace}
 use Rattle.egl_calls.specs.declared.entries.Entry.{Entry as AnEntry}
 use Rattle.trace_model.specs.Serial.{state_behind, serial}
-use Rattle.trace_model.specs.Stalled.{is_stalled}
+use Rattle.trace_model.specs.Follows.{IsPlayOf}
+use Rattle.trace_model.specs.Stalled.{IsComplete, IsStalled, is_stalled}
 use Rattle.trace_model.specs.Recording.{recording}
 use Rattle.egl_cli.specs.StalledLines.{stalled_lines}
 use Rattle.egl_cli.specs.declared.statuses.Status.TheVariants.{Ok as Fine, Malformed, Stalled, TooLong}
@@ -48,6 +49,10 @@ journal_answer t journal true = record { status = Stalled; text = recording t jo
 -- the answer to a trace: that of its serial journal
 unfoldable pub run_answer : TraceValue → Answer
 run_answer t = journal_answer t (serial t) (is_stalled t (serial t) (state_behind t (serial t)))
+
+-- an answer of `play` to a trace: that to a journal that plays it to the end of all its threads, or until none can go on
+abbrev pub IsPlayAnswer : TraceValue → Answer → Type 0
+IsPlayAnswer t a = (journal : List AnEntry) × IsPlayOf t journal × ((IsComplete t journal × (a ≡ journal_answer t journal false)) ⊎ (IsStalled t journal × (a ≡ journal_answer t journal true)))
 
 -- the answer to a trace, or its first defect
 abbrev pub played_answer : Result TraceValue Defect → Answer

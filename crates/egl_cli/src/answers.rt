@@ -1,9 +1,7 @@
 //! What the program says to the bytes of its input.
-ghost use Rattle.std.specs.Prelude.{◌≡◌, ◌≤◌, ◌++◌, length, IfOk};
-ghost use Rattle.trace_model.specs.Recording.{recording};
+ghost use Rattle.std.specs.Prelude.{◌≡◌, ◌≤◌, ◌++◌, true, false, length, IfOk};
 ghost use Rattle.trace_model.specs.Serial.{state_behind};
-ghost use Rattle.egl_cli.specs.StalledLines.{stalled_lines};
-ghost use Rattle.egl_cli.specs.Answers.{reason_name, malformed_text, run_answer};
+ghost use Rattle.egl_cli.specs.Answers.{reason_name, malformed_text, journal_answer, run_answer};
 
 use crate::stalled_lines::put_stalled;
 use crate::statuses::Status;
@@ -57,29 +55,37 @@ pub fn malformed_text(line: u64, reason: Reason) -> ArrayString<MALFORMED_ROOM>
     out
 }
 
-/// The recording of a run that stalled, and the lines at which its threads wait.
-fn stalled_text(alloc: Global, trace: &Trace, run: &Run) -> Result<Bytes, NoMemory>
+/// What is said of a run that came to its end: its recording.
+pub fn ended_answer(alloc: Global, trace: &Trace, run: &Run) -> Result<Answer, NoMemory>
     requires { run.now.driver.state ≡ state_behind trace.now run.now.journal.entries }
-    ensures { IfOk result (λ b. b ≡ recording trace.now run.now.journal.entries ++ stalled_lines trace.now run.now.journal.entries) }
+    ensures { IfOk result (λ a. a ≡ journal_answer trace.now run.now.journal.entries false) }
+{
+    Ok(Answer {
+        status: Status::Ok,
+        text: write(alloc, trace, run)?,
+    })
+}
+
+/// What is said of a run that stalled: its recording, and the lines at which its threads wait.
+pub fn stalled_answer(alloc: Global, trace: &Trace, run: &Run) -> Result<Answer, NoMemory>
+    requires { run.now.driver.state ≡ state_behind trace.now run.now.journal.entries }
+    ensures { IfOk result (λ a. a ≡ journal_answer trace.now run.now.journal.entries true) }
 {
     let mut text = write(alloc, trace, run)?;
     put_stalled(alloc, &mut text, trace, &run.journal)?;
-    Ok(text)
+    Ok(Answer {
+        status: Status::Stalled,
+        text,
+    })
 }
 
-/// What is said to a trace: the recording of its serial journal, and where that stalled, the lines at which threads wait.
+/// What is said to a trace that is played by turns.
 pub fn run_answer(alloc: Global, trace: &Trace) -> Result<Answer, NoMemory>
     ensures { IfOk result (λ a. a ≡ run_answer trace.now) }
 {
     match run_serial(alloc, trace) {
-        Ok(run) => Ok(Answer {
-            status: Status::Ok,
-            text: write(alloc, trace, &run)?,
-        }),
-        Err(RunError::Stalled(run)) => Ok(Answer {
-            status: Status::Stalled,
-            text: stalled_text(alloc, trace, &run)?,
-        }),
+        Ok(run) => ended_answer(alloc, trace, &run),
+        Err(RunError::Stalled(run)) => stalled_answer(alloc, trace, &run),
         Err(RunError::NoMemory) => Err(NoMemory),
     }
 }

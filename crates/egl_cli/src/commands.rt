@@ -9,6 +9,8 @@ use egl_calls::Text;
 pub enum Command {
     /// Plays a trace by turns.
     Serial,
+    /// Plays a trace by as many threads at once as it has.
+    Play,
     /// Prints the configs.
     Configs,
 }
@@ -18,6 +20,8 @@ fn command_named(word: &[u8]) -> Option<Command>
 {
     if word == b"serial".as_slice() {
         Some(Command::Serial)
+    } else if word == b"play".as_slice() {
+        Some(Command::Play)
     } else if word == b"configs".as_slice() {
         Some(Command::Configs)
     } else {

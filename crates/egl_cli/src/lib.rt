@@ -4,12 +4,17 @@
 mod answers;
 mod commands;
 mod config_lines;
+mod inputs;
 pub mod laws;
+mod playing;
 mod process;
 mod respond;
 mod stalled_lines;
 mod statuses;
+mod telling;
 
+pub use play_threads::{Gate, OpenGate};
+pub use playing::{play_words, top};
 pub use process::run;
 pub use respond::plain;
 pub use statuses::Status;

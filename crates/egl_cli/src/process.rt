@@ -1,13 +1,17 @@
 //! The program's edge: the words of the process, standard input and standard output.
-use crate::respond::plain;
+use crate::playing::top;
 use crate::statuses::Status;
 use egl_calls::Text;
 use egl_flow::{StdSink, StdSource};
+use play_threads::OpenGate;
 use std::alloc::Global;
+use std::rt::{Env, Stdin, Stdout};
+use std::sync::Wait;
+use std::thread::Threads;
 use std::{env, io};
 
 /// The words behind the program's own name. A word that isn't UTF-8 makes them no command.
-fn words(rt: &HostRuntime, alloc: Global) -> io::Result<Vec<Text>> {
+fn words<R: Env + AllocGlobal>(rt: &R, alloc: Global) -> io::Result<Vec<Text>> {
     let mut words = Vec::new(alloc);
     for word in env::args(rt)?.skip(1) {
         let text = Text::from_vec(word.into_bytes());
@@ -17,7 +21,11 @@ fn words(rt: &HostRuntime, alloc: Global) -> io::Result<Vec<Text>> {
 }
 
 /// Does the command that the process's words name, from standard input to standard output.
-pub fn run(rt: &HostRuntime) -> Status {
+pub fn run<R: Env + AllocGlobal + Threads + Wait + Sync>(
+    rt: &R,
+    input: Stdin,
+    output: Stdout,
+) -> Status {
     let alloc = rt.alloc();
     let words = match words(rt, alloc) {
         Ok(words) => words,
@@ -28,7 +36,7 @@ pub fn run(rt: &HostRuntime) -> Status {
             Vec::new(alloc)
         }
     };
-    let mut source = StdSource::new(rt.stdin());
-    let mut sink = StdSink::new(rt.stdout());
-    plain(alloc, &words, &mut source, &mut sink)
+    let mut source = StdSource::new(input);
+    let mut sink = StdSink::new(output);
+    top(rt, alloc, &words, &mut source, &mut sink, &OpenGate)
 }

@@ -5,5 +5,5 @@ use egl_cli::run;
 use std::process::ExitCode;
 
 fn main(rt: HostRuntime) -> ExitCode {
-    ExitCode::from(run(&rt).number())
+    ExitCode::from(run(&rt, rt.stdin(), rt.stdout()).number())
 }

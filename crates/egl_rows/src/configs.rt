@@ -19,7 +19,7 @@ fn configs_are_printed_and_nothing_is_read(rt: HostRuntime) -> Result<(), Fail> 
         let mut sink = sink(alloc, room, &[fails])?;
         // A read would fail.
         let mut unread = source(alloc, b"", &[0])?;
-        let answered = status_of(alloc, &["configs"], &mut unread, &mut sink)?;
+        let answered = status_of(&rt, &["configs"], &mut unread, &mut sink)?;
         assert_eq!(rt; answered, status, "{room}");
         assert_eq!(rt; sink.taken(), text, "{room}");
     }

@@ -1,9 +1,11 @@
 //! Runs a command on bytes in memory.
 use egl_calls::{Bytes, Numbers, Text};
-use egl_cli::plain;
+use egl_cli::{OpenGate, top};
 use egl_flow::{MemorySink, MemorySource, Sink, Source};
 use std::alloc::Global;
+use std::sync::Wait;
 use std::test::Fail;
+use std::thread::Threads;
 
 pub fn words(alloc: Global, words: &[&str]) -> Result<Vec<Text>, Fail> {
     let mut texts = Vec::new(alloc);
@@ -25,24 +27,25 @@ pub fn sink(alloc: Global, room: u64, fails: &[i64]) -> Result<MemorySink, Fail>
 }
 
 /// The exit status of a command.
-pub fn status_of<S: Source, K: Sink>(
-    alloc: Global,
+pub fn status_of<R: AllocGlobal + Threads + Wait + Sync, S: Source, K: Sink>(
+    rt: &R,
     command: &[&str],
     source: &mut S,
     sink: &mut K,
 ) -> Result<u8, Fail> {
+    let alloc = rt.alloc();
     let words = words(alloc, command)?;
-    Ok(plain(alloc, &words, source, sink).number())
+    Ok(top(rt, alloc, &words, source, sink, &OpenGate).number())
 }
 
-/// The exit status of `serial` on some bytes, and what it wrote.
-pub fn serial(alloc: Global, input: &[u8]) -> Result<(u8, MemorySink), Fail> {
+/// The exit status of a command of one word on some bytes, and what it wrote.
+pub fn answer<R: AllocGlobal + Threads + Wait + Sync>(
+    rt: &R,
+    word: &str,
+    input: &[u8],
+) -> Result<(u8, MemorySink), Fail> {
+    let alloc = rt.alloc();
     let mut sink = sink(alloc, 65_536, &[])?;
-    let status = status_of(
-        alloc,
-        &["serial"],
-        &mut source(alloc, input, &[])?,
-        &mut sink,
-    )?;
+    let status = status_of(rt, &[word], &mut source(alloc, input, &[])?, &mut sink)?;
     Ok((status, sink))
 }

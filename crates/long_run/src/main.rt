@@ -49,5 +49,5 @@ fn long_run(rt: &HostRuntime) -> Result<()> {
 
 fn main(rt: HostRuntime) -> Result<ExitCode> {
     long_run(&rt)?;
-    Ok(ExitCode::from(run(&rt).number()))
+    Ok(ExitCode::from(run(&rt, rt.stdin(), rt.stdout()).number()))
 }

@@ -1,6 +1,6 @@
 //! Worked examples.
 
-/// A trace, and what `serial` must answer to it.
+/// A trace, and what a command must answer to it.
 #[derive(Drop)]
 pub struct Example {
     /// What it shows.

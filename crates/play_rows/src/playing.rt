@@ -2,23 +2,48 @@
 use crate::examples::Example;
 use anyhow::{Result, anyhow};
 use egl_calls::{Bytes, Numbers, Text};
-use egl_cli::plain;
+use egl_cli::{OpenGate, top};
 use egl_flow::{MemorySink, MemorySource};
-use std::alloc::Global;
+use std::sync::Wait;
+use std::thread::Threads;
 
 /// How many bytes an answer may have.
 const ROOM: u64 = 1_048_576;
 
-/// The exit status of `serial` on a trace, and what it wrote.
-fn serial(alloc: Global, trace: &[u8]) -> Result<(u8, MemorySink)> {
+/// The command by which examples are played.
+#[derive(Clone, Copy, Drop)]
+pub enum Player {
+    /// By turns.
+    Serial,
+    /// By threads at once.
+    Play,
+}
+
+impl Player {
+    /// The word that names it.
+    pub fn word(self) -> &'static str {
+        match self {
+            Player::Serial => "serial",
+            Player::Play => "play",
+        }
+    }
+}
+
+/// The exit status of a command on a trace, and what it wrote.
+fn answer<R: AllocGlobal + Threads + Wait + Sync>(
+    rt: &R,
+    player: Player,
+    trace: &[u8],
+) -> Result<(u8, MemorySink)> {
+    let alloc = rt.alloc();
     let mut words = Vec::new(alloc);
-    words.push(Text::from_vec(Vec::from_slice(alloc, b"serial")?))?;
+    words.push(Text::from_vec(Vec::from_slice(alloc, player.word().as_bytes())?))?;
     let bytes = Bytes::from_vec(Vec::from_slice(alloc, trace)?);
     let mut source = MemorySource::new(bytes, Numbers::new(alloc));
     let mut sink = MemorySink::new(alloc, ROOM, Numbers::new(alloc)).map_err(|_| anyhow!(
         "no memory for a sink"
     ))?;
-    let status = plain(alloc, &words, &mut source, &mut sink).number();
+    let status = top(rt, alloc, &words, &mut source, &mut sink, &OpenGate).number();
     Ok((status, sink))
 }
 
@@ -34,15 +59,20 @@ fn first_difference<'a>(wanted: &'a str, found: &'a str) -> (&'a str, &'a str) {
     ("", found.next().unwrap_or(""))
 }
 
-/// Plays an example of a file, and prints how the answer differs from the one that is wanted.
-pub fn is_as_wanted<R: Print + AllocGlobal>(rt: &R, file: &str, example: &Example) -> Result<bool> {
-    let (status, sink) = serial(rt.alloc(), example.trace.as_slice())?;
+/// Plays an example of a file by a command, and prints how the answer differs from the one that is wanted.
+pub fn is_as_wanted<R: Print + AllocGlobal + Threads + Wait + Sync>(
+    rt: &R,
+    player: Player,
+    file: &str,
+    example: &Example,
+) -> Result<bool> {
+    let (status, sink) = answer(rt, player, example.trace.as_slice())?;
     let found = str::from_utf8(sink.taken())?;
     if status == example.status && found == example.output.as_str() {
         return Ok(true);
     }
-    let (line, heading) = (example.line, example.heading.as_str());
-    println!(rt; "{file}:{line}: {heading}")?;
+    let (word, line, heading) = (player.word(), example.line, example.heading.as_str());
+    println!(rt; "{word} {file}:{line}: {heading}")?;
     let wanted_status = example.status;
     let (wanted_line, found_line) = first_difference(example.output.as_str(), found);
     println!(rt; "  wanted, with status {wanted_status}: {wanted_line}")?;

@@ -1,18 +1,24 @@
-use Rattle.std.proofs.Common.{◌∙◌, List, ℕ, ap}
-use Rattle.egl_cli.specs.declared.statuses.Status.TheVariants.{Ok as Fine, Stalled}
+use Rattle.std.proofs.Common.{◌≡◌, ◌∙◌, true, false}
+use Rattle.std.proofs.lemmas.Result.{IfOk-weaker}
+use Rattle.egl_cli.specs.declared.answers.Answer.{Answer}
+use Rattle.egl_cli.specs.Answers.{journal_answer, run_answer}
 use Rattle.egl_cli.proofs.StalledLaws.{run_ended, run_stalled}
 use Rattle.egl_cli.proofs.answers.run_answer.Goals as goal
 
-pub returns-in_ok-write-in-Ok : goal.returns-in_ok-write-in-Ok
-returns-in_ok-write-in-Ok c =
+pub returns-in-Ok : goal.returns-in-Ok
+returns-in-Ok c =
+    let t = c.args.trace.now in
     let run = c.in-Ok.run' in
     let complete = c.in-Ok.ensures.complete in
-    ap (λ (text : List ℕ). record { status = Fine; text = text }) c.in_ok-write-in-Ok.ensures
-    ∙ run_ended c.args.trace.now run.journal.entries run.driver.state complete.0 complete.1
+    let P : Answer → Type 0 = λ a. a ≡ journal_answer t run.journal.entries false in
+    let Q : Answer → Type 0 = λ a. a ≡ run_answer t in
+    IfOk-weaker c.ended_answer.result P Q (λ a p. p ∙ run_ended t run.journal.entries run.driver.state complete.0 complete.1) c.ended_answer.ensures
 
-pub returns-in_ok-stalled_text-in-Err-Stalled : goal.returns-in_ok-stalled_text-in-Err-Stalled
-returns-in_ok-stalled_text-in-Err-Stalled c =
+pub returns-in-Err-Stalled : goal.returns-in-Err-Stalled
+returns-in-Err-Stalled c =
+    let t = c.args.trace.now in
     let run = c.in-Err-Stalled.run' in
     let stalled = rw c.in-Err-Stalled.field-0-is at c.in-Err-Stalled.ensures.stalled in
-    ap (λ (text : List ℕ). record { status = Stalled; text = text }) c.in_ok-stalled_text-in-Err-Stalled.ensures
-    ∙ run_stalled c.args.trace.now run.journal.entries run.driver.state stalled.0 stalled.1
+    let P : Answer → Type 0 = λ a. a ≡ journal_answer t run.journal.entries true in
+    let Q : Answer → Type 0 = λ a. a ≡ run_answer t in
+    IfOk-weaker c.stalled_answer.result P Q (λ a p. p ∙ run_stalled t run.journal.entries run.driver.state stalled.0 stalled.1) c.stalled_answer.ensures
