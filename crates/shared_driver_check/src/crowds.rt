@@ -1,5 +1,5 @@
 //! Many threads with a token each.
-ghost use Rattle.std.specs.Prelude.{◌<◌, ◌≤◌, ◌≡◌, true, false};
+ghost use Rattle.std.specs.Prelude.{All, vec_len, vec_capacity, ◌+◌, ◌<◌, ◌≤◌, ◌≡◌, true, false};
 ghost use Rattle.egl_calls.specs.Kinds.{is_built};
 ghost use Rattle.egl_model.specs.Waits.{is_wait_end};
 ghost use Rattle.shared_driver.specs.Tokens.{IsOf};
@@ -92,6 +92,39 @@ fn calls<R: Abort + Wait>(
     }
 }
 
+// Puts tokens into the room that there is.
+fn attach<R: Wait>(
+    rt: &R,
+    shared: &Shared,
+    thread: &mut Thread,
+    tokens: &mut Vec<Thread>,
+    threads: usize,
+)
+    requires owns { IsOf shared.now thread.old }
+    requires tokens { All (λ t. IsOf shared.now t) tokens.old.items }
+    requires room { vec_len tokens.old + threads ≤ vec_capacity tokens.old }
+    ensures owns { IsOf shared.now thread.new }
+    ensures tokens { All (λ t. IsOf shared.now t) tokens.new.items }
+{
+    'attaching: for made in 0..threads {
+        let Ok(token) = shared.attach(thread, rt) else {
+            break 'attaching;
+        };
+        tokens.push_reserved(token);
+    }
+}
+
+fn join_all<R: Wait>(rt: &R, shared: &Shared, thread: &mut Thread, mut tokens: Vec<Thread>)
+    requires owns { IsOf shared.now thread.old }
+    requires tokens { All (λ t. IsOf shared.now t) tokens.items }
+    ensures { IsOf shared.now thread.new }
+{
+    'joining: while let Some(token) = tokens.pop() {
+        shared.join(thread, rt, token);
+    }
+    tokens.destroy_empty();
+}
+
 /// Makes so many calls in each of so many threads, with tokens that it joins in the end: eglGetDisplay, or any that are built. It answers how many of them the threads' parts answered.
 pub fn crowd<R: Abort + Threads + Wait + Sync>(
     rt: &R,
@@ -110,12 +143,7 @@ pub fn crowd<R: Abort + Threads + Wait + Sync>(
     let Ok(mut tokens) = Vec::with_capacity(alloc, threads) else {
         panic!(rt; "memory");
     };
-    'attaching: for made in 0..threads {
-        let Ok(new) = shared.attach(thread, rt) else {
-            break 'attaching;
-        };
-        tokens.push_reserved(new);
-    }
+    attach(rt, shared, thread, &mut tokens, threads);
     thread::for_each_mut(
         rt,
         tokens.as_mut_slice(),
@@ -125,10 +153,7 @@ pub fn crowd<R: Abort + Threads + Wait + Sync>(
             ensures { IsOf shared.entry.now t.exit.now }
         { calls(rt, alloc, shared, t, any, count, &counted) },
     );
-    'joining: while let Some(other) = tokens.pop() {
-        shared.join(thread, rt, other);
-    }
-    tokens.destroy_empty();
+    join_all(rt, shared, thread, tokens);
     counted.load(SeqCst)
 }
 

@@ -12,7 +12,7 @@ use std::alloc::Global;
 use std::process::Abort;
 use std::sync::Wait;
 
-/// A call that is timed by the places that it takes.
+/// A call that takes a place in the thread's part, one that takes a place in a turn, and one that gives all places back.
 #[derive(Clone, Copy, Drop)]
 pub enum Step {
     Query,
@@ -32,7 +32,7 @@ fn call_of(alloc: Global, step: Step) -> Call
     call_with(kind, [0; 6], Numbers::new(alloc))
 }
 
-/// So many local calls and a shared one, if there is one; then there is no place, and after the last call there is.
+/// So many local calls and a shared one, if there is one: then there is no place. After the last call there is.
 #[derive(Drop)]
 pub struct Row {
     pub local: u64,
@@ -40,15 +40,23 @@ pub struct Row {
     pub last: Step,
 }
 
-// Makes so many local calls, as long as there is a place, and answers how many.
+/// Makes a local call if there is a place for one, and tells whether it did.
+fn queried(alloc: Global, shared: &Shared, thread: &mut Thread, mark: u64) -> bool
+    requires { IsOf shared.now thread.old }
+    ensures { IsOf shared.now thread.new }
+{
+    let call = call_of(alloc, Step::Query);
+    thread.is_local(&call) && thread.local(alloc, mark, call).is_ok()
+}
+
+/// Makes so many local calls, as long as there is a place, and answers how many.
 pub fn queries(alloc: Global, shared: &Shared, thread: &mut Thread, count: u64) -> u64
     requires { IsOf shared.now thread.old }
     ensures { IsOf shared.now thread.new }
 {
     let mut made = 0u64;
     'querying: for mark in 0..count {
-        let call = call_of(alloc, Step::Query);
-        if thread.is_local(&call) && thread.local(alloc, mark, call).is_ok() {
+        if queried(alloc, shared, thread, mark) {
             made = made.wrapping_add(1);
         }
     }
