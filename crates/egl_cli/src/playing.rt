@@ -92,6 +92,6 @@ pub fn top<R: Threads + Wait + Sync, S: Source, K: Sink, G: Gate + Sync>(
 {
     match command_of(words) {
         Some(Command::Play) => play_words(rt, alloc, source, sink, gate),
-        _ => plain(alloc, words, source, sink),
+        Some(Command::Serial | Command::Configs) | None => plain(alloc, words, source, sink),
     }
 }
