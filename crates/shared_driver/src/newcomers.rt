@@ -23,6 +23,9 @@ pub struct Newcomer {
     pub tail: VecDeque<Entry>,
 }
 
+/// The most tokens that a driver ever makes.
+const MOST_TOKENS: u32 = 65_536;
+
 /// Room for the own calls of a token.
 pub fn own_calls(alloc: Global) -> Result<VecDeque<Entry>, NoMemory>
     ensures items { IfOk result (λ q. q.items ≡ []) }
@@ -90,7 +93,7 @@ impl Core {
         ensures spare { self.new.promised ≤ self.new.journal.spare }
     {
         let made = self.driver.threads();
-        if made >= 65536 {
+        if made >= MOST_TOKENS {
             return Err(AttachError::Full { made });
         }
         let Ok(room) = own_calls(alloc) else {
