@@ -61,7 +61,7 @@ fn play_lines<R: Wait, G: Gate>(
     unreachable!()
 }
 
-/// Plays the lines of one thread of a trace with a token: the trace's thread is that of the token's number. Each line is played in a turn of its own, once what it waits for is there; where nothing can be played it sleeps between turns, and may never return.
+/// Plays the lines of one thread of a trace with a token: the trace's thread is that of the token's number. A line that the thread's private part answers, and that waits for nobody, takes no turn; each other one is played in a turn of its own, once what it waits for is there. Where nothing can be played it sleeps between turns, and may never return.
 ///
 /// It ends where the thread is at its end, or the run has stalled, or another thread gave up. Where memory runs out, it gives up.
 pub fn work<R: Wait, G: Gate>(
