@@ -9,8 +9,6 @@ mod locals;
 mod newcomers;
 mod news;
 mod picks;
-#[cfg(test)]
-mod tests;
 mod threads;
 mod tokens;
 mod turns;

@@ -2,6 +2,7 @@ ghost use Rattle.std.specs.Prelude.{◌≤◌, ◌<◌, All};
 ghost use Rattle.shared_driver.specs.Tokens.{IsOf};
 
 use crate::crowds::{attached_all, crowd, finish, opened};
+use crate::draws::display_call;
 use crate::places::{Row, Step, holds, queries};
 use crate::replays::is_replayed;
 use crate::sides::{set_scene, two_sides};
@@ -13,6 +14,52 @@ use std::process::Abort;
 use std::sync::Wait;
 use std::test::*;
 use std::thread::Threads;
+
+/// Stops at once.
+#[derive(Drop)]
+struct Stopping;
+
+impl Picker for Stopping {
+    ghost may = { λ s es d. Unit {0} };
+
+    ghost picks = { λ s es d p t. Unit {0} };
+
+    fn pick(&mut self, _journal: &Journal, _driver: &Driver) -> Result<Pick, NoMemory> {
+        Ok(Pick::Stop)
+    }
+}
+
+#[test]
+fn a_picker_that_stops_adds_nothing(rt: HostRuntime) -> Result<(), Fail> {
+    let Opened { shared, mut thread } = opened(&rt, rt.alloc(), 1000);
+    let stopped = matches!(
+        shared.call_picked(&mut thread, &rt, rt.alloc(), &mut Stopping),
+        Ok(Picked::Stopped)
+    );
+    let run = finish(&rt, shared, thread);
+    assert!(rt; stopped);
+    assert_eq!(rt; run.journal.len(), 0);
+    Ok(())
+}
+
+#[test]
+fn one_call_is_one_entry(rt: HostRuntime) -> Result<(), Fail> {
+    let Opened { shared, mut thread } = opened(&rt, rt.alloc(), 1000);
+    let value = match shared.call(&mut thread, &rt, rt.alloc(), 7, display_call(rt.alloc())) {
+        Ok(reply) => reply.value,
+        Err(_) => 0,
+    };
+    shared.halt(&mut thread, &rt, rt.alloc());
+    shared.halt(&mut thread, &rt, rt.alloc());
+    shared.finish(&mut thread, &rt);
+    let number = thread.number();
+    let run = finish(&rt, shared, thread);
+    assert_eq!(rt; value, 1);
+    assert_eq!(rt; number, 0);
+    assert_eq!(rt; run.journal.len(), 2);
+    assert!(rt; run.journal.is_halted());
+    Ok(())
+}
 
 // How many entries of a token stand in a journal, where their marks rise by one from 0 and their values are 1.
 fn rising(entries: &[Entry], number: u32) -> u64 {
