@@ -4,6 +4,7 @@ pub mod RootLaws
 pub mod StepLaws
 pub mod Allowed
 pub mod CostLaws
+mod CountLaws
 pub mod OutsideLaws
 pub mod PartLaws
 pub mod AwayLaws

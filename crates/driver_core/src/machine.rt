@@ -5,9 +5,8 @@ ghost use Rattle.surface_store.specs.Windows.{windows_ok};
 ghost use Rattle.egl_model.specs.Windows.{front_of};
 ghost use Rattle.egl_model.specs.State.{opening, set_error, record_of, object_at};
 ghost use Rattle.display_table.specs.declared.handles.Handle.{Handle};
-ghost use Rattle.egl_model.specs.Sweep.{census, roots, sweep};
-ghost use Rattle.ref_store.specs.Counts.{times};
-ghost use Rattle.object_table.specs.Tables.{references_to};
+ghost use Rattle.egl_model.specs.Sweep.{census, sweep};
+ghost use Rattle.driver_core.specs.Counts.{count_of};
 ghost use Rattle.driver_core.specs.Machine.{Machine};
 
 use crate::threads::ThreadTable;
@@ -108,7 +107,7 @@ impl Driver {
 
     /// How many references lead to an object: from objects, valid handles and threads.
     pub fn references(&self, object: u64) -> u64
-        ensures { result ≡ references_to object self.now.state.objects + times object (roots self.now.state) }
+        ensures { result ≡ count_of self.now.state object }
     {
         self.objects.references(object)
     }

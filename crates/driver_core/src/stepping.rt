@@ -3,6 +3,7 @@ ghost use Rattle.std.specs.Prelude.{◌≡◌, ◌<◌, true, None, Some, is_som
 ghost use Rattle.driver_core.specs.Costs.{IsCheap, IsBounded};
 ghost use Rattle.driver_core.specs.Releases.{releases};
 ghost use Rattle.egl_model.specs.Sweep.{sweep};
+ghost use Rattle.thread_part.specs.Memory.{clears_nothing};
 ghost use Rattle.driver_core.specs.Memory.{egl_takes_no_memory, gl_takes_no_memory, takes_no_memory, is_bare, is_bare_on};
 ghost use Rattle.egl_calls.specs.Kinds.{is_built};
 ghost use Rattle.egl_calls.specs.declared.kinds.Kind.TheVariants.{Egl as EglCall, Gl as GlCall};
@@ -217,6 +218,7 @@ impl Driver {
         ensures state { OnOk result (self.new ≡ record self.old { state = (gl_effect self.old.state thread context kind call.now).state }) }
         ensures err { OnErr result (self.new ≡ self.old) }
         ensures memory { gl_takes_no_memory kind ≡ true → IsOk result }
+        ensures nothing { clears_nothing kind call.now ≡ true → IsOk result }
     {
         match kind {
             GlKind::GetError | GlKind::ClearColorx => {
