@@ -31,6 +31,8 @@ struct Stages {
     at_first_line: AtomicU64,
     // the other token is in its turn
     in_turn: AtomicU64,
+    // the thread was kept until then
+    kept: AtomicU64,
     // the thread is before its second line
     at_second_line: AtomicU64,
     // the thread came there while the other token was in its turn
@@ -53,7 +55,9 @@ impl Gate for Stages {
     fn before(&self, _thread: u32, line: u64) {
         if line == 2 {
             self.at_first_line.store(1, SeqCst);
-            is_reached(&self.in_turn);
+            if is_reached(&self.in_turn) {
+                self.kept.store(1, SeqCst);
+            }
         }
         if line == 3 {
             self.at_second_line.store(1, SeqCst);
@@ -163,6 +167,7 @@ fn local_without_turn(rt: HostRuntime) -> Result<(), Fail> {
     let stages = Stages {
         at_first_line: AtomicU64::new(0),
         in_turn: AtomicU64::new(0),
+        kept: AtomicU64::new(0),
         at_second_line: AtomicU64::new(0),
         met: AtomicU64::new(0),
     };
@@ -173,6 +178,7 @@ fn local_without_turn(rt: HostRuntime) -> Result<(), Fail> {
     let lines: [u64; 2] = [2, 3];
     let marks = run.journal.as_slice().iter().map(|entry| entry.mark);
     assert!(rt; marks.eq(lines));
+    assert_eq!(rt; stages.kept.load(SeqCst), 1);
     assert_eq!(rt; stages.met.load(SeqCst), 1);
     Ok(())
 }
