@@ -266,8 +266,8 @@ fn a_clear_writes_in_the_scissor_box_alone(rt: HostRuntime) -> Result<(), Fail> 
 
 static FOUR: [u8; 16] = [1, 1, 1, 255, 2, 2, 2, 255, 3, 3, 3, 255, 4, 4, 4, 255];
 
-/// Crop rectangles and places of draws of a texture of two by two, and what the lowest row of four
-/// pixels then has, each by its red component.
+/// Crop rectangles and places of draws of a texture of two by two, and the greys that the lowest row
+/// of four pixels then has; 0 where nothing was drawn.
 static TURNED: [([i64; 4], [i64; 4], [u8; 4]); 6] = [
     ([2, 0, -2, 2], [0, 0, 4, 4], [2, 2, 1, 1]),
     ([0, 2, 2, -2], [0, 0, 4, 4], [3, 3, 4, 4]),
@@ -276,6 +276,16 @@ static TURNED: [([i64; 4], [i64; 4], [u8; 4]); 6] = [
     ([0, 0, 2, 2], [-1, -1, 2, 2], [4, 0, 0, 0]),
     ([0, 0, 0, 0], [-9, -9, 90, 90], [1, 1, 1, 1]),
 ];
+
+/// Opaque pixels of greys; of 0 one that wasn't drawn.
+fn greys(alloc: Global, greys: [u8; 4]) -> Result<Vec<u8>, Fail> {
+    let mut bytes = Vec::new(alloc);
+    for grey in greys {
+        let alpha = if grey == 0 { 0 } else { 255 };
+        bytes.extend_from_slice(&[grey, grey, grey, alpha])?;
+    }
+    Ok(bytes)
+}
 
 #[test]
 fn a_negative_crop_turns_the_picture(rt: HostRuntime) -> Result<(), Fail> {
@@ -286,7 +296,8 @@ fn a_negative_crop_turns_the_picture(rt: HostRuntime) -> Result<(), Fail> {
         for part in [&replacing, &white] {
             let mut target = Image::new(rt.alloc(), Format::Rgba8888, 4, 4)?;
             draw(&mut target, part, &image, &cropped(*crop), *place)?;
-            let row = read_pixels(rt.alloc(), &target, rect(0, 0, 4, 1), Format::L8, 1)?;
+            let row = read_pixels(rt.alloc(), &target, rect(0, 0, 4, 1), Format::Rgba8888, 1)?;
+            let expected = greys(rt.alloc(), *expected)?;
             assert_eq!(rt; row.as_slice(), expected.as_slice(), "{crop:?} {place:?}");
         }
     }
