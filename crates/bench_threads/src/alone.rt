@@ -23,8 +23,8 @@ fn prepare(alloc: Global, driver: &mut Driver) -> Result<(), NoMemory>
 fn play(alloc: Global, driver: &mut Driver, sort: Sort, count: u32) -> Result<(), NoMemory>
     requires { 0 < driver.old.made }
 {
-    'calls: for _call in 0..count {
-        driver.play(alloc, 0, &sort.call(alloc))?;
+    'calls: for place in 0..u64::from(count) {
+        driver.play(alloc, 0, &sort.call(alloc, place))?;
     }
     Ok(())
 }

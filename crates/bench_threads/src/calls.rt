@@ -19,6 +19,8 @@ pub enum Sort {
     Clear,
     /// glClearColorx.
     Colour,
+    /// The last two by turns.
+    Drawing,
 }
 
 /// Who answers a call.
@@ -52,18 +54,23 @@ impl Sort {
             Sort::Error => "eglGetError",
             Sort::Clear => "glClear of 64 by 64",
             Sort::Colour => "glClearColorx",
+            Sort::Drawing => "glClearColorx and glClear by turns",
         }
     }
 
-    pub fn call(self, alloc: Global) -> Call
+    /// The call at a place among those of its sort.
+    pub fn call(self, alloc: Global, place: u64) -> Call
         ensures built { is_built result.kind ≡ true }
         ensures kind { is_wait_end result.kind ≡ false }
     {
+        let clear = (Kind::Gl(GlKind::Clear), GL_COLOR_BUFFER_BIT as u32);
+        let colour = (Kind::Gl(GlKind::ClearColorx), 65_536);
         let (kind, number) = match self {
             Sort::Display => (Kind::Egl(EglKind::GetDisplay), 0),
             Sort::Error => (Kind::Egl(EglKind::GetError), 0),
-            Sort::Clear => (Kind::Gl(GlKind::Clear), GL_COLOR_BUFFER_BIT as u32),
-            Sort::Colour => (Kind::Gl(GlKind::ClearColorx), 65_536),
+            Sort::Clear => clear,
+            Sort::Colour => colour,
+            Sort::Drawing => { if place % 2 == 0 { colour } else { clear } }
         };
         call_with(kind, [number, 0, 0, 0], Numbers::new(alloc))
     }

@@ -1,8 +1,8 @@
 //! Makes calls by threads that share a driver, one, two, four and sixteen with a token each, and by one driver that nobody shares.
 //! Clears and colours are then made by the threads' own parts, where they take no turn.
 //!
-//! With no word they make 100 calls each, and it prints what was done. With a word, as `time`, they make 400,000
-//! in all, and it prints how many a second in the fastest of three runs.
+//! With no word they make 100 calls each, and it prints what was done. With a word, as `time`, they make 100,000
+//! in all, or 1,600,000 by their own parts, and it prints how many a second in the fastest of three runs.
 #![tactic(auto)]
 
 mod alone;
@@ -18,10 +18,16 @@ use std::thread::Threads;
 use std::time::Duration;
 use together::Work;
 
-const SORTS: [Sort; 4] = [Sort::Display, Sort::Error, Sort::Clear, Sort::Colour];
+const SORTS: [Sort; 5] = [
+    Sort::Display,
+    Sort::Error,
+    Sort::Clear,
+    Sort::Colour,
+    Sort::Drawing,
+];
 
 /// The sorts that are made by the threads' own parts too.
-const OWN: [Sort; 2] = [Sort::Clear, Sort::Colour];
+const OWN: [Sort; 3] = [Sort::Clear, Sort::Colour, Sort::Drawing];
 
 /// How many threads share a driver; 0 is a driver that nobody shares.
 const THREADS: [u16; 5] = [0, 1, 2, 4, 16];
@@ -29,7 +35,13 @@ const THREADS: [u16; 5] = [0, 1, 2, 4, 16];
 /// And how many where their own parts answer.
 const APART: [u16; 3] = [1, 2, 4];
 
-const TIMED_CALLS: u32 = 400_000;
+// How many calls are timed.
+fn timed_calls(way: Way) -> u32 {
+    match way {
+        Way::Turn => 100_000,
+        Way::Part => 1_600_000,
+    }
+}
 
 fn run<R: Clock + AllocGlobal + Threads + Wait + Sync>(
     rt: &R,
@@ -71,9 +83,10 @@ fn report<R: Clock + Print + AllocGlobal + Threads + Wait + Sync>(
         println!(rt; "{name}, {threads} tokens{by}: done")?;
         return Ok(());
     }
-    let count = TIMED_CALLS / u32::from(threads.max(1));
+    let calls = timed_calls(way);
+    let count = calls / u32::from(threads.max(1));
     let nanoseconds = least_time(rt, threads, Work { sort, way, count })?;
-    let a_second = u128::from(TIMED_CALLS) * 1_000_000_000 / nanoseconds.max(1);
+    let a_second = u128::from(calls) * 1_000_000_000 / nanoseconds.max(1);
     println!(rt; "{name}, {threads} tokens{by}: {a_second} calls a second")?;
     Ok(())
 }

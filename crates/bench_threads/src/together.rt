@@ -25,7 +25,7 @@ fn call<R: Wait>(rt: &R, alloc: Global, shared: &Shared, token: &mut Thread, wor
     requires { IsOf shared.now token.old }
     ensures { IsOf shared.now token.new }
 {
-    let call = work.sort.call(alloc);
+    let call = work.sort.call(alloc, mark);
     let by_part = matches!(work.way, Way::Part);
     if by_part && token.is_local(&call) {
         let _ = token.local(alloc, mark, call);
