@@ -1,6 +1,6 @@
 //! A long run, and then the program's own run on what it is given: a crate has one stored run, and that of `egl_main` ends well.
 //!
-//! The long run plays a trace of 100,000 lines over every kind of call but those of windows. It prints the sum of the trace and that of its recording, which `bench/long_run_model` works out apart from the driver.
+//! The long run plays a trace of 100,000 lines over every kind of call but those of windows and fences, `post` and `await`. It prints the sum of the trace and that of its recording, which `bench/long_run_model` works out apart from the driver.
 #![tactic(auto)]
 
 mod calls;
