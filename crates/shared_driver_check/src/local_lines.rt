@@ -1,5 +1,5 @@
 //! A line that its thread's private part answers takes no turn.
-ghost use Rattle.std.specs.Prelude.{◌≡◌, ◌<◌, [], true, All};
+ghost use Rattle.std.specs.Prelude.{◌≡◌, [], All};
 ghost use Rattle.egl_model.specs.State.{opening};
 ghost use Rattle.shared_driver.specs.Tokens.{IsOf, mine, opening_of, token_of};
 

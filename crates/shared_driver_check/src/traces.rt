@@ -1,6 +1,4 @@
 //! A trace of several threads, drawn by a fixed seed, whose runs are played again by one.
-ghost use Rattle.std.specs.Prelude.{◌<◌};
-
 use crate::draws::Draws;
 use crate::replays::is_replayed;
 use egl_calls::Bytes;
