@@ -23,7 +23,7 @@ pub enum AttribError {
 /// A list of attributes and their values in turn.
 #[derive(Drop)]
 pub struct AttribList {
-    items: Vec<i64>,
+    pairs: Numbers,
 }
 
 impl Model for AttribList {
@@ -31,7 +31,7 @@ impl Model for AttribList {
 
     ghost Value = { List ℤ };
 
-    ghost view = { λ l. l.items.items };
+    ghost view = { λ l. l.pairs };
 }
 
 /// The place of the first pair that is not allowed.
@@ -103,8 +103,8 @@ impl AttribList {
                 place: capped(place),
             });
         }
-        match list.as_slice().to_vec(alloc) {
-            Ok(items) => Ok(AttribList { items }),
+        match list.copy(alloc) {
+            Ok(pairs) => Ok(AttribList { pairs }),
             Err(_) => Err(AttribError::NoMemory),
         }
     }
@@ -113,6 +113,6 @@ impl AttribList {
     pub fn get(&self, attribute: i64) -> Option<i64>
         ensures { result ≡ value_of self.now attribute }
     {
-        value_of(&self.items, attribute)
+        value_of(self.pairs.as_slice(), attribute)
     }
 }

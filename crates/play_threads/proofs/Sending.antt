@@ -1,15 +1,15 @@
 -- What a worker takes along to another thread, and what is lent to it.
+use denote.Builtin.{i64, u8}
 use denote.Param.Send.{IsSend, IsSync, recorded_send, recorded_sync, sendable, struct_send, struct_sync, view_sync}
 use denote.Struct.Declared as declared
 use Rattle.std.proofs.Crossing.{crosses}
 use Rattle.std.specs.contracts.option.Option as option
-use Rattle.egl_calls.specs.contracts.number_list.Numbers as numbers
-use Rattle.egl_calls.specs.contracts.byte_list.Bytes as bytes
+use Rattle.egl_calls.specs.contracts.lists.List as list
 use Rattle.egl_calls.specs.contracts.kinds.Kind as kind
 use Rattle.egl_calls.specs.contracts.calls.Call as call
 use Rattle.egl_calls.specs.contracts.calls.Call.TheInside as inside
 use Rattle.surface_store.specs.contracts.windows.WindowSpec as window
-use Rattle.trace_reader.specs.contracts.traces.Uses as uses
+use Rattle.trace_reader.specs.contracts.traces.Reference as reference
 use Rattle.trace_reader.specs.contracts.traces.Line as line
 use Rattle.trace_reader.specs.contracts.traces.Trace as trace
 use Rattle.atomic_table.proofs.shared.Seat.TheSendSync as seat
@@ -18,16 +18,16 @@ use Rattle.shared_driver.proofs.Sending.{core_send, entry_send, part_send}
 use Rattle.play_threads.specs.contracts.starts.Start as start
 use Rattle.play_threads.specs.contracts.workers.Worker as worker
 
-pub numbers_sync : IsSync numbers.the_row
+pub numbers_sync : IsSync (list.the_row i64)
 numbers_sync = search (sendable, crosses) depth 60
 
-pub bytes_sync : IsSync bytes.the_row
+pub bytes_sync : IsSync (list.the_row u8)
 bytes_sync = search (sendable, crosses) depth 60
 
 pub kind_sync : IsSync (kind.the_field).row
 kind_sync = search (sendable, crosses) depth 60 fits 20000
 
-pub some_bytes_sync : IsSync (option.the_field bytes.the_row).row
+pub some_bytes_sync : IsSync (option.the_field (list.the_row u8)).row
 some_bytes_sync = let a = bytes_sync in search (sendable, crosses) depth 60 fits 20000
 
 pub inside_sync : IsSync inside.the_row
@@ -36,7 +36,7 @@ inside_sync = recorded_sync _ inside.the_type.D inside.the_type.to inside.the_ty
 pub call_sync : IsSync call.the_row
 call_sync = view_sync _ _ _ _ _ inside_sync
 
-pub uses_sync : IsSync uses.the_row
+pub uses_sync : IsSync (list.the_row reference.the_row)
 uses_sync = search (sendable, crosses) depth 60 fits 20000
 
 pub line_sync : IsSync line.the_row

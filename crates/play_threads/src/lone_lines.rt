@@ -17,21 +17,6 @@ use shared_driver::Thread;
 use std::alloc::Global;
 use trace_reader::Line;
 
-fn copied(alloc: Global, call: &Call) -> Result<Call, NoMemory>
-    ensures { IfOk result (λ c. c ≡ call.now) }
-{
-    let bytes = match &call.bytes {
-        Some(bytes) => Some(bytes.copy(alloc)?),
-        None => None,
-    };
-    Ok(Call {
-        kind: call.kind,
-        args: call.args,
-        list: call.list.copy(alloc)?,
-        bytes,
-    })
-}
-
 // Plays a thread's next line, which its private part answers.
 fn play_line(
     thread: &mut Thread,
@@ -53,7 +38,7 @@ fn play_line(
     ensures learnt { OnOk result (HasLearnt picker.new (mine (token_of thread.new)) (token_of thread.new).seen) }
     ensures places { OnOk result ((token_of thread.new).places + 1 ≡ (token_of thread.old).places) }
 {
-    let call = copied(alloc, &line.call)?;
+    let call = line.call.copy(alloc)?;
     let reply = thread.local(alloc, line.number, call)?;
     picker.learn_own(reply)
 }

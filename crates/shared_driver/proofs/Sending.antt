@@ -1,5 +1,6 @@
 -- What may move to another thread, or be lent to one. A caller that lends tokens to threads cites `thread_send` and `shared_sync`:
 -- a search that goes down through the whole driver runs out of steps.
+use denote.Builtin.{i64, u8}
 use denote.Param.Send.{IsSend, IsSync, recorded_send, sendable, struct_send, view_send}
 use denote.Struct.Declared as declared
 use Rattle.std.proofs.Crossing.{crosses}
@@ -7,8 +8,7 @@ use Rattle.atomic_table.proofs.send_lease.SendLease.TheSendSync as lease
 use Rattle.atomic_table.proofs.shared.Seat.TheSendSync as seat
 use Rattle.atomic_table.proofs.shared.Shared.TheSendSync as table
 use Rattle.turn_lock.specs.contracts.bells.Bells as bells
-use Rattle.egl_calls.specs.contracts.number_list.Numbers as numbers
-use Rattle.egl_calls.specs.contracts.byte_list.Bytes as bytes
+use Rattle.egl_calls.specs.contracts.lists.List as list
 use Rattle.std.specs.contracts.option.Option as option
 use Rattle.egl_calls.specs.contracts.kinds.Kind as kind
 use Rattle.egl_calls.specs.contracts.calls.Call as call
@@ -33,16 +33,16 @@ use Rattle.shared_driver.specs.contracts.news.News as news
 use Rattle.shared_driver.specs.contracts.tokens.Shared as shared
 use Rattle.shared_driver.specs.contracts.tokens.Thread as thread
 
-pub numbers_send : IsSend numbers.the_row
+pub numbers_send : IsSend (list.the_row i64)
 numbers_send = search (sendable, crosses) depth 60
 
-pub bytes_send : IsSend bytes.the_row
+pub bytes_send : IsSend (list.the_row u8)
 bytes_send = search (sendable, crosses) depth 60
 
 pub kind_send : IsSend (kind.the_field).row
 kind_send = search (sendable, crosses) depth 60 fits 20000
 
-pub some_bytes_send : IsSend (option.the_field bytes.the_row).row
+pub some_bytes_send : IsSend (option.the_field (list.the_row u8)).row
 some_bytes_send = let a = bytes_send in search (sendable, crosses) depth 60 fits 20000
 
 pub inside_send : IsSend inside.the_row
