@@ -2,6 +2,7 @@
 #![tactic(auto)]
 
 mod arguments;
+mod attributes;
 mod bindings;
 mod configs;
 mod contexts;

@@ -8,9 +8,10 @@ ghost use Rattle.surface_store.specs.Surfaces.{for_window, taken};
 ghost use Rattle.driver_objects.specs.Storages.{stored};
 ghost use Rattle.egl_model.specs.Arguments.{number};
 ghost use Rattle.egl_model.specs.Displays.{is_display};
-ghost use Rattle.egl_model.specs.Windows.{asks_for_single, created_window, draws_to, front_bytes, is_used_at, is_window_config, named_place, named_spec, swap_facts, swapped, window_facts};
+ghost use Rattle.egl_model.specs.Windows.{created_window, draws_to, front_bytes, is_used_at, is_window_config, named_place, named_spec, swap_facts, swapped, window_facts};
 
-use crate::arguments::{listed, number, signed};
+use crate::arguments::{number, signed};
+use crate::attributes::WindowAttributes;
 use crate::configs::is_list_allowed;
 use crate::handles::new_handle;
 use crate::machine::Driver;
@@ -21,9 +22,7 @@ use config_match::Configs;
 use display_table::{Handle, HandleKind};
 use driver_objects::Storage;
 use egl_calls::{Bytes, Call, NoMemory, unsigned};
-use egl_names::codes::{
-    EGL_BACK_BUFFER, EGL_RENDER_BUFFER, EGL_SINGLE_BUFFER, EGL_SURFACE_TYPE, EGL_WINDOW_BIT,
-};
+use egl_names::codes::{EGL_SURFACE_TYPE, EGL_WINDOW_BIT};
 use pixel_formats::Format;
 use pixel_rows::Rect;
 use std::alloc::Global;
@@ -43,12 +42,6 @@ fn is_window_config(config: i64) -> bool
         Some(bits) => unsigned(bits) & EGL_WINDOW_BIT == EGL_WINDOW_BIT,
         None => false,
     }
-}
-
-fn asks_for_single(call: &Call) -> bool
-    ensures { result ≡ asks_for_single call.now }
-{
-    listed(call, EGL_RENDER_BUFFER, EGL_BACK_BUFFER as i64) == EGL_SINGLE_BUFFER as i64
 }
 
 /// A new surface of a window, and the storage of its pixels.
@@ -137,8 +130,8 @@ impl Driver {
             unreachable!();
         };
         let place = self.named_place(call);
-        let single = asks_for_single(call);
-        let (surface, storage) = new_window_surface(alloc, signed(call, 1), spec, single)?;
+        let asked = WindowAttributes::read(call);
+        let (surface, storage) = new_window_surface(alloc, signed(call, 1), spec, asked.single)?;
         self.objects.reserve(2)?;
         let object = self.objects.len();
         let handle = new_handle(
