@@ -1,5 +1,5 @@
 //! The arguments of a line.
-ghost use Rattle.std.specs.Prelude.{◌≡◌, ℕ, ◌+◌, ◌<◌, ◌≤◌, [], ◌∷◌, ◌++◌, length, take, map, slice_set, true, All, IfOk, OnOk, IfSome};
+ghost use Rattle.std.specs.Prelude.{◌≡◌, ℕ, ◌+◌, ◌<◌, ◌≤◌, [], ◌∷◌, ◌++◌, length, take, map, slice_set, is_some, true, All, IfOk, OnOk, IfSome};
 ghost use Rattle.std.specs.List.{list_any, list_all};
 ghost use Rattle.egl_calls.specs.declared.kinds.Kind.{Kind as CallKind};
 ghost use Rattle.egl_calls.specs.Ranges.{AreArguments, IsArgument, IsNumber};
@@ -172,39 +172,32 @@ pub fn call_of(
     }))
 }
 
-/// Whether each reference among the arguments is one to a variable that a line assigns.
-pub fn are_known(variables: &Variables<'_>, words: &[&[u8]]) -> bool
-    ensures { result ≡ list_all (is_known variables.now) (map (λ w. w.now) words.now) }
-{
-    for word in words {
-        if is_reference(word) && used_in(variables, word).is_none() {
-            return false;
-        }
-    }
-    true
-}
-
+/// Adds the reference that an argument is, and answers false where it is one to a variable that no line assigns.
 fn push_reference(
     variables: &Variables<'_>,
     place: u32,
     word: &[u8],
     uses: &mut Uses,
-) -> Result<(), NoMemory>
+) -> Result<bool, NoMemory>
     requires { place < 8 }
+    ensures known { IfOk result (λ b. b ≡ is_known variables.now word.now) }
     ensures added { OnOk result (uses.new ≡ uses.old ++ reference_at variables.now place word.now) }
     ensures all { OnOk result (All (IsNumberUse (length variables.now)) uses.old → All (IsNumberUse (length variables.now)) uses.new) }
 {
     if !is_reference(word) {
-        return Ok(());
+        return Ok(true);
     }
     match used_in(variables, word) {
-        Some(used) => uses.push(Reference {
-            in_list: false,
-            place,
-            variable: used.variable,
-            item: used.item,
-        }),
-        None => Ok(()),
+        Some(used) => {
+            uses.push(Reference {
+                in_list: false,
+                place,
+                variable: used.variable,
+                item: used.item,
+            })?;
+            Ok(true)
+        }
+        None => Ok(false),
     }
 }
 
@@ -221,23 +214,26 @@ fn place_behind(place: u32, form: Form) -> u32
     }
 }
 
-/// The references of arguments of these forms.
+/// The references of arguments of these forms; nothing where one is to a variable that no line assigns.
 pub fn references(
     alloc: Global,
     variables: &Variables<'_>,
     forms: &[Form],
     words: &[&[u8]],
-) -> Result<Uses, NoMemory>
+) -> Result<Option<Uses>, NoMemory>
     requires few { length forms.now ≤ 8 }
     requires count { length words.now ≡ length forms.now }
-    ensures value { IfOk result (λ u. u ≡ references variables.now 0 forms.now (map (λ w. w.now) words.now)) }
-    ensures all { IfOk result (All (IsNumberUse (length variables.now))) }
+    ensures known { IfOk result (λ o. is_some o ≡ list_all (is_known variables.now) (map (λ w. w.now) words.now)) }
+    ensures value { IfOk result (λ o. IfSome o (λ u. u ≡ references variables.now 0 forms.now (map (λ w. w.now) words.now))) }
+    ensures all { IfOk result (λ o. IfSome o (All (IsNumberUse (length variables.now)))) }
 {
     let mut uses = Uses::new(alloc);
     let mut place = 0u32;
     for k in 0..forms.len() {
-        push_reference(variables, place, words[k], &mut uses)?;
+        if !push_reference(variables, place, words[k], &mut uses)? {
+            return Ok(None);
+        }
         place = place_behind(place, forms[k]);
     }
-    Ok(uses)
+    Ok(Some(uses))
 }
