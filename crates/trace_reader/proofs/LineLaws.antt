@@ -1,12 +1,27 @@
 -- The first line of bytes, and those behind it.
-use Rattle.std.proofs.Common.{◌≡◌, ℕ, ◌+◌, ◌<◌, ◌≤◌, List, [], ◌∷◌, take, drop, length, refl, ap, ◌∙◌, arith, None, Some}
+use Rattle.std.proofs.Common.{◌≡◌, ℕ, ◌+◌, ◌<◌, ◌≤◌, List, [], ◌∷◌, take, drop, length, refl, sym, ap, ◌∙◌, arith, Option, None, Some, IfSome}
 use Rattle.std.proofs.lemmas.Grind.{common_steps}
 use Rattle.std.proofs.lemmas.List.Splits.{slice_split_none, slice_split_first, length-slice_split}
-use Rattle.std.proofs.lemmas.List.Sums.{fails_before_first}
-use Rattle.std.specs.Prelude.{position}
+use Rattle.std.proofs.lemmas.List.Sums.{fails_before_first, position_or_len_is}
+use Rattle.std.proofs.lemmas.Bool.{cond-true, cond-false, lt-ltb, le-ltb, false_from_ne_true}
+use Rattle.memchr.specs.Find.{IsFirstByte, is_byte}
+use Rattle.std.specs.Prelude.{position, nat_lt}
 use Rattle.std.specs.List.{slice_split, position_or_len, before_first, after_first}
 use Rattle.std.specs.Str.Lines.{lines, lines_of_parts, strip_carriage_return}
 use Rattle.std.specs.Char.{is_newline}
+
+-- a search for a line feed gives the place of the first
+pub newline_at : (xs : List ℕ) (r : Option ℕ) → IsFirstByte (is_byte 10) xs r → r ≡ position is_newline xs
+newline_at xs None none =
+    let past : position_or_len is_newline xs ≡ length xs = position_or_len_is is_newline xs (length xs) 0 (omega arith) (λ k l. false_from_ne_true _ (none k (omega arith) l)) (λ l. absurd (omega (arith, l))) in
+    sym (cond-false (nat_lt (position_or_len is_newline xs) (length xs)) _ _ (le-ltb (position_or_len is_newline xs) (length xs) (omega (arith, past))))
+newline_at xs (Some k) found =
+    let place : position_or_len is_newline xs ≡ k = position_or_len_is is_newline xs k 0 (omega (arith, found.0.high)) (λ j l. false_from_ne_true _ (found.0.before j (omega arith) l)) (λ l. found.1) in
+    sym (cond-true (nat_lt (position_or_len is_newline xs) (length xs)) _ _ (lt-ltb (position_or_len is_newline xs) (length xs) (omega (arith, place, found.0.high))) ∙ ap (λ (n : ℕ). Some n) place)
+
+pub newline_within : (xs : List ℕ) (r : Option ℕ) → IsFirstByte (is_byte 10) xs r → IfSome r (λ n. n < length xs)
+newline_within xs None none = tt
+newline_within xs (Some k) found = found.0.high
 
 pub no_line : (xs : List ℕ) → length xs ≡ 0 → lines xs ≡ []
 no_line [] e = refl

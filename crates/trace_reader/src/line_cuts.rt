@@ -3,11 +3,14 @@ ghost use Rattle.std.specs.Prelude.{◌≡◌, ◌<◌, [], ◌∷◌, length, p
 ghost use Rattle.std.specs.Char.{is_newline};
 ghost use Rattle.std.specs.Str.Lines.{lines, strip_carriage_return};
 
+use memchr::memchr;
+
+#[tactic(auto, using(crate::proofs::LineLaws::newline_at, crate::proofs::LineLaws::newline_within))]
 fn newline_in(bytes: &[u8]) -> Option<usize>
     ensures place { result ≡ position is_newline bytes.now }
     ensures within { IfSome result (λ n. n < length bytes.now) }
 {
-    bytes.iter().position(|b| *b == b'\n')
+    memchr(b'\n', bytes)
 }
 
 fn without_return(line: &[u8]) -> &[u8]

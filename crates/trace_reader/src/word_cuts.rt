@@ -1,7 +1,8 @@
 //! The words of a line.
-ghost use Rattle.std.specs.Prelude.{◌≡◌, ◌<◌, [], ◌∷◌, length, position, slice_index_or, IfOk, IfSome, MatchOption, map};
+ghost use Rattle.std.specs.Prelude.{◌≡◌, ◌<◌, [], ◌∷◌, length, position, slice_index_or, OnOk, IfOk, IfSome, MatchOption, map};
 ghost use Rattle.trace_reader.specs.Words.{words, words as words_in, begins_with, is_skipped, is_space};
 
+use egl_calls::NoMemory;
 use std::alloc::{AllocError, Global};
 
 /// The words of a line, parted by one or more spaces.
@@ -23,7 +24,8 @@ fn space_in(text: &[u8]) -> Option<usize>
 /// The first word of a text, and what stands behind it.
 #[tactic(auto, using(crate::proofs::WordLaws::last_word, crate::proofs::WordLaws::no_word, crate::proofs::WordLaws::word_and_more, crate::proofs::WordLaws::space_and_more))]
 pub fn cut_word(text: &[u8]) -> Option<(&[u8], &[u8])>
-    ensures { MatchOption result (words text.now ≡ []) (λ cut. words text.now ≡ cut.0.now ∷ words cut.1.now) }
+    ensures words { MatchOption result (words text.now ≡ []) (λ cut. words text.now ≡ cut.0.now ∷ words cut.1.now) }
+    ensures shorter { IfSome result (λ cut. length cut.1.now < length text.now) }
 {
     let mut rest = text;
     'each: while let Some(at) = space_in(rest) {
@@ -39,6 +41,21 @@ pub fn cut_word(text: &[u8]) -> Option<(&[u8], &[u8])>
     } else {
         Some((rest, b""))
     }
+}
+
+/// Puts the words of a line, parted by one or more spaces, in place of those that were there.
+pub fn cut_words<'a>(parts: &mut Vec<&'a [u8]>, line: &'a [u8]) -> Result<(), NoMemory>
+    ensures { OnOk result (map (λ w. w.now) parts.new.items ≡ words line.now) }
+{
+    parts.clear();
+    let mut rest = line;
+    'each: while let Some((word, more)) = cut_word(rest) {
+        let Ok(()) = parts.push(word) else {
+            return Err(NoMemory);
+        };
+        rest = more;
+    }
+    Ok(())
 }
 
 /// The word at a place, and the empty text past the last.

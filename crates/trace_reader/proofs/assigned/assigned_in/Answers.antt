@@ -7,22 +7,22 @@ pub returns-then-begins_with : goal.returns-then-begins_with
 returns-then-begins_with c = sym (by_comment c.args.line.now (sym c.if-begins_with.ensures))
 
 pub returns-in_default : goal.returns-in_default
-returns-in_default c = sym (by_none c.args.line.now (sym c.if-begins_with.ensures) c.in_default.ensures)
+returns-in_default c = sym (by_none c.args.line.now (sym c.if-begins_with.ensures) c.in_default.ensures.words)
 
 pub returns-in_default-cut_word : goal.returns-in_default-cut_word
-returns-in_default-cut_word c = sym (by_one c.args.line.now _ c.in-Some.behind_thread.now (sym c.if-begins_with.ensures) c.in-Some.ensures c.in_default-cut_word.ensures)
+returns-in_default-cut_word c = sym (by_one c.args.line.now _ c.in-Some.behind_thread.now (sym c.if-begins_with.ensures) c.in-Some.ensures.words c.in_default-cut_word.ensures.words)
 
 pub returns-then-not-begins_with : goal.returns-then-not-begins_with
-returns-then-not-begins_with c = sym (by_second c.args.line.now _ c.in-Some.behind_thread.now c.in-Some-cut_word.target.now c.in-Some-cut_word.behind_target.now (sym c.if-begins_with.ensures) c.in-Some.ensures c.in-Some-cut_word.ensures (sym c.if-not-begins_with.ensures))
+returns-then-not-begins_with c = sym (by_second c.args.line.now _ c.in-Some.behind_thread.now c.in-Some-cut_word.target.now c.in-Some-cut_word.behind_target.now (sym c.if-begins_with.ensures) c.in-Some.ensures.words c.in-Some-cut_word.ensures.words (sym c.if-not-begins_with.ensures))
 
 pub returns-in_default-cut_word-2 : goal.returns-in_default-cut_word-2
-returns-in_default-cut_word-2 c = sym (by_two c.args.line.now _ c.in-Some.behind_thread.now c.in-Some-cut_word.target.now c.in-Some-cut_word.behind_target.now (sym c.if-begins_with.ensures) c.in-Some.ensures c.in-Some-cut_word.ensures c.in_default-cut_word-2.ensures)
+returns-in_default-cut_word-2 c = sym (by_two c.args.line.now _ c.in-Some.behind_thread.now c.in-Some-cut_word.target.now c.in-Some-cut_word.behind_target.now (sym c.if-begins_with.ensures) c.in-Some.ensures.words c.in-Some-cut_word.ensures.words c.in_default-cut_word-2.ensures.words)
 
 pub returns-then-is_variable : goal.returns-then-is_variable
-returns-then-is_variable c = sym (by_three c.args.line.now _ c.in-Some.behind_thread.now c.in-Some-cut_word.target.now c.in-Some-cut_word.behind_target.now c.in-Some-cut_word-2.third.now _ true (sym c.if-begins_with.ensures) c.in-Some.ensures c.in-Some-cut_word.ensures c.in-Some-cut_word-2.ensures (sym c.if-not-begins_with.ensures) (sym c.if-is_equals_sign.ensures) (sym c.if-is_variable.ensures))
+returns-then-is_variable c = sym (by_three c.args.line.now _ c.in-Some.behind_thread.now c.in-Some-cut_word.target.now c.in-Some-cut_word.behind_target.now c.in-Some-cut_word-2.third.now _ true (sym c.if-begins_with.ensures) c.in-Some.ensures.words c.in-Some-cut_word.ensures.words c.in-Some-cut_word-2.ensures.words (sym c.if-not-begins_with.ensures) (sym c.if-is_equals_sign.ensures) (sym c.if-is_variable.ensures))
 
 pub returns-else-is_equals_sign : goal.returns-else-is_equals_sign
 returns-else-is_equals_sign c = elim c.else-is_equals_sign.branch [
-  | else-is_equals_sign-via-then-is_equals_sign+else-is_variable w ↦ sym (by_three c.args.line.now _ c.in-Some.behind_thread.now c.in-Some-cut_word.target.now c.in-Some-cut_word.behind_target.now c.in-Some-cut_word-2.third.now _ false (sym c.if-begins_with.ensures) c.in-Some.ensures c.in-Some-cut_word.ensures c.in-Some-cut_word-2.ensures (sym c.if-not-begins_with.ensures) (sym w.if-is_equals_sign.ensures) (sym w.if-is_variable.ensures))
-  | else-is_equals_sign-via-else-is_equals_sign w ↦ sym (by_third c.args.line.now _ c.in-Some.behind_thread.now c.in-Some-cut_word.target.now c.in-Some-cut_word.behind_target.now c.in-Some-cut_word-2.third.now _ (sym c.if-begins_with.ensures) c.in-Some.ensures c.in-Some-cut_word.ensures c.in-Some-cut_word-2.ensures (sym w.if-is_equals_sign.ensures))
+  | else-is_equals_sign-via-then-is_equals_sign+else-is_variable w ↦ sym (by_three c.args.line.now _ c.in-Some.behind_thread.now c.in-Some-cut_word.target.now c.in-Some-cut_word.behind_target.now c.in-Some-cut_word-2.third.now _ false (sym c.if-begins_with.ensures) c.in-Some.ensures.words c.in-Some-cut_word.ensures.words c.in-Some-cut_word-2.ensures.words (sym c.if-not-begins_with.ensures) (sym w.if-is_equals_sign.ensures) (sym w.if-is_variable.ensures))
+  | else-is_equals_sign-via-else-is_equals_sign w ↦ sym (by_third c.args.line.now _ c.in-Some.behind_thread.now c.in-Some-cut_word.target.now c.in-Some-cut_word.behind_target.now c.in-Some-cut_word-2.third.now _ (sym c.if-begins_with.ensures) c.in-Some.ensures.words c.in-Some-cut_word.ensures.words c.in-Some-cut_word-2.ensures.words (sym w.if-is_equals_sign.ensures))
 ]
