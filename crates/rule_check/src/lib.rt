@@ -1,0 +1,5 @@
+//! Values from outside, and each call that takes memory once where there is enough, of the crates that read and write, name, judge, match and keep. All of it is tests: they stand here, so that those crates aren't proved again for each of them.
+#![tactic(auto)]
+
+#[cfg(test)]
+mod call_lists;
