@@ -14,6 +14,3 @@ pub use egl_facts::EglFacts;
 pub use egl_rules::egl_refusal;
 pub use gl_facts::GlFacts;
 pub use gl_rules::gl_refusal;
-
-#[cfg(test)]
-mod tests;

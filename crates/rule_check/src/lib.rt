@@ -3,3 +3,7 @@
 
 #[cfg(test)]
 mod call_lists;
+#[cfg(test)]
+mod egl_rules;
+#[cfg(test)]
+mod gl_rules;

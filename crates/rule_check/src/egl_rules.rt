@@ -1,10 +1,7 @@
-//! Tables of conditions that hold alone or together, and the error that comes first.
-use crate::{EglFacts, GlFacts, egl_refusal, gl_refusal};
-use egl_calls::{Call, EglError, EglKind, GlError, GlKind, Kind, Numbers, is_built};
-use egl_names::codes::{
-    EGL_SYNC_FENCE, GL_ALPHA, GL_RGB, GL_RGBA, GL_UNSIGNED_BYTE, GL_UNSIGNED_SHORT_4_4_4_4,
-    GL_UNSIGNED_SHORT_5_6_5,
-};
+//! Calls of EGL: tables of conditions that hold alone or together, and the error that comes first.
+use call_rules::{EglFacts, egl_refusal};
+use egl_calls::{Call, EglError, EglKind, Kind, Numbers, is_built};
+use egl_names::codes::EGL_SYNC_FENCE;
 use std::alloc::Global;
 use std::process::Abort;
 
@@ -380,7 +377,7 @@ static NO_ROW: [EglRow; 2] = [
     (&[NoDisplay, NoConfig, NoDraw, LastHandle], None),
 ];
 
-fn egl_call(alloc: Global, kind: EglKind, args: [u32; 4]) -> Call {
+pub(crate) fn egl_call(alloc: Global, kind: EglKind, args: [u32; 4]) -> Call {
     let [a, b, c, d] = args;
     Call {
         kind: Kind::Egl(kind),
@@ -407,213 +404,198 @@ fn expect_egl(rt: &impl Abort, call: &Call, rows: &[EglRow]) {
     }
 }
 
+/// Each row's error is answered to a call of this kind, with these as its first numbers.
+fn expect_rows(rt: &impl Abort, alloc: Global, kind: EglKind, numbers: [u32; 4], rows: &[EglRow]) {
+    expect_egl(rt, &egl_call(alloc, kind, numbers), rows);
+}
+
+static WITHOUT_ROWS: [EglKind; 7] = [
+    EglKind::GetError,
+    EglKind::GetDisplay,
+    EglKind::GetCurrentContext,
+    EglKind::QueryApi,
+    EglKind::GetCurrentDisplay,
+    EglKind::WaitClient,
+    EglKind::ReleaseThread,
+];
+
 #[test]
-fn first_egl_error_is_answered(rt: HostRuntime) {
-    let alloc = rt.alloc();
-    let table: [(EglKind, [u32; 4], &[EglRow]); 32] = [
-        (EglKind::GetError, [0; 4], &NO_ROW),
-        (EglKind::Initialize, [1, 0, 0, 0], &ANY_DISPLAY),
-        (EglKind::Terminate, [1, 0, 0, 0], &ANY_DISPLAY),
-        (EglKind::GetConfigs, [1, 1, 8, 0], &GET_CONFIGS),
-        (EglKind::ChooseConfig, [1, 8, 0, 0], &CHOOSE_CONFIG),
-        (EglKind::GetConfigAttrib, [1, 1, 0, 0], &GET_CONFIG_ATTRIB),
-        (EglKind::CreateWindowSurface, [1, 1, 1, 0], &CREATE_WINDOW),
-        (EglKind::CreatePbufferSurface, [1, 1, 0, 0], &CREATE_PBUFFER),
-        (EglKind::CreateContext, [1, 1, 0, 0], &CREATE_CONTEXT),
-        (EglKind::MakeCurrent, [1, 3, 3, 4], &MAKE_CURRENT),
-        (EglKind::MakeCurrent, [1, 0, 0, 0], &RELEASE),
-        (EglKind::MakeCurrent, [1, 0, 3, 4], &WITHOUT_DRAW),
-        (EglKind::MakeCurrent, [1, 3, 0, 4], &WITHOUT_READ),
-        (EglKind::MakeCurrent, [1, 3, 3, 0], &WITHOUT_CONTEXT),
-        (EglKind::GetDisplay, [0; 4], &NO_ROW),
-        (EglKind::GetCurrentContext, [0; 4], &NO_ROW),
-        (EglKind::DestroySurface, [1, 3, 0, 0], &DESTROY_SURFACE),
-        (EglKind::QuerySurface, [1, 3, 0, 0], &QUERY_SURFACE),
-        (EglKind::DestroyContext, [1, 4, 0, 0], &DESTROY_CONTEXT),
-        (EglKind::QueryContext, [1, 4, 0, 0], &QUERY_CONTEXT),
-        (EglKind::QueryApi, [0; 4], &NO_ROW),
-        (EglKind::GetCurrentDisplay, [0; 4], &NO_ROW),
-        (EglKind::SwapBuffers, [1, 3, 0, 0], &SWAP_BUFFERS),
-        (EglKind::WaitClient, [0; 4], &NO_ROW),
-        (EglKind::ReleaseThread, [0; 4], &NO_ROW),
-        (EglKind::CreateSync, [1, FENCE, 0, 0], &CREATE_FENCE),
-        (EglKind::CreateSync, [1, 0, 0, 0], &CREATE_OTHER_SYNC),
-        (EglKind::DestroySync, [1, 5, 0, 0], &ANY_SYNC),
-        (EglKind::ClientWaitSync, [1, 5, 0, 0], &ANY_SYNC),
-        (EglKind::WaitSync, [1, 5, 0, 0], &WAIT_SYNC),
-        (EglKind::WaitSync, [1, 5, 1, 0], &WAIT_SYNC_FLAGS),
-        (EglKind::GetSyncAttrib, [1, 5, 0, 0], &GET_SYNC_ATTRIB),
-    ];
-    for (kind, args, rows) in table {
-        expect_egl(&rt, &egl_call(alloc, kind, args), rows);
+fn calls_without_rows_are_not_refused(rt: HostRuntime) {
+    for kind in &WITHOUT_ROWS {
+        expect_rows(&rt, rt.alloc(), *kind, [0; 4], &NO_ROW);
     }
-    let call = egl_call(alloc, EglKind::GetConfigs, [1, 0, 0, 0]);
+}
+
+#[test]
+fn calls_for_displays_and_configs_answer_the_first_error(rt: HostRuntime) {
+    let alloc = rt.alloc();
+    expect_rows(&rt, alloc, EglKind::Initialize, [1, 0, 0, 0], &ANY_DISPLAY);
+    expect_rows(&rt, alloc, EglKind::Terminate, [1, 0, 0, 0], &ANY_DISPLAY);
+    expect_rows(&rt, alloc, EglKind::GetConfigs, [1, 1, 8, 0], &GET_CONFIGS);
+    expect_rows(
+        &rt,
+        alloc,
+        EglKind::ChooseConfig,
+        [1, 8, 0, 0],
+        &CHOOSE_CONFIG,
+    );
+    expect_rows(
+        &rt,
+        alloc,
+        EglKind::GetConfigAttrib,
+        [1, 1, 0, 0],
+        &GET_CONFIG_ATTRIB,
+    );
+}
+
+#[test]
+fn calls_for_surfaces_answer_the_first_error(rt: HostRuntime) {
+    let alloc = rt.alloc();
+    expect_rows(
+        &rt,
+        alloc,
+        EglKind::CreateWindowSurface,
+        [1, 1, 1, 0],
+        &CREATE_WINDOW,
+    );
+    expect_rows(
+        &rt,
+        alloc,
+        EglKind::CreatePbufferSurface,
+        [1, 1, 0, 0],
+        &CREATE_PBUFFER,
+    );
+    expect_rows(
+        &rt,
+        alloc,
+        EglKind::DestroySurface,
+        [1, 3, 0, 0],
+        &DESTROY_SURFACE,
+    );
+    expect_rows(
+        &rt,
+        alloc,
+        EglKind::QuerySurface,
+        [1, 3, 0, 0],
+        &QUERY_SURFACE,
+    );
+    expect_rows(
+        &rt,
+        alloc,
+        EglKind::SwapBuffers,
+        [1, 3, 0, 0],
+        &SWAP_BUFFERS,
+    );
+}
+
+#[test]
+fn calls_for_contexts_answer_the_first_error(rt: HostRuntime) {
+    let alloc = rt.alloc();
+    expect_rows(
+        &rt,
+        alloc,
+        EglKind::CreateContext,
+        [1, 1, 0, 0],
+        &CREATE_CONTEXT,
+    );
+    expect_rows(
+        &rt,
+        alloc,
+        EglKind::DestroyContext,
+        [1, 4, 0, 0],
+        &DESTROY_CONTEXT,
+    );
+    expect_rows(
+        &rt,
+        alloc,
+        EglKind::QueryContext,
+        [1, 4, 0, 0],
+        &QUERY_CONTEXT,
+    );
+}
+
+#[test]
+fn make_current_answers_the_first_error(rt: HostRuntime) {
+    let alloc = rt.alloc();
+    expect_rows(
+        &rt,
+        alloc,
+        EglKind::MakeCurrent,
+        [1, 3, 3, 4],
+        &MAKE_CURRENT,
+    );
+    expect_rows(&rt, alloc, EglKind::MakeCurrent, [1, 0, 0, 0], &RELEASE);
+    expect_rows(
+        &rt,
+        alloc,
+        EglKind::MakeCurrent,
+        [1, 0, 3, 4],
+        &WITHOUT_DRAW,
+    );
+    expect_rows(
+        &rt,
+        alloc,
+        EglKind::MakeCurrent,
+        [1, 3, 0, 4],
+        &WITHOUT_READ,
+    );
+    expect_rows(
+        &rt,
+        alloc,
+        EglKind::MakeCurrent,
+        [1, 3, 3, 0],
+        &WITHOUT_CONTEXT,
+    );
+}
+
+#[test]
+fn calls_that_make_and_end_syncs_answer_the_first_error(rt: HostRuntime) {
+    let alloc = rt.alloc();
+    expect_rows(
+        &rt,
+        alloc,
+        EglKind::CreateSync,
+        [1, FENCE, 0, 0],
+        &CREATE_FENCE,
+    );
+    expect_rows(
+        &rt,
+        alloc,
+        EglKind::CreateSync,
+        [1, 0, 0, 0],
+        &CREATE_OTHER_SYNC,
+    );
+    expect_rows(&rt, alloc, EglKind::DestroySync, [1, 5, 0, 0], &ANY_SYNC);
+    expect_rows(
+        &rt,
+        alloc,
+        EglKind::GetSyncAttrib,
+        [1, 5, 0, 0],
+        &GET_SYNC_ATTRIB,
+    );
+}
+
+#[test]
+fn waits_for_syncs_answer_the_first_error(rt: HostRuntime) {
+    let alloc = rt.alloc();
+    expect_rows(&rt, alloc, EglKind::ClientWaitSync, [1, 5, 0, 0], &ANY_SYNC);
+    expect_rows(&rt, alloc, EglKind::WaitSync, [1, 5, 0, 0], &WAIT_SYNC);
+    expect_rows(
+        &rt,
+        alloc,
+        EglKind::WaitSync,
+        [1, 5, 1, 0],
+        &WAIT_SYNC_FLAGS,
+    );
+}
+
+#[test]
+fn facts_that_are_not_asked_for_may_be_missing(rt: HostRuntime) {
+    let call = egl_call(rt.alloc(), EglKind::GetConfigs, [1, 0, 0, 0]);
     let facts = EglFacts {
         is_display: true,
         ..EglFacts::none()
     };
     assert!(rt; is_built(call.kind));
     assert_eq!(rt; egl_refusal(&call, &facts), Some(EglError::NotInitialized));
-}
-
-const RGBA: u32 = GL_RGBA as u32;
-
-const RGB: u32 = GL_RGB as u32;
-
-const BYTE: u32 = GL_UNSIGNED_BYTE as u32;
-
-const SHORT: u32 = GL_UNSIGNED_SHORT_5_6_5 as u32;
-
-const ALPHA: u32 = GL_ALPHA as u32;
-
-const SMALL_SHORT: u32 = GL_UNSIGNED_SHORT_4_4_4_4 as u32;
-
-/// The first argument, a width and a height, a format and a type, and whether the framebuffer is complete.
-type GlRow = ([i32; 3], [u32; 2], bool, Option<GlError>);
-
-static CLEAR: [GlRow; 10] = [
-    ([0, 0, 0], [0, 0], true, None),
-    ([1, 0, 0], [0, 0], true, None),
-    ([7, 0, 0], [0, 0], true, None),
-    ([8, 0, 0], [0, 0], true, Some(GlError::InvalidValue)),
-    ([1_025, 0, 0], [0, 0], true, Some(GlError::InvalidValue)),
-    ([-1, 0, 0], [0, 0], true, Some(GlError::InvalidValue)),
-    (
-        [-2_147_483_648, 0, 0],
-        [0, 0],
-        true,
-        Some(GlError::InvalidValue),
-    ),
-    (
-        [0, 0, 0],
-        [0, 0],
-        false,
-        Some(GlError::InvalidFramebufferOperation),
-    ),
-    (
-        [7, 0, 0],
-        [0, 0],
-        false,
-        Some(GlError::InvalidFramebufferOperation),
-    ),
-    ([8, 0, 0], [0, 0], false, Some(GlError::InvalidValue)),
-];
-
-static READ_PIXELS: [GlRow; 20] = [
-    ([0, 4, 2], [RGBA, BYTE], true, None),
-    ([-9, 0, 0], [RGBA, BYTE], true, None),
-    ([0, 2_048, 2_048], [RGB, SHORT], true, None),
-    ([0, -1, 2], [RGBA, BYTE], true, Some(GlError::InvalidValue)),
-    ([0, 4, -1], [RGBA, BYTE], true, Some(GlError::InvalidValue)),
-    (
-        [0, 2_049, 2],
-        [RGBA, BYTE],
-        true,
-        Some(GlError::InvalidValue),
-    ),
-    (
-        [0, 4, 2_049],
-        [RGB, SHORT],
-        true,
-        Some(GlError::InvalidValue),
-    ),
-    ([0, -1, 2], [ALPHA, BYTE], true, Some(GlError::InvalidValue)),
-    ([0, 4, -1], [RGB, BYTE], true, Some(GlError::InvalidValue)),
-    ([0, -1, 2], [RGBA, BYTE], false, Some(GlError::InvalidValue)),
-    ([0, 4, 2], [ALPHA, BYTE], true, Some(GlError::InvalidEnum)),
-    (
-        [0, 4, 2],
-        [RGBA, SMALL_SHORT],
-        true,
-        Some(GlError::InvalidEnum),
-    ),
-    ([0, 4, 2], [0, 0], true, Some(GlError::InvalidEnum)),
-    ([0, 4, 2], [BYTE, RGBA], true, Some(GlError::InvalidEnum)),
-    ([0, 4, 2], [ALPHA, SHORT], false, Some(GlError::InvalidEnum)),
-    (
-        [0, 4, 2],
-        [RGB, BYTE],
-        true,
-        Some(GlError::InvalidOperation),
-    ),
-    (
-        [0, 4, 2],
-        [RGBA, SHORT],
-        true,
-        Some(GlError::InvalidOperation),
-    ),
-    (
-        [0, 4, 2],
-        [RGB, BYTE],
-        false,
-        Some(GlError::InvalidOperation),
-    ),
-    (
-        [0, 4, 2],
-        [RGBA, BYTE],
-        false,
-        Some(GlError::InvalidFramebufferOperation),
-    ),
-    (
-        [0, 4, 2],
-        [RGB, SHORT],
-        false,
-        Some(GlError::InvalidFramebufferOperation),
-    ),
-];
-
-/// Calls that are never refused.
-static NO_GL_ROW: [GlRow; 1] = [([-1, -1, -1], [0, 0], false, None)];
-
-fn gl_call(alloc: Global, kind: GlKind, numbers: [i32; 3], codes: [u32; 2]) -> Call {
-    let [first, width, height] = numbers;
-    let [format, pixel] = codes;
-    Call {
-        kind: Kind::Gl(kind),
-        args: [
-            i64::from(first),
-            0,
-            i64::from(width),
-            i64::from(height),
-            i64::from(format),
-            i64::from(pixel),
-            0,
-            0,
-        ],
-        list: Numbers::new(alloc),
-        bytes: None,
-    }
-}
-
-/// Each row's error is kept by the call.
-fn expect_gl(rt: &impl Abort, alloc: Global, kind: GlKind, rows: &[GlRow]) {
-    for (numbers, codes, is_framebuffer_complete, error) in rows {
-        let call = gl_call(alloc, kind, *numbers, *codes);
-        assert!(rt; is_built(call.kind));
-        let facts = GlFacts {
-            is_framebuffer_complete: *is_framebuffer_complete,
-        };
-        assert_eq!(rt; gl_refusal(&call, &facts), *error);
-    }
-}
-
-#[test]
-fn first_gl_error_is_kept(rt: HostRuntime) {
-    expect_gl(&rt, rt.alloc(), GlKind::Clear, &CLEAR);
-    expect_gl(&rt, rt.alloc(), GlKind::ReadPixels, &READ_PIXELS);
-    expect_gl(&rt, rt.alloc(), GlKind::ClearColorx, &NO_GL_ROW);
-    expect_gl(&rt, rt.alloc(), GlKind::GetError, &NO_GL_ROW);
-}
-
-#[test]
-fn kinds_of_the_other_interface_are_not_refused(rt: HostRuntime) {
-    let call = egl_call(rt.alloc(), EglKind::Initialize, [0; 4]);
-    let facts = GlFacts {
-        is_framebuffer_complete: false,
-    };
-    assert!(rt; is_built(call.kind));
-    assert_eq!(rt; gl_refusal(&call, &facts), None);
-    let call = gl_call(rt.alloc(), GlKind::Clear, [8, 0, 0], [0; 2]);
-    assert!(rt; is_built(call.kind));
-    assert_eq!(rt; egl_refusal(&call, &EglFacts::none()), None);
 }
