@@ -11,6 +11,3 @@ mod refusals;
 pub use bindings::Bindings;
 pub use kinds::{LocalKind, is_local, local_kind};
 pub use parts::ContextPart;
-
-#[cfg(test)]
-mod tests;

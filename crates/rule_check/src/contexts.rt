@@ -1,11 +1,11 @@
-//! What each call answers and leaves, as tables.
+//! The state that a context keeps for itself: what each call answers and leaves, as tables.
 ghost use Rattle.egl_calls.specs.Ranges.{IsNumber};
 
-use super::*;
 use GlKind::{
     ClearColorx, ClearDepthx, ClearStencil, Color4x, ColorMask, Disable, Enable, GetError,
     GetIntegerv, PixelStorei, Scissor, TexEnvx, Viewport,
 };
+use context_state::{ContextPart, is_local};
 use egl_calls::{
     Call, EglKind, GlError, GlKind, Kind, Numbers, Outcome, OwnKind, Reply, set_argument,
 };
@@ -191,16 +191,20 @@ static PARAMETERS: [Row; 31] = [
     (GetError, [0; 4], DONE, code!(GL_INVALID_VALUE)),
 ];
 
-#[test]
-fn parameters_are_answered_by_name_and_index(rt: HostRuntime) {
-    let mut part = ContextPart::new();
-    part.first_current(4, 2);
-    part.first_current(8, 8);
+fn bind_names(part: &mut ContextPart) {
     part.set_binding(code!(GL_TEXTURE_BINDING_2D), 11);
     part.set_binding(code!(GL_ARRAY_BUFFER_BINDING), 12);
     part.set_binding(code!(GL_ELEMENT_ARRAY_BUFFER_BINDING), 13);
     part.set_binding(code!(GL_RENDERBUFFER_BINDING_OES), 4_294_967_295);
     part.set_binding(code!(GL_FRAMEBUFFER_BINDING_OES), 15);
+}
+
+#[test]
+fn parameters_are_answered_by_name_and_index(rt: HostRuntime) {
+    let mut part = ContextPart::new();
+    part.first_current(4, 2);
+    part.first_current(8, 8);
+    bind_names(&mut part);
     assert_eq!(rt; part.framebuffer(), 15);
     assert_eq!(rt;
         part.binding(code!(GL_RENDERBUFFER_BINDING_OES)),
@@ -295,27 +299,25 @@ static SWITCHED_OFF: [Row; 3] = [
     ),
 ];
 
+fn expect_switches(rt: &impl Abort, part: &ContextPart, expected: (bool, Option<[i64; 4]>, bool)) {
+    assert_eq!(rt;
+        (part.textured(), part.scissor(), part.replaces()),
+        expected
+    );
+}
+
 #[test]
 fn switches_take_their_names_alone(rt: HostRuntime) {
     let mut part = ContextPart::new();
     part.first_current(4, 2);
-    assert_eq!(rt;
-        (part.textured(), part.scissor(), part.replaces()),
-        (false, None, false)
-    );
+    expect_switches(&rt, &part, (false, None, false));
     expect(&rt, rt.alloc(), &mut part, &SWITCHES);
-    assert_eq!(rt;
-        (part.textured(), part.scissor(), part.replaces()),
-        (true, Some([0, 0, 4, 2]), true)
-    );
+    expect_switches(&rt, &part, (true, Some([0, 0, 4, 2]), true));
     expect(&rt, rt.alloc(), &mut part, &SWITCHED_OFF);
-    assert_eq!(rt;
-        (part.textured(), part.scissor(), part.replaces()),
-        (false, None, false)
-    );
+    expect_switches(&rt, &part, (false, None, false));
 }
 
-static LIMITS: [Row; 31] = [
+static LIMITS: [Row; 32] = [
     (
         PixelStorei,
         [code!(GL_PACK_ALIGNMENT), 3, 0, 0],
@@ -388,31 +390,31 @@ static LIMITS: [Row; 31] = [
     (ColorMask, [1, 0, -1, 4_294_967_295], DONE, 0),
     (ClearDepthx, [-1, 0, 0, 0], DONE, 0),
     (ClearStencil, [-1, 0, 0, 0], DONE, 0),
+    (GetError, [0; 4], DONE, code!(GL_INVALID_VALUE)),
 ];
+
+/// The colours of clears and of draws.
+fn expect_colours(rt: &impl Abort, part: &ContextPart, clear_color: [i64; 4], color: [i64; 4]) {
+    assert_eq!(rt; part.clear_color(), clear_color);
+    assert_eq!(rt; part.color(), color);
+}
+
+/// The components that are written, and the alignments of rows that are read and given.
+fn expect_limits(rt: &impl Abort, part: &ContextPart, expected: ([bool; 4], u32, u32)) {
+    assert_eq!(rt;
+        (part.mask(), part.pack_align(), part.unpack_align()),
+        expected
+    );
+}
 
 #[test]
 fn boxes_colours_and_alignments_keep_their_limits(rt: HostRuntime) {
     let mut part = ContextPart::new();
-    assert_eq!(rt; (part.clear_color(), part.color()), ([0; 4], [65_536; 4]));
-    assert_eq!(rt;
-        (part.mask(), part.pack_align(), part.unpack_align()),
-        ([true; 4], 4, 4)
-    );
+    expect_colours(&rt, &part, [0; 4], [65_536; 4]);
+    expect_limits(&rt, &part, ([true; 4], 4, 4));
     expect(&rt, rt.alloc(), &mut part, &LIMITS);
-    assert_eq!(rt;
-        (part.clear_color(), part.color()),
-        ([65_536, 0, 32_768, 65_536], [1, 0, 65_536, 0])
-    );
-    assert_eq!(rt;
-        (part.mask(), part.pack_align(), part.unpack_align()),
-        ([true, false, true, true], 8, 1)
-    );
-    expect(
-        &rt,
-        rt.alloc(),
-        &mut part,
-        &[(GetError, [0; 4], DONE, code!(GL_INVALID_VALUE))],
-    );
+    expect_colours(&rt, &part, [65_536, 0, 32_768, 65_536], [1, 0, 65_536, 0]);
+    expect_limits(&rt, &part, ([true, false, true, true], 8, 1));
 }
 
 #[test]
