@@ -12,6 +12,3 @@ mod table;
 pub use choose::Configs;
 pub use surface_bits::SurfaceBits;
 pub use table::{Caveat, Config};
-
-#[cfg(test)]
-mod tests;

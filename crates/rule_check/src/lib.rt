@@ -4,6 +4,8 @@
 #[cfg(test)]
 mod call_lists;
 #[cfg(test)]
+mod configs;
+#[cfg(test)]
 mod contexts;
 #[cfg(test)]
 mod egl_rules;

@@ -1,6 +1,6 @@
-//! Tables of choices and of attributes.
-use crate::Configs;
+//! Tables of choices of configs and of their attributes.
 use attrib_lists::AttribError;
+use config_match::Configs;
 use egl_calls::Numbers;
 use egl_names::codes::{
     EGL_ALPHA_MASK_SIZE, EGL_ALPHA_SIZE, EGL_BIND_TO_TEXTURE_RGB, EGL_BIND_TO_TEXTURE_RGBA,
@@ -15,16 +15,19 @@ use egl_names::codes::{
     EGL_TRANSPARENT_RED_VALUE, EGL_TRANSPARENT_RGB, EGL_TRANSPARENT_TYPE, EGL_WIDTH,
     EGL_WINDOW_BIT,
 };
+use std::alloc::Global;
+use std::process::Abort;
 
-fn choose(rt: &HostRuntime, items: &[i64]) -> Result<Numbers, AttribError> {
-    match items.to_vec(rt.alloc()) {
-        Ok(items) => Configs::standard().choose(rt.alloc(), &Numbers::from_vec(items)),
-        Err(_) => Err(AttribError::NoMemory),
-    }
+fn choose(rt: &impl Abort, alloc: Global, items: &[i64]) -> Result<Numbers, AttribError> {
+    let items = items.to_vec(alloc).expect(rt, "memory is ample");
+    Configs::standard().choose(alloc, &Numbers::from_vec(items))
 }
 
-/// The configs with a window, in the order that no list changes.
-static USUAL: [i64; 7] = [1, 6, 7, 2, 3, 4, 5];
+/// A list chooses these ids, in order.
+fn expect_choice(rt: &impl Abort, alloc: Global, items: &[i64], ids: &[i64]) {
+    let chosen = choose(rt, alloc, items).expect(rt, "the list is allowed, and memory is ample");
+    assert_eq!(rt; chosen.as_slice(), ids);
+}
 
 /// Lists, and the ids that they choose, in order.
 static CHOICES: [(&[i64], &[i64]); 28] = [
@@ -137,13 +140,13 @@ static CHOICES: [(&[i64], &[i64]); 28] = [
 
 #[test]
 fn choices(rt: HostRuntime) {
-    for row in &CHOICES {
-        match choose(&rt, row.0) {
-            Ok(ids) => assert_eq!(rt; ids.as_slice(), row.1),
-            Err(_) => assert!(rt; false),
-        }
+    for (items, ids) in &CHOICES {
+        expect_choice(&rt, rt.alloc(), items, ids);
     }
 }
+
+/// The configs with a window, in the order that no list changes.
+static USUAL: [i64; 7] = [1, 6, 7, 2, 3, 4, 5];
 
 /// Each attribute that is matched with its default, and each that is ignored with a value that no config has.
 static DEFAULTS: [(i64, i64); 32] = [
@@ -183,11 +186,8 @@ static DEFAULTS: [(i64, i64); 32] = [
 
 #[test]
 fn defaults_and_ignored_attributes_change_nothing(rt: HostRuntime) {
-    for row in &DEFAULTS {
-        match choose(&rt, &[row.0, row.1]) {
-            Ok(ids) => assert_eq!(rt; ids.as_slice(), USUAL.as_slice()),
-            Err(_) => assert!(rt; false),
-        }
+    for (attribute, value) in &DEFAULTS {
+        expect_choice(&rt, rt.alloc(), &[*attribute, *value], &USUAL);
     }
 }
 
@@ -199,13 +199,17 @@ static BAD: [(&[i64], u32); 4] = [
     (&[EGL_RED_SIZE as i64, 1, EGL_GREEN_SIZE as i64], 2),
 ];
 
+fn bad_place(rt: &impl Abort, alloc: Global, items: &[i64]) -> Option<u32> {
+    match choose(rt, alloc, items) {
+        Err(AttribError::BadAttribute { place }) => Some(place),
+        _ => None,
+    }
+}
+
 #[test]
 fn lists_that_are_refused(rt: HostRuntime) {
-    for row in &BAD {
-        match choose(&rt, row.0) {
-            Ok(_) => assert!(rt; false),
-            Err(error) => assert!(rt; error == AttribError::BadAttribute { place: row.1 }),
-        }
+    for (items, place) in &BAD {
+        assert_eq!(rt; bad_place(&rt, rt.alloc(), items), Some(*place));
     }
 }
 
@@ -236,16 +240,30 @@ static VALUES: [(i64, i64, i64); 22] = [
 ];
 
 #[test]
-fn attributes(rt: HostRuntime) {
+fn attributes_have_their_values(rt: HostRuntime) {
     let configs = Configs::standard();
-    for row in &VALUES {
-        assert_eq!(rt; configs.attribute(row.0, row.1), Some(row.2));
+    for (id, name, value) in &VALUES {
+        assert_eq!(rt; configs.attribute(*id, *name), Some(*value));
     }
-    for id in &[0, 9, -1, 4_294_967_297] {
-        assert_eq!(rt; configs.attribute(*id, EGL_STENCIL_SIZE as i64), None);
-    }
-    for name in &[EGL_WIDTH as i64, EGL_NONE as i64, 0, -1] {
-        assert_eq!(rt; configs.attribute(5, *name), None);
+}
+
+/// A config and a name, of which one is none.
+static NO_VALUES: [(i64, i64); 8] = [
+    (0, EGL_STENCIL_SIZE as i64),
+    (9, EGL_STENCIL_SIZE as i64),
+    (-1, EGL_STENCIL_SIZE as i64),
+    (4_294_967_297, EGL_STENCIL_SIZE as i64),
+    (5, EGL_WIDTH as i64),
+    (5, EGL_NONE as i64),
+    (5, 0),
+    (5, -1),
+];
+
+#[test]
+fn other_attributes_and_configs_have_no_value(rt: HostRuntime) {
+    let configs = Configs::standard();
+    for (id, name) in &NO_VALUES {
+        assert_eq!(rt; configs.attribute(*id, *name), None);
     }
 }
 
@@ -258,23 +276,29 @@ fn expected(first: i64, second: i64) -> bool {
 fn compatible_configs(rt: HostRuntime) {
     let configs = Configs::standard();
     for first in 1..9i64 {
-        assert!(rt; configs.is_config(first));
         for second in 1..9i64 {
             let answer = configs.are_compatible(first, second);
             assert_eq!(rt; answer, expected(first, second), "{first} and {second}");
         }
     }
+}
+
+#[test]
+fn ids_are_one_to_eight(rt: HostRuntime) {
+    let configs = Configs::standard();
+    for id in 1..9i64 {
+        assert!(rt; configs.is_config(id));
+    }
+    let ids = configs.all(rt.alloc()).expect(&rt, "memory is ample");
+    assert_eq!(rt; ids.as_slice(), [1, 2, 3, 4, 5, 6, 7, 8].as_slice());
+}
+
+#[test]
+fn other_numbers_are_no_configs(rt: HostRuntime) {
+    let configs = Configs::standard();
     for id in &[0, 9, -1, 4_294_967_297] {
         assert!(rt; !configs.is_config(*id));
         assert!(rt; !configs.are_compatible(*id, *id));
         assert!(rt; !configs.are_compatible(1, *id));
-    }
-}
-
-#[test]
-fn all_ids(rt: HostRuntime) {
-    match Configs::standard().all(rt.alloc()) {
-        Ok(ids) => assert_eq!(rt; ids.as_slice(), [1, 2, 3, 4, 5, 6, 7, 8].as_slice()),
-        Err(_) => assert!(rt; false),
     }
 }
