@@ -1,0 +1,5 @@
+//! Values by number, handles, names of a group and fences, from their making to their end. All of it is tests: they stand here, so that the tables' own crates aren't proved again for each of them.
+#![tactic(auto)]
+
+#[cfg(test)]
+mod values;
