@@ -11,6 +11,5 @@ pub mod LinkFacts
 pub mod AddLaws
 pub mod FreesLaws
 pub mod ReachedLaws
-pub mod TwoSlotLaws
 pub mod EmptyPlaces
 pub mod SumLaws

@@ -24,6 +24,3 @@ mod word_cuts;
 
 pub use call_names::Form;
 pub use traces::{Defect, Line, Reason, Reference, Trace, TraceError, Uses};
-
-#[cfg(test)]
-mod tests;

@@ -1,9 +1,0 @@
-use Rattle.std.proofs.Common.{arith}
-use Rattle.ref_store.proofs.CountLaws.{times_none}
-use Rattle.ref_store.proofs.tests.put_storage.Goals as goal
-
-pub put-requires-clause-stored : goal.put-requires-clause-stored
-put-requires-clause-stored g c = λ n h. absurd (omega (arith, times_none n))
-
-pub put-requires-clause-below : goal.put-requires-clause-below
-put-requires-clause-below g c = λ n h. absurd (omega (arith, times_none n))

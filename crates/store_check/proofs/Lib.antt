@@ -1,0 +1,2 @@
+pub mod TwoSlotLaws
+pub mod HeldLaws
