@@ -172,6 +172,29 @@ pub fn call_of(
     }))
 }
 
+/// How many of the words are references.
+fn reference_count(words: &[&[u8]]) -> usize
+    ensures { result ≤ length words.now }
+{
+    let mut count = 0usize;
+    for word in words {
+        if is_reference(word) {
+            count += 1;
+        }
+    }
+    count
+}
+
+/// No references, with room for so many.
+fn no_uses(alloc: Global, room: usize) -> Result<Uses, NoMemory>
+    ensures { IfOk result (λ u. u ≡ []) }
+{
+    match Vec::with_capacity(alloc, room) {
+        Ok(items) => Ok(Uses::from_vec(items)),
+        Err(_) => Err(NoMemory),
+    }
+}
+
 /// Adds the reference that an argument is, and answers false where it is one to a variable that no line assigns.
 fn push_reference(
     variables: &Variables<'_>,
@@ -227,7 +250,7 @@ pub fn references(
     ensures value { IfOk result (λ o. IfSome o (λ u. u ≡ references variables.now 0 forms.now (map (λ w. w.now) words.now))) }
     ensures all { IfOk result (λ o. IfSome o (All (IsNumberUse (length variables.now)))) }
 {
-    let mut uses = Uses::new(alloc);
+    let mut uses = no_uses(alloc, reference_count(words))?;
     let mut place = 0u32;
     for k in 0..forms.len() {
         if !push_reference(variables, place, words[k], &mut uses)? {
