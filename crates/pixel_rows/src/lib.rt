@@ -24,6 +24,3 @@ pub use laws::{
 };
 pub use masks::Mask;
 pub use rects::Rect;
-
-#[cfg(test)]
-mod tests;

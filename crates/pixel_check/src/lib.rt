@@ -1,0 +1,7 @@
+//! Pixels and what stands on them: storage formats, images, clears, draws and copies, textures, surfaces and windows. All of it is tests: they stand here, so that the crates below aren't proved again for each of them.
+#![tactic(auto)]
+
+#[cfg(test)]
+mod image_writes;
+#[cfg(test)]
+mod pictures;
