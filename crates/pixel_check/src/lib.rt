@@ -2,6 +2,16 @@
 #![tactic(auto)]
 
 #[cfg(test)]
+mod clears;
+#[cfg(test)]
+mod contexts;
+#[cfg(test)]
+mod copies;
+#[cfg(test)]
+mod drawing;
+#[cfg(test)]
+mod draws;
+#[cfg(test)]
 mod image_writes;
 #[cfg(test)]
 mod pictures;

@@ -23,6 +23,3 @@ pub use copies::copy_tex;
 pub use laws::{covers_once, floors_toward_smaller, is_plain_at_level_0, replaces_what_is_kept};
 pub use reads::read_pixels;
 pub use samplers::{Sampler, draw_tex};
-
-#[cfg(test)]
-mod tests;
