@@ -14,4 +14,10 @@ mod draws;
 #[cfg(test)]
 mod image_writes;
 #[cfg(test)]
+mod levels;
+#[cfg(test)]
+mod parameters;
+#[cfg(test)]
 mod pictures;
+#[cfg(test)]
+mod uploads;

@@ -22,8 +22,3 @@ pub use levels::{LEVELS, Shape};
 pub use parameters::{MagFilter, MinFilter, WrapMode};
 pub use textures::Texture;
 pub use uploads::{tex_image, tex_sub_image};
-
-#[cfg(test)]
-mod tests;
-#[cfg(test)]
-mod upload_tests;
