@@ -20,4 +20,8 @@ mod parameters;
 #[cfg(test)]
 mod pictures;
 #[cfg(test)]
+mod surfaces;
+#[cfg(test)]
 mod uploads;
+#[cfg(test)]
+mod windows;

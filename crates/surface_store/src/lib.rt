@@ -13,6 +13,3 @@ pub use laws::{compatible_store_alike, formats_have_sizes, pbuffers_fit, taken_f
 pub use surfaces::Surface;
 pub use window_tables::WindowTable;
 pub use windows::{MOST_WINDOWS, Window, WindowSpec, swap, windows_ok};
-
-#[cfg(test)]
-mod tests;
