@@ -12,6 +12,8 @@ mod drawing;
 #[cfg(test)]
 mod draws;
 #[cfg(test)]
+mod formats;
+#[cfg(test)]
 mod image_writes;
 #[cfg(test)]
 mod levels;

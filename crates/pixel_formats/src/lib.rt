@@ -16,6 +16,3 @@ pub use laws::{
     converts_directly, keeps_clear_colour, packing_keeps, packs_rounded, reading_keeps, rounds_once,
 };
 pub use pixels::{Pixel, clear_pixel, pack, pack_in, quantize, unpack};
-
-#[cfg(test)]
-mod tests;
