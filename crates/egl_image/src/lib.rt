@@ -4,6 +4,3 @@
 mod images;
 
 pub use images::{EglImage, may_create, may_target_renderbuffer};
-
-#[cfg(test)]
-mod tests;

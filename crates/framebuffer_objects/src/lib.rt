@@ -11,6 +11,3 @@ pub use completeness::{Part, status};
 pub use framebuffers::{Attached, Framebuffer};
 pub use points::Point;
 pub use renderbuffers::Renderbuffer;
-
-#[cfg(test)]
-mod tests;

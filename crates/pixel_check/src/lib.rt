@@ -1,4 +1,4 @@
-//! Pixels and what stands on them: storage formats, images, clears, draws and copies, textures, surfaces and windows. All of it is tests: they stand here, so that the crates below aren't proved again for each of them.
+//! Pixels and what stands on them: storage formats, images, clears, draws and copies, textures, framebuffers, surfaces and windows. All of it is tests: they stand here, so that the crates below aren't proved again for each of them.
 #![tactic(auto)]
 
 #[cfg(test)]
@@ -12,7 +12,11 @@ mod drawing;
 #[cfg(test)]
 mod draws;
 #[cfg(test)]
+mod egl_images;
+#[cfg(test)]
 mod formats;
+#[cfg(test)]
+mod framebuffers;
 #[cfg(test)]
 mod image_writes;
 #[cfg(test)]
