@@ -7,6 +7,3 @@ mod list;
 
 pub use allowed::{Allowed, is_allowed, is_dont_care};
 pub use list::{AttribError, AttribList, bad_place, value_of};
-
-#[cfg(test)]
-mod tests;

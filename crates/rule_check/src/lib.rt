@@ -2,6 +2,8 @@
 #![tactic(auto)]
 
 #[cfg(test)]
+mod attribute_lists;
+#[cfg(test)]
 mod call_lists;
 #[cfg(test)]
 mod configs;

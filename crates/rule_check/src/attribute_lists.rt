@@ -1,5 +1,5 @@
-//! Tables of lists, allowed and not.
-use crate::{Allowed, AttribError, AttribList, is_allowed};
+//! Tables of attribute lists, allowed and not.
+use attrib_lists::{Allowed, AttribError, AttribList, is_allowed};
 use egl_calls::Numbers;
 use egl_names::codes::{
     EGL_ALPHA_SIZE, EGL_BACK_BUFFER, EGL_BIND_TO_TEXTURE_RGB, EGL_BUFFER_SIZE,
@@ -12,97 +12,59 @@ use egl_names::codes::{
     EGL_SAMPLES, EGL_SINGLE_BUFFER, EGL_SLOW_CONFIG, EGL_SURFACE_TYPE, EGL_TRANSPARENT_RED_VALUE,
     EGL_TRANSPARENT_RGB, EGL_TRANSPARENT_TYPE, EGL_WIDTH,
 };
-use std::test::Fail;
+use std::alloc::Global;
+use std::process::Abort;
 
-/// An attribute with the least and the greatest value that a kind of list lets through, and one value on each side that it refuses.
-static RANGES: [(Allowed, u64, i64, i64, bool); 17] = [
-    (Allowed::Config, EGL_BUFFER_SIZE, -1, 2_147_483_647, true),
-    (Allowed::Config, EGL_SAMPLES, -1, 2_147_483_647, true),
-    (Allowed::Config, EGL_SURFACE_TYPE, -1, 2_147_483_647, true),
-    (Allowed::Config, EGL_CONFORMANT, -1, 2_147_483_647, true),
-    (Allowed::Config, EGL_BIND_TO_TEXTURE_RGB, -1, 1, true),
-    (Allowed::Config, EGL_NATIVE_RENDERABLE, -1, 1, true),
-    (
-        Allowed::Config,
-        EGL_CONFIG_ID,
-        -2_147_483_648,
-        4_294_967_295,
-        false,
-    ),
-    (
-        Allowed::Config,
-        EGL_MAX_SWAP_INTERVAL,
-        -2_147_483_648,
-        4_294_967_295,
-        false,
-    ),
-    (
-        Allowed::Config,
-        EGL_LEVEL,
-        -2_147_483_648,
-        4_294_967_295,
-        false,
-    ),
-    (
-        Allowed::Config,
-        EGL_MAX_PBUFFER_PIXELS,
-        -2_147_483_648,
-        4_294_967_295,
-        false,
-    ),
-    (
-        Allowed::Config,
-        EGL_NATIVE_VISUAL_TYPE,
-        -2_147_483_648,
-        4_294_967_295,
-        false,
-    ),
-    (
-        Allowed::Config,
-        EGL_TRANSPARENT_RED_VALUE,
-        -2_147_483_648,
-        4_294_967_295,
-        false,
-    ),
-    (
-        Allowed::Pbuffer,
-        EGL_WIDTH,
-        -2_147_483_648,
-        4_294_967_295,
-        false,
-    ),
-    (Allowed::Pbuffer, EGL_LARGEST_PBUFFER, 0, 1, true),
-    (
-        Allowed::Context,
-        EGL_CONTEXT_CLIENT_VERSION,
-        -2_147_483_648,
-        4_294_967_295,
-        false,
-    ),
-    (Allowed::Image, EGL_IMAGE_PRESERVED, 0, 1, true),
-    (
-        Allowed::Image,
-        EGL_GL_TEXTURE_LEVEL,
-        -2_147_483_648,
-        4_294_967_295,
-        false,
-    ),
+/// An attribute with the least and the greatest value that a kind of list lets through.
+static RANGES: [(Allowed, u64, i64, i64); 8] = [
+    (Allowed::Config, EGL_BUFFER_SIZE, -1, 2_147_483_647),
+    (Allowed::Config, EGL_SAMPLES, -1, 2_147_483_647),
+    (Allowed::Config, EGL_SURFACE_TYPE, -1, 2_147_483_647),
+    (Allowed::Config, EGL_CONFORMANT, -1, 2_147_483_647),
+    (Allowed::Config, EGL_BIND_TO_TEXTURE_RGB, -1, 1),
+    (Allowed::Config, EGL_NATIVE_RENDERABLE, -1, 1),
+    (Allowed::Pbuffer, EGL_LARGEST_PBUFFER, 0, 1),
+    (Allowed::Image, EGL_IMAGE_PRESERVED, 0, 1),
+];
+
+/// Whether a kind of list lets an attribute with a value through. No code has more than 32 bits.
+fn is_let_through(allowed: Allowed, code: u64, value: i64) -> bool {
+    is_allowed(allowed, code.min(4_294_967_295) as i64, value)
+}
+
+#[test]
+fn values_outside_their_ranges_are_refused(rt: HostRuntime) {
+    for (allowed, code, least, greatest) in &RANGES {
+        assert!(rt; is_let_through(*allowed, *code, *least));
+        assert!(rt; is_let_through(*allowed, *code, *greatest));
+        assert!(rt; !is_let_through(*allowed, *code, least.saturating_sub(1)));
+        assert!(rt; !is_let_through(*allowed, *code, greatest.saturating_add(1)));
+    }
+}
+
+/// Attributes that may have any value.
+static ANY_VALUE: [(Allowed, u64); 9] = [
+    (Allowed::Config, EGL_CONFIG_ID),
+    (Allowed::Config, EGL_MAX_SWAP_INTERVAL),
+    (Allowed::Config, EGL_LEVEL),
+    (Allowed::Config, EGL_MAX_PBUFFER_PIXELS),
+    (Allowed::Config, EGL_NATIVE_VISUAL_TYPE),
+    (Allowed::Config, EGL_TRANSPARENT_RED_VALUE),
+    (Allowed::Pbuffer, EGL_WIDTH),
+    (Allowed::Context, EGL_CONTEXT_CLIENT_VERSION),
+    (Allowed::Image, EGL_GL_TEXTURE_LEVEL),
 ];
 
 #[test]
-fn ranges_of_values(rt: HostRuntime) {
-    for row in &RANGES {
-        assert!(rt; is_allowed(row.0, row.1 as i64, row.2));
-        assert!(rt; is_allowed(row.0, row.1 as i64, row.3));
-        if row.4 {
-            assert!(rt; !is_allowed(row.0, row.1 as i64, row.2 - 1));
-            assert!(rt; !is_allowed(row.0, row.1 as i64, row.3 + 1));
-        }
+fn other_attributes_have_any_value(rt: HostRuntime) {
+    for (allowed, code) in &ANY_VALUE {
+        assert!(rt; is_let_through(*allowed, *code, -2_147_483_648));
+        assert!(rt; is_let_through(*allowed, *code, 4_294_967_295));
     }
 }
 
 /// Attributes with names as values, let through or not.
-static NAMES: [(Allowed, u64, i64, bool); 20] = [
+static NAMES: [(Allowed, u64, i64, bool); 25] = [
     (Allowed::Config, EGL_CONFIG_CAVEAT, EGL_DONT_CARE, true),
     (Allowed::Config, EGL_CONFIG_CAVEAT, EGL_NONE as i64, true),
     (
@@ -173,26 +135,33 @@ static NAMES: [(Allowed, u64, i64, bool); 20] = [
     ),
     (Allowed::Context, EGL_CONTEXT_MINOR_VERSION, 1, true),
     (Allowed::Context, EGL_CONTEXT_CLIENT_TYPE, 1, false),
+    (Allowed::Config, EGL_WIDTH, 1, false),
+    (Allowed::Config, EGL_NONE, 0, false),
+    (Allowed::Image, EGL_WIDTH, 1, false),
+    (Allowed::Context, EGL_CONTEXT_MAJOR_VERSION as u64, 2, true),
+    (Allowed::Config, 0, 0, false),
 ];
 
 #[test]
 fn names_as_values(rt: HostRuntime) {
-    for row in &NAMES {
-        assert_eq!(rt; is_allowed(row.0, row.1 as i64, row.2), row.3);
+    for (allowed, code, value, is_allowed) in &NAMES {
+        assert_eq!(rt; is_let_through(*allowed, *code, *value), *is_allowed);
     }
-    assert!(rt; is_allowed(Allowed::Context, EGL_CONTEXT_MAJOR_VERSION, 2));
-    assert!(rt; !is_allowed(Allowed::Image, EGL_WIDTH as i64, 1));
-    assert!(rt; !is_allowed(Allowed::Config, EGL_WIDTH as i64, 1));
-    assert!(rt; !is_allowed(Allowed::Config, EGL_NONE as i64, 0));
-    assert!(rt; !is_allowed(Allowed::Config, 0, 0));
+}
+
+#[test]
+fn a_negative_number_is_no_attribute(rt: HostRuntime) {
     assert!(rt; !is_allowed(Allowed::Config, -1, 0));
 }
 
-fn read(rt: &HostRuntime, items: &[i64], allowed: Allowed) -> Result<AttribList, AttribError> {
-    match items.to_vec(rt.alloc()) {
-        Ok(items) => AttribList::read(rt.alloc(), &Numbers::from_vec(items), &allowed),
-        Err(_) => Err(AttribError::NoMemory),
-    }
+fn read(
+    rt: &impl Abort,
+    alloc: Global,
+    items: &[i64],
+    allowed: Allowed,
+) -> Result<AttribList, AttribError> {
+    let items = items.to_vec(alloc).expect(rt, "memory is ample");
+    AttribList::read(alloc, &Numbers::from_vec(items), &allowed)
 }
 
 /// Lists that are refused, and the place of the bad attribute.
@@ -254,35 +223,47 @@ static BAD: [(&[i64], Allowed, u32); 9] = [
     ),
 ];
 
-#[test]
-fn the_first_bad_attribute(rt: HostRuntime) {
-    for row in &BAD {
-        match read(&rt, row.0, row.1) {
-            Ok(_) => assert!(rt; false),
-            Err(error) => assert!(rt; error == AttribError::BadAttribute { place: row.2 }),
-        }
+fn bad_place(rt: &impl Abort, alloc: Global, items: &[i64], allowed: Allowed) -> Option<u32> {
+    match read(rt, alloc, items, allowed) {
+        Err(AttribError::BadAttribute { place }) => Some(place),
+        _ => None,
     }
 }
 
 #[test]
-fn the_last_pair(rt: HostRuntime) -> Result<(), Fail> {
-    let list = read(
-        &rt,
-        &[
-            EGL_WIDTH as i64,
-            4,
-            EGL_HEIGHT as i64,
-            5,
-            EGL_WIDTH as i64,
-            6,
-        ],
-        Allowed::Pbuffer,
-    )?;
-    assert_eq!(rt; list.get(EGL_WIDTH as i64), Some(6));
-    assert_eq!(rt; list.get(EGL_HEIGHT as i64), Some(5));
-    assert_eq!(rt; list.get(EGL_LARGEST_PBUFFER as i64), None);
-    assert_eq!(rt; list.get(5), None);
-    let empty = read(&rt, &[], Allowed::Window)?;
-    assert_eq!(rt; empty.get(EGL_RENDER_BUFFER as i64), None);
-    Ok(())
+fn the_first_bad_attribute(rt: HostRuntime) {
+    for (items, allowed, place) in &BAD {
+        assert_eq!(rt; bad_place(&rt, rt.alloc(), items, *allowed), Some(*place));
+    }
+}
+
+static SIDES: [i64; 6] = [
+    EGL_WIDTH as i64,
+    4,
+    EGL_HEIGHT as i64,
+    5,
+    EGL_WIDTH as i64,
+    6,
+];
+
+/// Attributes with the values that count in the list above.
+static COUNTED: [(i64, Option<i64>); 4] = [
+    (EGL_WIDTH as i64, Some(6)),
+    (EGL_HEIGHT as i64, Some(5)),
+    (EGL_LARGEST_PBUFFER as i64, None),
+    (5, None),
+];
+
+#[test]
+fn the_last_pair_counts(rt: HostRuntime) {
+    let list = read(&rt, rt.alloc(), &SIDES, Allowed::Pbuffer).expect(&rt, "memory is ample");
+    for (attribute, value) in &COUNTED {
+        assert_eq!(rt; list.get(*attribute), *value);
+    }
+}
+
+#[test]
+fn an_empty_list_has_no_value(rt: HostRuntime) {
+    let list = read(&rt, rt.alloc(), &[], Allowed::Window).expect(&rt, "memory is ample");
+    assert_eq!(rt; list.get(EGL_RENDER_BUFFER as i64), None);
 }
