@@ -10,6 +10,3 @@ mod number_words;
 pub use joined::{Word, joined_word, known_word};
 pub use names::{code_of, code_of_word, name_of};
 pub use number_words::{bit_of_word, number_of_word, number_word};
-
-#[cfg(test)]
-mod tests;

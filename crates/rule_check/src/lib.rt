@@ -13,3 +13,5 @@ mod contexts;
 mod egl_rules;
 #[cfg(test)]
 mod gl_rules;
+#[cfg(test)]
+mod names;
