@@ -6,8 +6,6 @@ mod generating;
 mod groups;
 mod laws;
 mod names;
-#[cfg(test)]
-mod tests;
 mod trees;
 
 pub use groups::Group;

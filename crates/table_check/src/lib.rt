@@ -2,4 +2,6 @@
 #![tactic(auto)]
 
 #[cfg(test)]
+mod group_names;
+#[cfg(test)]
 mod values;
