@@ -15,3 +15,5 @@ mod egl_rules;
 mod gl_rules;
 #[cfg(test)]
 mod names;
+#[cfg(test)]
+mod objects;

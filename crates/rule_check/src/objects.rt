@@ -1,0 +1,137 @@
+//! Storages of each format, and objects of each kind.
+use context_state::ContextPart;
+use driver_objects::{BackedSurface, Context, Object, ObjectKind, Storage};
+use pixel_formats::Format;
+use pixel_rows::{Image, Rect};
+use std::alloc::Global;
+use std::process::Abort;
+use surface_store::Surface;
+
+/// A format, the bytes of three columns and five rows, and what the last pixel of red 1, green 0, blue 0.5 and alpha 1 reads as in GL_RGBA and bytes.
+static FORMATS: [(Format, u64, [u8; 4]); 8] = [
+    (Format::Rgb565, 30, [255, 0, 132, 255]),
+    (Format::Rgb888, 45, [255, 0, 128, 255]),
+    (Format::Rgba8888, 60, [255, 0, 128, 255]),
+    (Format::Rgba4444, 30, [255, 0, 136, 255]),
+    (Format::Rgba5551, 30, [255, 0, 132, 255]),
+    (Format::A8, 15, [0, 0, 0, 255]),
+    (Format::L8, 15, [255, 255, 255, 255]),
+    (Format::La88, 30, [255, 255, 255, 255]),
+];
+
+/// The last pixel, and one to the right of it.
+const LAST: Rect = Rect {
+    x: 2,
+    y: 4,
+    w: 2,
+    h: 1,
+};
+
+fn storage(rt: &impl Abort, alloc: Global, format: Format) -> Storage {
+    Storage::new(Image::new(alloc, format, 3, 5).expect(rt, "memory is ample"))
+}
+
+fn cleared(rt: &impl Abort, alloc: Global, format: Format, colour: [i64; 4]) -> Storage {
+    let mut storage = storage(rt, alloc, format);
+    storage.clear(colour).expect(rt, "memory is ample");
+    storage
+}
+
+#[test]
+fn storages_are_counted(rt: HostRuntime) {
+    for (format, bytes, _) in &FORMATS {
+        assert_eq!(rt;
+            storage(&rt, rt.alloc(), *format).bytes(),
+            *bytes,
+            "{format:?}"
+        );
+    }
+}
+
+#[test]
+fn storages_are_cleared_and_read(rt: HostRuntime) {
+    for (format, bytes, last) in &FORMATS {
+        let storage = cleared(&rt, rt.alloc(), *format, [65_536, 0, 32_768, 65_536]);
+        let row = storage
+            .read(rt.alloc(), LAST, Format::Rgba8888, 4)
+            .expect(&rt, "memory is ample");
+        let [r, g, b, a] = *last;
+        assert_eq!(rt;
+            row.as_slice(),
+            [r, g, b, a, 0, 0, 0, 0].as_slice(),
+            "{format:?}"
+        );
+        assert_eq!(rt; storage.bytes(), *bytes, "{format:?}");
+    }
+}
+
+#[test]
+fn a_row_is_read_in_another_format_and_padded(rt: HostRuntime) {
+    let storage = cleared(&rt, rt.alloc(), Format::Rgba8888, [65_536, 0, 0, 65_536]);
+    let short = storage
+        .read(rt.alloc(), LAST, Format::Rgb565, 8)
+        .expect(&rt, "memory is ample");
+    assert_eq!(rt; short.as_slice(), [0, 248, 0, 0, 0, 0, 0, 0].as_slice());
+}
+
+fn context() -> Object {
+    Object::Context(Context {
+        config: 4,
+        display: 1,
+        part: Some(ContextPart::new()),
+        group: 7,
+        texture: 8,
+        flushed: 0,
+    })
+}
+
+fn surface(rt: &impl Abort, alloc: Global) -> Object {
+    let surface = Surface::pbuffer(alloc, 4, 3, 5, false).expect(rt, "memory is ample");
+    Object::Surface(BackedSurface {
+        surface,
+        storage: 9,
+        window: Some(3),
+    })
+}
+
+fn references(rt: &impl Abort, alloc: Global, object: &Object) -> Vec<u64> {
+    let mut found = Vec::new(alloc);
+    for k in 0..object.edge_count() {
+        found.push(object.edge(k)).expect(rt, "memory is ample");
+    }
+    found
+}
+
+/// An object is of a kind, with so many bytes and these references.
+fn expect_object(
+    rt: &impl Abort,
+    alloc: Global,
+    object: Object,
+    expected: (ObjectKind, u64),
+    edges: &[u64],
+) {
+    assert_eq!(rt; (object.kind(), object.bytes()), expected);
+    assert_eq!(rt; references(rt, alloc, &object).as_slice(), edges);
+}
+
+#[test]
+fn contexts_and_surfaces_have_references(rt: HostRuntime) {
+    let alloc = rt.alloc();
+    expect_object(&rt, alloc, context(), (ObjectKind::Context, 0), &[7, 8]);
+    expect_object(
+        &rt,
+        alloc,
+        surface(&rt, alloc),
+        (ObjectKind::Surface, 0),
+        &[9],
+    );
+}
+
+#[test]
+fn other_objects_have_none(rt: HostRuntime) {
+    let alloc = rt.alloc();
+    let storage = Object::Storage(storage(&rt, alloc, Format::Rgba8888));
+    expect_object(&rt, alloc, Object::Group, (ObjectKind::Group, 0), &[]);
+    expect_object(&rt, alloc, Object::Texture, (ObjectKind::Texture, 0), &[]);
+    expect_object(&rt, alloc, storage, (ObjectKind::Storage, 60), &[]);
+}
