@@ -3,7 +3,5 @@
 
 mod fences;
 mod tables;
-#[cfg(test)]
-mod tests;
 
 pub use fences::{Fence, Fences};

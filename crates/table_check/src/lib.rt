@@ -2,6 +2,8 @@
 #![tactic(auto)]
 
 #[cfg(test)]
+mod fences;
+#[cfg(test)]
 mod group_names;
 #[cfg(test)]
 mod values;
