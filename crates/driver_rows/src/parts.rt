@@ -2,6 +2,7 @@
 ghost use Rattle.std.specs.Prelude.{◌≡◌, ◌<◌, true, All, IfOk};
 ghost use Rattle.egl_calls.specs.Kinds.{is_built};
 ghost use Rattle.egl_calls.specs.Ranges.{IsNumber};
+ghost use Rattle.egl_model.specs.Local.{is_local};
 ghost use Rattle.driver_rows.specs.Apart.{IsApart};
 
 use crate::apart::{APART, Apart, OTHER, call_of_other, local_call, opened, shared_call, taken};
@@ -140,25 +141,25 @@ static ROWS: [Row; 58] = [
     (OTHER, CENSUS, NONE),
 ];
 
-/// Sides of 8 pixels where a pbuffer is made.
-fn attributes(alloc: Global, kind: Kind) -> Result<Numbers, NoMemory>
-    ensures { IfOk result (All IsNumber) }
+/// Sides of 8 pixels where a pbuffer is made. Where memory runs out there are none.
+fn attributes(alloc: Global, kind: Kind) -> Numbers
+    ensures { All IsNumber result }
 {
     if kind != PBUFFER {
-        return Ok(Numbers::new(alloc));
+        return Numbers::new(alloc);
     }
     let pairs = [EGL_WIDTH as i64, 8, EGL_HEIGHT as i64, 8];
     match Vec::from_slice(alloc, &pairs) {
-        Ok(items) => Ok(Numbers::from_vec(items)),
-        Err(_) => Err(NoMemory),
+        Ok(items) => Numbers::from_vec(items),
+        Err(_) => Numbers::new(alloc),
     }
 }
 
-fn call(alloc: Global, kind: Kind, numbers: [u32; 6]) -> Result<Call, NoMemory>
-    ensures { IfOk result (λ c. c.kind ≡ kind) }
+fn call(alloc: Global, kind: Kind, numbers: [u32; 6]) -> Call
+    ensures { result.kind ≡ kind }
 {
     let [first, second, third, fourth, fifth, sixth] = numbers;
-    Ok(Call {
+    Call {
         kind,
         args: [
             i64::from(first),
@@ -170,9 +171,9 @@ fn call(alloc: Global, kind: Kind, numbers: [u32; 6]) -> Result<Call, NoMemory>
             0,
             0,
         ],
-        list: attributes(alloc, kind)?,
+        list: attributes(alloc, kind),
         bytes: None,
-    })
+    }
 }
 
 /// A call's reply by a driver whose parts are all in. What it says isn't told, so that the proof of the test below stays short.
@@ -189,10 +190,31 @@ fn plain_reply(
     driver.play(alloc, thread, call)
 }
 
+/// The reply to the other thread's call.
+fn other_reply(alloc: Global, mut apart: Apart, call: &Call) -> Result<(Apart, Reply), NoMemory>
+    requires apart { IsApart apart.driver apart.part }
+    requires built { is_built call.now.kind ≡ true }
+    ensures { IfOk result (λ r. IsApart r.0.driver r.0.part) }
+{
+    let reply = call_of_other(alloc, &mut apart, call)?;
+    Ok((apart, reply))
+}
+
+/// The reply to a local call.
+fn local_reply(alloc: Global, mut apart: Apart, call: &Call) -> Result<(Apart, Reply), NoMemory>
+    requires apart { IsApart apart.driver apart.part }
+    requires local { is_local apart.part call.now ≡ true }
+    requires built { is_built call.now.kind ≡ true }
+    ensures { IfOk result (λ r. IsApart r.0.driver r.0.part) }
+{
+    let reply = local_call(alloc, &mut apart, call)?;
+    Ok((apart, reply))
+}
+
 /// The reply where the first thread's part is out between its calls that aren't local.
 fn reply_apart(
     alloc: Global,
-    mut apart: Apart,
+    apart: Apart,
     thread: u32,
     call: &Call,
 ) -> Result<(Apart, Reply), NoMemory>
@@ -201,11 +223,9 @@ fn reply_apart(
     ensures { IfOk result (λ r. IsApart r.0.driver r.0.part) }
 {
     if thread == OTHER {
-        let reply = call_of_other(alloc, &mut apart, call)?;
-        Ok((apart, reply))
+        other_reply(alloc, apart, call)
     } else if apart.part.is_local(call) {
-        let reply = local_call(alloc, &mut apart, call)?;
-        Ok((apart, reply))
+        local_reply(alloc, apart, call)
     } else {
         shared_call(alloc, apart, call)
     }
@@ -216,6 +236,23 @@ fn are_equal(first: &Reply, second: &Reply) -> bool {
         && first.value == second.value
         && first.list.as_slice() == second.list.as_slice()
         && first.bytes.as_slice() == second.bytes.as_slice()
+}
+
+/// Whether a call is answered so where the part is out.
+fn is_answered(
+    alloc: Global,
+    apart: Apart,
+    thread: u32,
+    call: &Call,
+    wanted: &Reply,
+) -> Result<(Apart, bool), NoMemory>
+    requires apart { IsApart apart.driver apart.part }
+    requires built { is_built call.now.kind ≡ true }
+    ensures { IfOk result (λ r. IsApart r.0.driver r.0.part) }
+{
+    let (apart, reply) = reply_apart(alloc, apart, thread, call)?;
+    let alike = are_equal(&reply, wanted);
+    Ok((apart, alike))
 }
 
 /// Whether a row's call is answered alike by a driver and by one whose first thread has its part out.
@@ -234,22 +271,40 @@ fn both(
     if thread > OTHER || !is_built(kind) {
         return Ok((apart, false));
     }
-    let call = call(alloc, kind, numbers)?;
+    let call = call(alloc, kind, numbers);
     let wanted = plain_reply(alloc, whole, thread, &call)?;
-    let (apart, reply) = reply_apart(alloc, apart, thread, &call)?;
-    Ok((apart, are_equal(&reply, &wanted)))
+    is_answered(alloc, apart, thread, &call, &wanted)
+}
+
+fn expect_rows(
+    rt: &impl Abort,
+    alloc: Global,
+    whole: &mut Driver,
+    mut apart: Apart,
+) -> Result<(), Fail>
+    requires whole { whole.old.made ≡ 2 }
+    requires apart { IsApart apart.driver apart.part }
+{
+    'each: for (k, row) in ROWS.iter().enumerate() {
+        let (next, holds) = both(alloc, whole, apart, row)?;
+        assert!(rt; holds, "row {k}");
+        apart = next;
+    }
+    Ok(())
+}
+
+/// A driver whose first thread's part is out.
+fn opened_apart(alloc: Global) -> Result<Apart, NoMemory>
+    ensures { IfOk result (λ a. IsApart a.driver a.part) }
+{
+    Ok(taken(opened(alloc)?))
 }
 
 #[test]
 fn a_part_that_is_out_changes_no_reply(rt: HostRuntime) -> Result<(), Fail> {
-    let alloc = rt.alloc();
-    let mut whole = opened(alloc)?;
-    let mut apart = taken(opened(alloc)?);
-    'each: for (k, row) in ROWS.iter().enumerate() {
-        let (next, holds) = both(alloc, &mut whole, apart, row)?;
-        assert!(rt; holds, "row {k}");
-        apart = next;
-    }
+    let apart = opened_apart(rt.alloc())?;
+    let mut whole = opened(rt.alloc())?;
+    expect_rows(&rt, rt.alloc(), &mut whole, apart)?;
     assert_eq!(rt; whole.census(), [0; 11]);
     Ok(())
 }
