@@ -1,5 +1,4 @@
 //! Contexts with some of their settings, which clears and draws go by.
-ghost use Rattle.std.specs.Prelude.{◌≡◌};
 ghost use Rattle.egl_calls.specs.Ranges.{IsNumber};
 
 use context_state::{ContextPart, is_local};

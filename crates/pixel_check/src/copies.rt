@@ -1,6 +1,4 @@
 //! Copies between images, by examples that were worked by hand.
-ghost use Rattle.std.specs.Prelude.{◌≡◌};
-
 use crate::drawing::stored;
 use crate::pictures::{expect_bytes, rect};
 use pixel_formats::Format;

@@ -7,7 +7,7 @@ use crate::pictures::{
     ALL, Given, Inside, Read, expect_bytes, expect_rows, fill, frozen, load, new_image, pixel, put,
     put_row, seen, shared,
 };
-use pixel_formats::{Format, Pixel, quantize};
+use pixel_formats::{Format, quantize};
 use pixel_rows::{Image, Mask};
 use std::alloc::Global;
 use std::process::Abort;

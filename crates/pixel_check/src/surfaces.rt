@@ -1,6 +1,4 @@
 //! Pbuffers of each config, which hand out their pixels once, and what surfaces tell.
-ghost use Rattle.std.specs.Prelude.{◌≡◌};
-
 use crate::pictures::seen;
 use egl_names::codes::{
     EGL_BACK_BUFFER, EGL_BUFFER_DESTROYED, EGL_BUFFER_PRESERVED, EGL_CONFIG_ID, EGL_HEIGHT,

@@ -1,6 +1,4 @@
 //! Windows: which may be declared, and what a swap shows.
-ghost use Rattle.std.specs.Prelude.{◌≡◌};
-
 use crate::pictures::{ALL, expect_bytes, new_image, put, seen};
 use pixel_formats::Format;
 use pixel_rows::Image;
