@@ -4,8 +4,6 @@
 mod memory;
 mod reading;
 mod streams;
-#[cfg(test)]
-mod tests;
 mod writing;
 
 pub use memory::{MemorySink, MemorySource};

@@ -17,3 +17,5 @@ mod gl_rules;
 mod names;
 #[cfg(test)]
 mod objects;
+#[cfg(test)]
+mod streams;

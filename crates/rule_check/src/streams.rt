@@ -1,13 +1,13 @@
 //! The adapters over std, and reading and writing where there is enough memory.
-use crate::{
+use egl_calls::{Bytes, Numbers};
+use egl_flow::{
     Failed, MemorySink, MemorySource, ReadError, Sink, Source, StdSink, StdSource, WriteFault,
     read_all, write_all,
 };
-use egl_calls::{Bytes, Numbers};
 use std::alloc::Global;
 use std::io;
 use std::io::{ErrorKind, Read, Write};
-use std::test::Fail;
+use std::process::Abort;
 
 /// Gives one byte a call, is broken off by a signal at its first call, and fails at the third.
 #[derive(Drop)]
@@ -63,38 +63,61 @@ fn writers_that_take_nothing_fail(rt: HostRuntime) {
     assert_eq!(rt; sink.give(b""), Ok(0));
 }
 
-fn source(alloc: Global, bytes: &[u8]) -> Result<MemorySource, Fail> {
-    Ok(MemorySource::new(
-        Bytes::from_vec(Vec::from_slice(alloc, bytes)?),
-        Numbers::new(alloc),
-    ))
+fn bytes(rt: &impl Abort, alloc: Global, bytes: &[u8]) -> Bytes {
+    Bytes::from_vec(Vec::from_slice(alloc, bytes).expect(rt, "memory is ample"))
+}
+
+fn source(rt: &impl Abort, alloc: Global, text: &[u8]) -> MemorySource {
+    MemorySource::new(bytes(rt, alloc, text), Numbers::new(alloc))
+}
+
+fn sink(rt: &impl Abort, alloc: Global, room: u64) -> MemorySink {
+    MemorySink::new(alloc, room, Numbers::new(alloc)).expect(rt, "memory is ample")
 }
 
 #[test]
-fn limits_are_exact(rt: HostRuntime) -> Result<(), Fail> {
-    let alloc = rt.alloc();
-    let all = read_all(alloc, &mut source(alloc, b"abc")?, 3)?;
+fn as_many_bytes_as_the_limit_are_read(rt: HostRuntime) {
+    let mut source = source(&rt, rt.alloc(), b"abc");
+    let all = read_all(rt.alloc(), &mut source, 3).expect(&rt, "memory is ample");
     assert_eq!(rt; all.as_slice(), b"abc".as_slice());
-    match read_all(alloc, &mut source(alloc, b"abcd")?, 3) {
+}
+
+#[test]
+fn one_byte_more_is_too_long(rt: HostRuntime) {
+    let mut source = source(&rt, rt.alloc(), b"abcd");
+    match read_all(rt.alloc(), &mut source, 3) {
         Err(ReadError::TooLong { taken }) => assert_eq!(rt; taken, 4),
         _ => panic!(rt; "four bytes were read within a limit of three"),
     }
-    let mut sink = MemorySink::new(alloc, 2, Numbers::new(alloc))?;
-    assert_eq!(rt; write_all(&mut sink, &all), Err(WriteFault));
+}
+
+#[test]
+fn a_full_sink_has_the_front(rt: HostRuntime) {
+    let mut sink = sink(&rt, rt.alloc(), 2);
+    let written = write_all(&mut sink, &bytes(&rt, rt.alloc(), b"abc"));
+    assert_eq!(rt; written, Err(WriteFault));
     assert_eq!(rt; sink.taken(), b"ab".as_slice());
-    Ok(())
+}
+
+const LONGEST: u64 = 33_554_432;
+
+/// As many bytes as the longest input has.
+fn longest(rt: &impl Abort, alloc: Global) -> Bytes {
+    Bytes::from_vec(vec![in alloc; b'x'; LONGEST as usize].expect(rt, "memory is ample"))
 }
 
 /// Want of memory that is answered at will, past some length, shows here.
 #[test]
-fn the_longest_input_is_read_and_written(rt: HostRuntime) -> Result<(), Fail> {
-    let alloc = rt.alloc();
-    let bytes = Bytes::from_vec(vec![in alloc; b'x'; 33_554_432]?);
-    let mut source = MemorySource::new(bytes, Numbers::new(alloc));
-    let all = read_all(alloc, &mut source, 33_554_432)?;
-    assert_eq!(rt; all.len(), 33_554_432);
-    let mut sink = MemorySink::new(alloc, 33_554_432, Numbers::new(alloc))?;
-    assert_eq!(rt; write_all(&mut sink, &all), Ok(()));
-    assert_eq!(rt; sink.taken().len(), 33_554_432);
-    Ok(())
+fn the_longest_input_is_read(rt: HostRuntime) {
+    let mut source = MemorySource::new(longest(&rt, rt.alloc()), Numbers::new(rt.alloc()));
+    let all = read_all(rt.alloc(), &mut source, LONGEST).expect(&rt, "memory is ample");
+    assert_eq!(rt; all.len(), LONGEST);
+}
+
+/// So it does here.
+#[test]
+fn as_many_bytes_are_written(rt: HostRuntime) {
+    let mut sink = sink(&rt, rt.alloc(), LONGEST);
+    assert_eq!(rt; write_all(&mut sink, &longest(&rt, rt.alloc())), Ok(()));
+    assert_eq!(rt; sink.taken().len(), LONGEST as usize);
 }
