@@ -48,13 +48,8 @@ impl Displays {
         Displays::starting_at(alloc, 3)
     }
 
-    // Displays without handles, of which one can still be made.
-    #[cfg(test)]
-    pub(crate) fn before_last(alloc: Global) -> Displays {
-        Displays::starting_at(alloc, HANDLES_END - 1)
-    }
-
-    fn starting_at(alloc: Global, next_handle: u32) -> Displays
+    /// The same, where the first handle has this number. It takes no memory.
+    pub fn starting_at(alloc: Global, next_handle: u32) -> Displays
         requires low { 3 ≤ next_handle }
         requires high { next_handle ≤ HANDLES_END }
         ensures { result ≡ record { first = false; second = false; handles = []; next_handle = next_handle } }

@@ -7,8 +7,6 @@ mod handles;
 mod making;
 mod tables;
 mod taking;
-#[cfg(test)]
-mod tests;
 
 pub use displays::Displays;
 pub use errors::HandleError;

@@ -6,4 +6,6 @@ mod fences;
 #[cfg(test)]
 mod group_names;
 #[cfg(test)]
+mod handles;
+#[cfg(test)]
 mod values;
