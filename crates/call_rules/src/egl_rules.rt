@@ -8,6 +8,7 @@ ghost use Rattle.call_rules.specs.Rows.{first_error, ◌⇒◌};
 ghost use Rattle.call_rules.specs.EglRules.{egl_refusal, egl_rows, fact_rows, display_row, current_rows, has_attributes, has_code, is_wrong, is_long, is_later_version, is_supported_version};
 
 use crate::egl_facts::EglFacts;
+use crate::places::{API, ATTRIBUTE, CONTEXT, DRAW, FLAGS, READ, READDRAW, SYNC_TYPE, VALUE};
 use crate::rows::first_error;
 use egl_calls::{Call, EglError, EglKind, Kind, unsigned};
 use egl_names::codes::{
@@ -147,14 +148,14 @@ fn create_pbuffer_surface(facts: &EglFacts) -> Option<EglError>
 fn surface_attrib(call: &Call, facts: &EglFacts) -> Option<EglError>
     ensures { result ≡ first_error (egl_rows SurfaceAttrib call.now facts.now) }
 {
-    let is_behavior = has_code(call, 3, EGL_BUFFER_PRESERVED)
-        || has_code(call, 3, EGL_BUFFER_DESTROYED);
+    let is_behavior = has_code(call, VALUE, EGL_BUFFER_PRESERVED)
+        || has_code(call, VALUE, EGL_BUFFER_DESTROYED);
     first_error(&[
         no_display(facts),
         uninitialized(facts),
         no_surface(facts),
         (
-            !has_code(call, 2, EGL_SWAP_BEHAVIOR),
+            !has_code(call, ATTRIBUTE, EGL_SWAP_BEHAVIOR),
             EglError::BadAttribute,
         ),
         (!is_behavior, EglError::BadParameter),
@@ -184,13 +185,16 @@ fn create_context(facts: &EglFacts) -> Option<EglError>
 fn make_some_current(call: &Call, facts: &EglFacts) -> Option<EglError>
     ensures { result ≡ first_error (current_rows call.now facts.now) }
 {
-    let is_no_surface = is_wrong(call, 1, facts.is_draw) || is_wrong(call, 2, facts.is_read);
-    let is_one_missing = is_zero(call, 1) || is_zero(call, 2) || is_zero(call, 3);
+    let is_no_surface = is_wrong(call, DRAW, facts.is_draw) || is_wrong(call, READ, facts.is_read);
+    let is_one_missing = is_zero(call, DRAW) || is_zero(call, READ) || is_zero(call, CONTEXT);
     first_error(&[
         no_display(facts),
         uninitialized(facts),
         (is_no_surface, EglError::BadSurface),
-        (is_wrong(call, 3, facts.is_context), EglError::BadContext),
+        (
+            is_wrong(call, CONTEXT, facts.is_context),
+            EglError::BadContext,
+        ),
         (is_one_missing, EglError::BadMatch),
         (!facts.is_compatible, EglError::BadMatch),
         (facts.is_context_elsewhere, EglError::BadAccess),
@@ -202,7 +206,7 @@ fn make_some_current(call: &Call, facts: &EglFacts) -> Option<EglError>
 fn make_current(call: &Call, facts: &EglFacts) -> Option<EglError>
     ensures { result ≡ first_error (egl_rows MakeCurrent call.now facts.now) }
 {
-    if is_zero(call, 1) && is_zero(call, 2) && is_zero(call, 3) {
+    if is_zero(call, DRAW) && is_zero(call, READ) && is_zero(call, CONTEXT) {
         return first_error(&[no_display(facts)]);
     }
     make_some_current(call, facts)
@@ -215,7 +219,10 @@ fn create_sync(call: &Call, facts: &EglFacts) -> Option<EglError>
     first_error(&[
         no_display(facts),
         uninitialized(facts),
-        (!has_code(call, 1, EGL_SYNC_FENCE), EglError::BadAttribute),
+        (
+            !has_code(call, SYNC_TYPE, EGL_SYNC_FENCE),
+            EglError::BadAttribute,
+        ),
         (has_attributes(call), EglError::BadAttribute),
         (!facts.is_current_here, EglError::BadMatch),
         (facts.are_handles_used_up, EglError::BadAlloc),
@@ -230,7 +237,7 @@ fn wait_sync(call: &Call, facts: &EglFacts) -> Option<EglError>
         no_display(facts),
         uninitialized(facts),
         no_sync(facts),
-        (!is_zero(call, 2), EglError::BadParameter),
+        (!is_zero(call, FLAGS), EglError::BadParameter),
         (!facts.is_current, EglError::BadMatch),
     ])
 }
@@ -273,7 +280,7 @@ pub fn egl_refusal(call: &Call, facts: &EglFacts) -> Option<EglError>
         ]),
         Kind::Egl(EglKind::SurfaceAttrib) => surface_attrib(call, facts),
         Kind::Egl(EglKind::BindApi) => first_error(&[(
-            !has_code(call, 0, EGL_OPENGL_ES_API),
+            !has_code(call, API, EGL_OPENGL_ES_API),
             EglError::BadParameter,
         )]),
         Kind::Egl(EglKind::QueryApi) => None,
@@ -284,7 +291,7 @@ pub fn egl_refusal(call: &Call, facts: &EglFacts) -> Option<EglError>
         Kind::Egl(EglKind::MakeCurrent) => make_current(call, facts),
         Kind::Egl(EglKind::GetCurrentContext) => None,
         Kind::Egl(EglKind::GetCurrentSurface) => first_error(&[(
-            !(has_code(call, 0, EGL_DRAW) || has_code(call, 0, EGL_READ)),
+            !(has_code(call, READDRAW, EGL_DRAW) || has_code(call, READDRAW, EGL_READ)),
             EglError::BadParameter,
         )]),
         Kind::Egl(EglKind::GetCurrentDisplay) => None,

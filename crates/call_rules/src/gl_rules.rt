@@ -6,6 +6,7 @@ ghost use Rattle.call_rules.specs.Rows.{first_error};
 ghost use Rattle.call_rules.specs.GlRules.{gl_refusal, gl_rows, framebuffer_row, is_clear_mask, is_no_side, is_read_format, is_read_type, is_read_pair};
 
 use crate::gl_facts::GlFacts;
+use crate::places::MASK;
 use crate::rows::first_error;
 use egl_calls::{Call, GlError, GlKind, Kind, unsigned};
 use egl_names::codes::{
@@ -86,7 +87,7 @@ pub fn gl_refusal(call: &Call, facts: &GlFacts) -> Option<GlError>
         Kind::Gl(GlKind::Finish) => None,
         Kind::Gl(GlKind::ClearColorx) => None,
         Kind::Gl(GlKind::Clear) => first_error(&[
-            (!is_clear_mask(call.args[0]), GlError::InvalidValue),
+            (!is_clear_mask(call.args[MASK]), GlError::InvalidValue),
             incomplete(facts),
         ]),
         Kind::Gl(GlKind::ReadPixels) => read_pixels(call, facts),

@@ -8,6 +8,7 @@ mod egl_rules;
 mod gl_facts;
 mod gl_rules;
 pub mod laws;
+pub mod places;
 mod rows;
 
 pub use egl_facts::EglFacts;

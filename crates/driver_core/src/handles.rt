@@ -8,6 +8,7 @@ ghost use Rattle.driver_core.specs.Costs.{IsCheap};
 
 use crate::arguments::signed;
 use crate::machine::Driver;
+use call_rules::places::{DISPLAY, NAMED};
 use display_table::{Displays, Handle, HandleError, HandleKind};
 use egl_calls::{Call, NoMemory};
 use ref_store::Steps;
@@ -44,7 +45,7 @@ impl Driver {
         ensures { result ≡ handle_at self.now.state call.now place kind }
     {
         self.displays
-            .handle(signed(call, 0), signed(call, place), kind)
+            .handle(signed(call, DISPLAY), signed(call, place), kind)
     }
 
     /// Removes the handle that a call names after its display, if it is valid, and lets go of its object.
@@ -52,7 +53,7 @@ impl Driver {
         ensures state { self.new ≡ record self.old { state = sweep (destroyed self.old.state call.now kind) } }
         ensures steps { IsCheap self.old.state self.new.state steps.old steps.new }
     {
-        let Some(handle) = self.handle_at(call, 1, kind) else {
+        let Some(handle) = self.handle_at(call, NAMED, kind) else {
             self.settled();
             return;
         };

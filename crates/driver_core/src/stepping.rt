@@ -29,6 +29,7 @@ use crate::displays::display_of;
 use crate::machine::Driver;
 use crate::replies::{bare, listed, read, valued};
 use attrib_lists::AttribError;
+use call_rules::places::DISPLAY_ID;
 use config_match::Configs;
 use display_table::HandleKind;
 use egl_calls::{
@@ -73,7 +74,7 @@ impl Driver {
     {
         match kind {
             EglKind::GetError => Ok(valued(alloc, i64::from(self.record(thread).error.code()))),
-            EglKind::GetDisplay => Ok(valued(alloc, display_of(signed(call, 0)))),
+            EglKind::GetDisplay => Ok(valued(alloc, display_of(signed(call, DISPLAY_ID)))),
             EglKind::Initialize => {
                 self.initialize(call);
                 Ok(valued(alloc, 1))

@@ -14,6 +14,7 @@ use crate::handles::new_handle;
 use crate::machine::Driver;
 use crate::replies::{bare, valued};
 use call_rules::EglFacts;
+use call_rules::places::{ATTRIBUTE, DISPLAY, FLAGS, NAMED, TIMEOUT};
 use display_table::{Handle, HandleKind};
 use driver_objects::{Fence, Object};
 use egl_calls::{Call, NoMemory, Outcome, ReplyPair};
@@ -42,14 +43,14 @@ fn sync_value_at(attribute: u64, signalled: bool) -> Option<i64>
 fn asks_for_flush(call: &Call) -> bool
     ensures { result ≡ asks_for_flush call.now }
 {
-    signed(call, 2).rem_euclid(2) == 1
+    signed(call, FLAGS).rem_euclid(2) == 1
 }
 
 /// Whether the timeout is negative.
 fn waits_forever(call: &Call) -> bool
     ensures { result ≡ waits_forever call.now }
 {
-    signed(call, 3) < 0
+    signed(call, TIMEOUT) < 0
 }
 
 impl Driver {
@@ -57,7 +58,7 @@ impl Driver {
     fn sync_handle(&self, call: &Call) -> Option<Handle>
         ensures { result ≡ sync_handle self.now.state call.now }
     {
-        self.handle_at(call, 1, HandleKind::Sync)
+        self.handle_at(call, NAMED, HandleKind::Sync)
     }
 
     /// What is asked of a call that names a sync.
@@ -77,7 +78,7 @@ impl Driver {
         let context = self.current_context(thread);
         EglFacts {
             is_current_here: context.is_some()
-                && u64::from(self.display_at(context)) == number(call, 0),
+                && u64::from(self.display_at(context)) == number(call, DISPLAY),
             are_handles_used_up: self.displays.are_used_up(),
             ..self.display_facts(call)
         }
@@ -123,7 +124,7 @@ impl Driver {
         ensures err { OnErr result (self.new ≡ self.old) }
     {
         match self.current_context(thread) {
-            Some(context) => self.add_sync(signed(call, 0), context),
+            Some(context) => self.add_sync(signed(call, DISPLAY), context),
             None => unreachable!(),
         }
     }
@@ -150,7 +151,7 @@ impl Driver {
         ensures number { IfSome result IsNumber }
     {
         let object = self.sync_handle(call)?.object;
-        sync_value_at(number(call, 2), self.is_signalled(object))
+        sync_value_at(number(call, ATTRIBUTE), self.is_signalled(object))
     }
 
     /// Flushes the current context of a thread, where a call asks for it before a wait for a sync that isn't signalled.

@@ -18,6 +18,7 @@ use crate::machine::Driver;
 use crate::surfaces::{push_surface, surface_bytes};
 use attrib_lists::Allowed;
 use call_rules::EglFacts;
+use call_rules::places::{CONFIG, DISPLAY, FRONT, NAMED, WINDOW};
 use config_match::Configs;
 use display_table::{Handle, HandleKind};
 use driver_objects::Storage;
@@ -70,7 +71,7 @@ impl Driver {
         ensures place { result ≡ named_place self.now.state call.now }
         ensures few { IfSome result (λ k. k < 64) }
     {
-        self.windows.place(number(call, 2))
+        self.windows.place(number(call, WINDOW))
     }
 
     /// What that window was declared as.
@@ -78,7 +79,7 @@ impl Driver {
         ensures spec { result ≡ named_spec self.now.state call.now }
         ensures sides { (result.w ≤ 2048) × (result.h ≤ 2048) }
     {
-        match self.windows.spec(number(call, 2)) {
+        match self.windows.spec(number(call, WINDOW)) {
             Some(spec) => spec,
             None => UNDECLARED,
         }
@@ -98,7 +99,7 @@ impl Driver {
     pub(crate) fn window_facts(&self, call: &Call) -> EglFacts
         ensures { result ≡ window_facts self.now.state call.now }
     {
-        let config = signed(call, 1);
+        let config = signed(call, CONFIG);
         let place = self.named_place(call);
         let spec = self.named_spec(call);
         EglFacts {
@@ -126,17 +127,22 @@ impl Driver {
         ensures state { OnOk result (self.new ≡ record self.old { state = created_window self.old.state call.now }) }
         ensures err { OnErr result (self.new ≡ self.old) }
     {
-        let Some(spec) = self.windows.spec(number(call, 2)) else {
+        let Some(spec) = self.windows.spec(number(call, WINDOW)) else {
             unreachable!();
         };
         let place = self.named_place(call);
         let asked = WindowAttributes::read(call);
-        let (surface, storage) = new_window_surface(alloc, signed(call, 1), spec, asked.single)?;
+        let (surface, storage) = new_window_surface(
+            alloc,
+            signed(call, CONFIG),
+            spec,
+            asked.single,
+        )?;
         self.objects.reserve(2)?;
         let object = self.objects.len();
         let handle = new_handle(
             &mut self.displays,
-            signed(call, 0),
+            signed(call, DISPLAY),
             HandleKind::Surface,
             object,
         )?;
@@ -160,7 +166,7 @@ impl Driver {
         ensures { result ≡ swap_facts self.now.state thread call.now }
     {
         EglFacts {
-            is_drawn_to: self.draws_to(thread, self.handle_at(call, 1, HandleKind::Surface)),
+            is_drawn_to: self.draws_to(thread, self.handle_at(call, NAMED, HandleKind::Surface)),
             ..self.surface_facts(call)
         }
     }
@@ -187,7 +193,7 @@ impl Driver {
     pub(crate) fn read_front(&self, alloc: Global, call: &Call) -> Result<Bytes, NoMemory>
         ensures { IfOk result (λ b. b ≡ front_bytes self.now.state call.now) }
     {
-        match self.windows.front(number(call, 0)) {
+        match self.windows.front(number(call, FRONT)) {
             Some(front) => {
                 let whole = Rect {
                     x: 0,

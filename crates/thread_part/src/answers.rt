@@ -12,6 +12,7 @@ ghost use Rattle.egl_model.specs.Drawing.{clears_colour, read_form, read_rect};
 ghost use Rattle.egl_model.specs.GlFacts.{no_framebuffer};
 ghost use Rattle.egl_model.specs.Local.{local_refusal};
 
+use call_rules::places::{DISPLAY_ID, HEIGHT, MASK, READDRAW, TYPE, WIDTH, X, Y};
 use call_rules::{EglFacts, GlFacts};
 use egl_calls::{Call, EglError, GlError, unsigned};
 use egl_model::ClientApi;
@@ -38,7 +39,7 @@ pub fn display_of(call: &Call) -> i64
     ensures value { result ≡ display_of (signed call.now 0) }
     ensures number { IsNumber result }
 {
-    let id = signed(call, 0);
+    let id = signed(call, DISPLAY_ID);
     if id == 0 {
         1
     } else if id == 1 {
@@ -62,14 +63,14 @@ pub fn api_code(api: ClientApi) -> i64
 pub fn asks_for_draw(call: &Call) -> bool
     ensures { result ≡ (number call.now 0 == ADraw) }
 {
-    number(call, 0) == EGL_DRAW
+    number(call, READDRAW) == EGL_DRAW
 }
 
 /// Whether the mask of glClear has the bit of the colour buffer.
 pub fn clears_colour(call: &Call) -> bool
     ensures { result ≡ clears_colour call.now }
 {
-    number(call, 0) & GL_COLOR_BUFFER_BIT == GL_COLOR_BUFFER_BIT
+    number(call, MASK) & GL_COLOR_BUFFER_BIT == GL_COLOR_BUFFER_BIT
 }
 
 /// The rectangle that glReadPixels reads.
@@ -77,10 +78,10 @@ pub fn read_rect(call: &Call) -> Rect
     ensures { result ≡ read_rect call.now }
 {
     Rect {
-        x: signed(call, 0),
-        y: signed(call, 1),
-        w: signed(call, 2),
-        h: signed(call, 3),
+        x: signed(call, X),
+        y: signed(call, Y),
+        w: signed(call, WIDTH),
+        h: signed(call, HEIGHT),
     }
 }
 
@@ -88,7 +89,7 @@ pub fn read_rect(call: &Call) -> Rect
 pub fn read_form(call: &Call) -> Format
     ensures { result ≡ read_form call.now }
 {
-    if number(call, 5) == GL_UNSIGNED_SHORT_5_6_5 {
+    if number(call, TYPE) == GL_UNSIGNED_SHORT_5_6_5 {
         Format::Rgb565
     } else {
         Format::Rgba8888
