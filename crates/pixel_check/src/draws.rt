@@ -118,12 +118,14 @@ fn a_draw_writes_the_masked_components_in_the_scissor_box(rt: HostRuntime) {
     expect_rows(&rt, rt.alloc(), &target, row(0, 4), &expected);
 }
 
-/// A tile of 16 by 16 pixels, each of its number and full alpha; of tile 5 the first pixel is white.
+/// A tile of 16 by 16 pixels of an opaque grey; of the grey 6 the first pixel is white.
 fn tile<R: Abort>(rt: &R, alloc: Global, shade: u8) -> Source {
     let pixel = [shade, shade, shade, 255];
-    let mut bytes = pixel.repeat(alloc, 256).expect(rt, "memory");
-    if shade == 6 {
-        bytes.as_mut_slice()[..4].copy_from_slice(&[255; 4]);
+    let first = if shade == 6 { [255; 4] } else { pixel };
+    let mut bytes = Vec::new(alloc);
+    bytes.extend_from_slice(&first).expect(rt, "memory");
+    for _ in 0..255u32 {
+        bytes.extend_from_slice(&pixel).expect(rt, "memory");
     }
     let image = stored(rt, alloc, Format::Rgba8888, (16, 16), bytes.as_slice());
     source_of(rt, image, [0, 0, 16, 16])
