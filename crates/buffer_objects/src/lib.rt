@@ -6,6 +6,3 @@ mod contents;
 mod usages;
 
 pub use buffers::Buffer;
-
-#[cfg(test)]
-mod tests;

@@ -4,6 +4,8 @@
 #[cfg(test)]
 mod attribute_lists;
 #[cfg(test)]
+mod buffers;
+#[cfg(test)]
 mod call_lists;
 #[cfg(test)]
 mod configs;
