@@ -219,7 +219,7 @@ impl<'a> Session<'a> {
         ensures err { OnErr result (self.new ≡ self.old) }
     {
         let lines = self.trace.lines();
-        let place = answered_place(lines, entry);
+        let place = answered_place(lines, self.places.as_slice(), entry);
         let answer = answer_of(alloc, assigned_at(lines, place), &entry.reply)?;
         keep_post(&mut self.posts, entry)?;
         keep(&mut self.answers, answer);
