@@ -3,7 +3,7 @@ ghost use Rattle.std.specs.Prelude.{◌≡◌, ◌<◌, ◌∷◌, ◌++◌, cod
 ghost use Rattle.std.specs.List.{flat_map};
 ghost use Rattle.trace_model.specs.Recording.{number_text, outcome_text, list_text, hex_digit, hex_byte, bytes_text, entry_line, entry_lines};
 
-use crate::texts::{put_decimal, put_number, put_text};
+use crate::texts::{put_byte, put_decimal, put_number, put_text};
 use egl_calls::{Bytes, Entry, NoMemory, Outcome};
 
 #[tactic(auto, unfolding(trace_model::specs::Recording::outcome_text))]
@@ -24,7 +24,7 @@ fn put_more_numbers(out: &mut Bytes, numbers: &[i64]) -> Result<(), NoMemory>
     ensures { OnOk result (out.new ≡ out.old ++ flat_map (λ z. codes "," ++ number_text z) numbers.now) }
 {
     'each: for z in numbers {
-        put_text(out, ",")?;
+        put_byte(out, b',')?;
         put_number(out, *z)?;
     }
     Ok(())
@@ -100,7 +100,7 @@ fn put_bytes(out: &mut Bytes, bytes: &[u8]) -> Result<(), NoMemory>
     ensures { OnOk result (out.new ≡ out.old ++ bytes_text bytes.now) }
 {
     match bytes {
-        [] => put_text(out, "-"),
+        [] => put_byte(out, b'-'),
         [_, ..] => put_hex(out, bytes),
     }
 }
@@ -111,16 +111,16 @@ fn put_entry(out: &mut Bytes, entry: &Entry) -> Result<(), NoMemory>
     ensures { OnOk result (out.new ≡ out.old ++ entry_line entry.now) }
 {
     put_decimal(out, u64::from(entry.thread))?;
-    put_text(out, " ")?;
+    put_byte(out, b' ')?;
     put_decimal(out, entry.mark)?;
-    put_text(out, " ")?;
+    put_byte(out, b' ')?;
     let reply = &entry.reply;
     put_outcome(out, reply.outcome)?;
-    put_text(out, " ")?;
+    put_byte(out, b' ')?;
     put_number(out, reply.value)?;
-    put_text(out, " ")?;
+    put_byte(out, b' ')?;
     put_list(out, reply.list.as_slice())?;
-    put_text(out, " ")?;
+    put_byte(out, b' ')?;
     put_bytes(out, reply.bytes.as_slice())
 }
 
@@ -130,7 +130,7 @@ pub fn put_entries(out: &mut Bytes, entries: &[Entry]) -> Result<(), NoMemory>
 {
     'each: for entry in entries {
         put_entry(out, entry)?;
-        put_text(out, "\n")?;
+        put_byte(out, b'\n')?;
     }
     Ok(())
 }

@@ -1,5 +1,5 @@
 //! Pieces of text behind bytes.
-ghost use Rattle.std.specs.Prelude.{◌≡◌, ◌++◌, decimal, OnOk};
+ghost use Rattle.std.specs.Prelude.{◌≡◌, ◌∷◌, ◌++◌, [], decimal, OnOk};
 ghost use Rattle.std.specs.Fmt.{signed_decimal};
 ghost use Rattle.trace_model.specs.Recording.{number_text};
 
@@ -11,6 +11,13 @@ pub fn put_text(out: &mut Bytes, text: &str) -> Result<(), NoMemory>
     ensures { OnOk result (out.new ≡ out.old ++ text.now) }
 {
     out.extend(text.as_bytes())
+}
+
+/// A character of one byte. It costs less than a text of one.
+pub fn put_byte(out: &mut Bytes, byte: u8) -> Result<(), NoMemory>
+    ensures { OnOk result (out.new ≡ out.old ++ byte ∷ []) }
+{
+    out.push(byte)
 }
 
 pub fn put_decimal(out: &mut Bytes, n: u64) -> Result<(), NoMemory>
