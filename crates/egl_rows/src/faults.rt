@@ -1,9 +1,11 @@
 //! Words that are no command, faults of reading and writing, and inputs at the limit.
 ghost use Rattle.std.specs.Prelude.{None};
 
-use crate::playing::{answer, sink, source, status_of, words};
+use crate::playing::{answer, ran, sink, source, status_of, words};
 use egl_cli::plain;
 use egl_flow::{Failed, Sink};
+use std::alloc::Global;
+use std::process::Abort;
 use std::sync::Wait;
 use std::test::Fail;
 use std::thread::Threads;
@@ -18,33 +20,42 @@ const USAGE: &[u8] =
 /// The commands that play a trace.
 const PLAYERS: [&str; 2] = ["serial", "play"];
 
+/// Words that are no command.
+static OTHER_WORDS: [&[&str]; 9] = [
+    &[],
+    &["frob"],
+    &["--help"],
+    &["serial", "serial"],
+    &["play", "play"],
+    &["play", "x"],
+    &["play", "summary"],
+    &["configs", "1"],
+    &["Serial"],
+];
+
+/// Whether words are answered by the usage, and nothing is read.
+fn are_no_command<R: AllocGlobal + Threads + Wait + Sync>(
+    rt: &R,
+    words: &[&str],
+) -> Result<bool, Fail> {
+    let (status, sink) = ran(rt, words, HEADER, 0, 200, -1)?;
+    Ok(status == 2 && sink.taken() == USAGE)
+}
+
 #[test]
 fn other_words_are_no_command(rt: HostRuntime) -> Result<(), Fail> {
-    let alloc = rt.alloc();
-    let rows: [&[&str]; 9] = [
-        &[],
-        &["frob"],
-        &["--help"],
-        &["serial", "serial"],
-        &["play", "play"],
-        &["play", "x"],
-        &["play", "summary"],
-        &["configs", "1"],
-        &["Serial"],
-    ];
-    for row in rows {
-        let mut sink = sink(alloc, 200, &[])?;
-        let status = status_of(&rt, row, &mut source(alloc, HEADER, &[0])?, &mut sink)?;
-        assert_eq!(rt; (status, sink.taken()), (2, USAGE), "{row:?}");
+    for words in &OTHER_WORDS {
+        assert!(rt; are_no_command(&rt, words)?, "{words:?}");
     }
-    // Without threads `play` is none.
-    let mut sink = sink(alloc, 200, &[])?;
-    let status = plain(
-        alloc,
-        &words(alloc, &["play"])?,
-        &mut source(alloc, HEADER, &[0])?,
-        &mut sink,
-    );
+    Ok(())
+}
+
+#[test]
+fn play_is_no_command_without_threads(rt: HostRuntime) -> Result<(), Fail> {
+    let words = words(rt.alloc(), &["play"])?;
+    let mut sink = sink(rt.alloc(), 200, &[])?;
+    let mut source = source(rt.alloc(), HEADER, &[0])?;
+    let status = plain(rt.alloc(), &words, &mut source, &mut sink);
     assert_eq!(rt; (status.number(), sink.taken()), (2, USAGE));
     Ok(())
 }
@@ -55,29 +66,47 @@ fn reads_so<R: AllocGlobal + Threads + Wait + Sync>(
     word: &str,
     input: &[u8],
     fails: i64,
-    wanted: (u8, &[u8]),
+    wanted: u8,
+    text: &[u8],
 ) -> Result<bool, Fail> {
-    let alloc = rt.alloc();
-    let mut sink = sink(alloc, 100, &[])?;
-    let mut source = source(alloc, input, &[fails])?;
-    let status = status_of(rt, &[word], &mut source, &mut sink)?;
-    Ok(status == wanted.0 && sink.taken() == wanted.1)
+    let (status, sink) = ran(rt, &[word], input, fails, 100, -1)?;
+    Ok(status == wanted && sink.taken() == text)
+}
+
+/// Three calls give the bytes, and a fourth says that it was all.
+static READS: [(i64, u8, &[u8]); 4] = [
+    (0, 3, b"read fault\n"),
+    (1, 3, b"read fault\n"),
+    (3, 3, b"read fault\n"),
+    (4, 0, EMPTY_RECORDING),
+];
+
+fn expect_reads<R: AllocGlobal + Abort + Threads + Wait + Sync>(
+    rt: &R,
+    word: &str,
+    input: &[u8],
+) -> Result<(), Fail> {
+    for (call, status, text) in &READS {
+        assert!(rt;
+            reads_so(rt, word, input, *call, *status, text)?,
+            "{word} {call}"
+        );
+    }
+    Ok(())
+}
+
+/// A header, and spaces up to so many bytes.
+fn padded(alloc: Global, bytes: usize) -> Result<Vec<u8>, Fail> {
+    let mut input = Vec::from_slice(alloc, HEADER)?;
+    input.resize(bytes, b' ')?;
+    Ok(input)
 }
 
 #[test]
 fn a_source_that_fails_is_a_read_fault(rt: HostRuntime) -> Result<(), Fail> {
-    let mut input = Vec::from_slice(rt.alloc(), HEADER)?;
-    input.resize(20_000, b' ')?;
+    let input = padded(rt.alloc(), 20_000)?;
     for word in PLAYERS {
-        // Three calls give the bytes, and a fourth says that it was all.
-        for call in [0, 1, 3] {
-            let fault = (3, b"read fault\n".as_slice());
-            assert!(rt; reads_so(&rt, word, &input, call, fault)?, "{word} {call}");
-        }
-        assert!(rt;
-            reads_so(&rt, word, &input, 4, (0, EMPTY_RECORDING))?,
-            "{word}"
-        );
+        expect_reads(&rt, word, &input)?;
     }
     Ok(())
 }
@@ -126,6 +155,19 @@ fn fails_at<R: AllocGlobal + Threads + Wait + Sync>(
     Ok((status, sink.taken) == (5, call))
 }
 
+/// The first, a middle and the last of 43 calls.
+static CALLS: [u64; 3] = [0, 20, 42];
+
+#[test]
+fn a_sink_that_fails_is_a_write_fault(rt: HostRuntime) -> Result<(), Fail> {
+    for word in PLAYERS {
+        for call in CALLS {
+            assert!(rt; fails_at(&rt, word, call)?, "{word} {call}");
+        }
+    }
+    Ok(())
+}
+
 /// Whether a command writes only the front of its text to a sink with room for five bytes.
 fn writes_front<R: AllocGlobal + Threads + Wait + Sync>(
     rt: &R,
@@ -134,50 +176,66 @@ fn writes_front<R: AllocGlobal + Threads + Wait + Sync>(
     fails: i64,
     front: &[u8],
 ) -> Result<bool, Fail> {
-    let alloc = rt.alloc();
-    let mut sink = sink(alloc, 5, &[])?;
-    let mut source = source(alloc, input, &[fails])?;
-    let status = status_of(rt, &[word], &mut source, &mut sink)?;
+    let (status, sink) = ran(rt, &[word], input, fails, 5, -1)?;
     Ok(status == 5 && sink.taken() == front)
 }
 
+/// An input, the call at which its source fails, and the front of what is written.
+static FRONTS: [(&[u8], i64, &[u8]); 4] = [
+    (b"", -1, b"malfo"),
+    (b"", 0, b"read "),
+    (HEADER, -1, b"recor"),
+    (b"egl-trace 1 1\n0 await 1\n", -1, b"recor"),
+];
+
+fn expect_fronts<R: AllocGlobal + Abort + Threads + Wait + Sync>(
+    rt: &R,
+    word: &str,
+) -> Result<(), Fail> {
+    for (input, fails, front) in &FRONTS {
+        assert!(rt; writes_front(rt, word, input, *fails, front)?, "{word}");
+    }
+    Ok(())
+}
+
 #[test]
-fn a_sink_that_fails_is_a_write_fault_in_place_of_every_status(
+fn a_sink_that_is_full_is_a_write_fault_in_place_of_every_status(
     rt: HostRuntime,
 ) -> Result<(), Fail> {
     for word in PLAYERS {
-        // The first, a middle and the last of 43 calls.
-        for call in [0, 20, 42] {
-            assert!(rt; fails_at(&rt, word, call)?, "{word} {call}");
-        }
-        let rows: [(&[u8], i64, &[u8]); 4] = [
-            (b"", -1, b"malfo"),
-            (b"", 0, b"read "),
-            (HEADER, -1, b"recor"),
-            (b"egl-trace 1 1\n0 await 1\n", -1, b"recor"),
-        ];
-        for (input, fails, front) in rows {
-            assert!(rt; writes_front(&rt, word, input, fails, front)?, "{word}");
-        }
+        expect_fronts(&rt, word)?;
     }
     assert!(rt; writes_front(&rt, "frob", b"", -1, b"usage")?);
     Ok(())
 }
 
+/// Whether a command answers this of an input.
+fn answers<R: AllocGlobal + Threads + Wait + Sync>(
+    rt: &R,
+    word: &str,
+    input: &[u8],
+    wanted: u8,
+    text: &[u8],
+) -> Result<bool, Fail> {
+    let (status, sink) = answer(rt, word, input)?;
+    Ok(status == wanted && sink.taken() == text)
+}
+
+/// The most bytes that an input may have.
+const MOST_BYTES: usize = 33_554_432;
+
 #[test]
-fn inputs_end_at_the_limit(rt: HostRuntime) -> Result<(), Fail> {
-    let mut input = Vec::from_slice(rt.alloc(), HEADER)?;
-    input.resize(33_554_432, b' ')?;
-    let (status, sink) = answer(&rt, "serial", &input)?;
-    assert_eq!(rt; (status, sink.taken()), (0, EMPTY_RECORDING));
-    input.push(b' ')?;
+fn an_input_of_the_limit_is_played(rt: HostRuntime) -> Result<(), Fail> {
+    let input = padded(rt.alloc(), MOST_BYTES)?;
+    assert!(rt; answers(&rt, "serial", &input, 0, EMPTY_RECORDING)?);
+    Ok(())
+}
+
+#[test]
+fn a_byte_more_is_too_long(rt: HostRuntime) -> Result<(), Fail> {
+    let input = padded(rt.alloc(), MOST_BYTES + 1)?;
     for word in PLAYERS {
-        let (status, sink) = answer(&rt, word, &input)?;
-        assert_eq!(rt;
-            (status, sink.taken()),
-            (8, b"too long\n".as_slice()),
-            "{word}"
-        );
+        assert!(rt; answers(&rt, word, &input, 8, b"too long\n")?, "{word}");
     }
     Ok(())
 }

@@ -38,14 +38,26 @@ pub fn status_of<R: AllocGlobal + Threads + Wait + Sync, S: Source, K: Sink>(
     Ok(top(rt, alloc, &words, source, sink, &OpenGate).number())
 }
 
+/// What a command gives to a sink of so much room that fails at one call, of an input whose source fails at one call: its exit status, and the sink. -1 is no call.
+pub fn ran<R: AllocGlobal + Threads + Wait + Sync>(
+    rt: &R,
+    command: &[&str],
+    input: &[u8],
+    source_fails: i64,
+    room: u64,
+    sink_fails: i64,
+) -> Result<(u8, MemorySink), Fail> {
+    let mut sink = sink(rt.alloc(), room, &[sink_fails])?;
+    let mut source = source(rt.alloc(), input, &[source_fails])?;
+    let status = status_of(rt, command, &mut source, &mut sink)?;
+    Ok((status, sink))
+}
+
 /// The exit status of a command of one word on some bytes, and what it wrote.
 pub fn answer<R: AllocGlobal + Threads + Wait + Sync>(
     rt: &R,
     word: &str,
     input: &[u8],
 ) -> Result<(u8, MemorySink), Fail> {
-    let alloc = rt.alloc();
-    let mut sink = sink(alloc, 65_536, &[])?;
-    let status = status_of(rt, &[word], &mut source(alloc, input, &[])?, &mut sink)?;
-    Ok((status, sink))
+    ran(rt, &[word], input, -1, 65_536, -1)
 }

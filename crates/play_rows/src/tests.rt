@@ -1,6 +1,7 @@
 //! What is read of a file, and what is no file of examples.
 use crate::examples::Example;
 use crate::reading::examples_of;
+use std::alloc::Global;
 use std::test::Fail;
 
 const EACH_FORM: &str =
@@ -40,52 +41,57 @@ fn each_form_is_read(rt: HostRuntime) -> Result<(), Fail> {
     let examples = examples_of(rt.alloc(), EACH_FORM)?;
     assert_eq!(rt; examples.len(), WANTED.len());
     for (example, wanted) in examples.iter().zip(&WANTED) {
-        assert!(rt; is_like(example, wanted), "{wanted:?}");
+        assert!(rt; is_like(example, wanted), "line {}", example.line);
     }
     Ok(())
 }
 
+/// Texts that are refused, and why.
+static REFUSED: [(&str, &str); 12] = [
+    ("\nH\ncensus 0\n", "line 2: an example has no heading"),
+    ("# x\n\nH\ncensus 0\n", "line 3: an example has no heading"),
+    ("# x\nuse y\n", "line 2: no opening is called y"),
+    ("# x\nH \ncensus 0\n", "line 2: a line ends with a space"),
+    (
+        "# x\nH\r\ncensus 0\n",
+        "line 2: a line has a byte that isn't shown",
+    ),
+    (
+        "# x\n\\n\ncensus 0\n",
+        "line 2: an escape is none of `\\r`, `\\t`, `\\0` and `\\xNN`",
+    ),
+    (
+        "# x\n\\x2G\n",
+        "line 2: an escape by `\\x` has two of 0-9 and a-f",
+    ),
+    ("# x\nH\n\n", "the file ends within an example"),
+    (
+        "# x\nH => malformed 1 Header\ncensus 0\n",
+        "line 3: a line behind a defect has none",
+    ),
+    (
+        "# x\n0 a => ok\nb => malformed 1 Name\n",
+        "line 3: an answer stands before a defect",
+    ),
+    ("# x\n => ok\n", "line 2: an answer stands beside no call"),
+    (
+        "# x\nrepeat H\n",
+        "line 2: `repeat` wants a count and a line",
+    ),
+];
+
+/// Whether a text is refused with a message.
+fn is_refused(alloc: Global, text: &str, message: &str) -> Result<bool, Fail> {
+    match examples_of(alloc, text) {
+        Ok(_) => Ok(false),
+        Err(error) => Ok(format!(in alloc; "{error:#}")?.as_str() == message),
+    }
+}
+
 #[test]
 fn other_texts_are_refused_with_their_line(rt: HostRuntime) -> Result<(), Fail> {
-    let alloc = rt.alloc();
-    let rows = [
-        ("\nH\ncensus 0\n", "line 2: an example has no heading"),
-        ("# x\n\nH\ncensus 0\n", "line 3: an example has no heading"),
-        ("# x\nuse y\n", "line 2: no opening is called y"),
-        ("# x\nH \ncensus 0\n", "line 2: a line ends with a space"),
-        (
-            "# x\nH\r\ncensus 0\n",
-            "line 2: a line has a byte that isn't shown",
-        ),
-        (
-            "# x\n\\n\ncensus 0\n",
-            "line 2: an escape is none of `\\r`, `\\t`, `\\0` and `\\xNN`",
-        ),
-        (
-            "# x\n\\x2G\n",
-            "line 2: an escape by `\\x` has two of 0-9 and a-f",
-        ),
-        ("# x\nH\n\n", "the file ends within an example"),
-        (
-            "# x\nH => malformed 1 Header\ncensus 0\n",
-            "line 3: a line behind a defect has none",
-        ),
-        (
-            "# x\n0 a => ok\nb => malformed 1 Name\n",
-            "line 3: an answer stands before a defect",
-        ),
-        ("# x\n => ok\n", "line 2: an answer stands beside no call"),
-        (
-            "# x\nrepeat H\n",
-            "line 2: `repeat` wants a count and a line",
-        ),
-    ];
-    for (text, message) in rows {
-        let Err(error) = examples_of(alloc, text) else {
-            assert!(rt; false, "{text}");
-            return Ok(());
-        };
-        assert_eq!(rt; format!(in alloc; "{error:#}")?.as_str(), message);
+    for (text, message) in &REFUSED {
+        assert!(rt; is_refused(rt.alloc(), text, message)?, "{message}");
     }
     Ok(())
 }
