@@ -30,7 +30,7 @@ pub const READ: usize = 2;
 /// `ctx` of eglMakeCurrent.
 pub const CONTEXT: usize = 3;
 
-/// `native_window` of eglCreateWindowSurface.
+/// `win` of eglCreateWindowSurface.
 pub const WINDOW: usize = 2;
 
 /// `share_context` of eglCreateContext.
