@@ -1,15 +1,15 @@
-//! What attribute lists ask for: a record for each kind of list that a call makes something by. A call's facts and its effect read its list by the same one.
-ghost use Rattle.std.specs.Prelude.{◌≡◌, pos};
+//! What attribute lists ask for: a record for each kind of list that a call makes something by, read in one pass over the pairs, so that the last pair of an attribute counts. A call's facts and its effect read its list by the same one.
+ghost use Rattle.std.specs.Prelude.{◌≡◌, pos, if◌then◌else◌};
+ghost use Rattle.std.specs.Ordering.{int_eq};
 ghost use Rattle.egl_names.specs.declared.codes.TheConstants.{EGL_CONTEXT_CLIENT_VERSION as CLIENT_VERSION, EGL_CONTEXT_MINOR_VERSION as MINOR_VERSION};
 ghost use Rattle.egl_model.specs.Arguments.{listed};
 ghost use Rattle.egl_model.specs.Surfaces.{asked_width, asked_height, asks_for_largest};
 ghost use Rattle.egl_model.specs.Windows.{asks_for_single};
 
-use crate::arguments::listed;
-use egl_calls::Call;
+use egl_calls::{Call, unsigned};
 use egl_names::codes::{
-    EGL_BACK_BUFFER, EGL_CONTEXT_CLIENT_VERSION, EGL_CONTEXT_MINOR_VERSION, EGL_HEIGHT,
-    EGL_LARGEST_PBUFFER, EGL_RENDER_BUFFER, EGL_SINGLE_BUFFER, EGL_WIDTH,
+    EGL_CONTEXT_CLIENT_VERSION, EGL_CONTEXT_MINOR_VERSION, EGL_HEIGHT, EGL_LARGEST_PBUFFER,
+    EGL_RENDER_BUFFER, EGL_SINGLE_BUFFER, EGL_WIDTH,
 };
 
 /// Of eglCreatePbufferSurface (EGL 1.5, section 3.5.2): the sides as they are asked for, and whether sides that are too long are cut.
@@ -21,16 +21,35 @@ pub(crate) struct PbufferAttributes {
 }
 
 impl PbufferAttributes {
+    /// Sets the field of a pair's attribute. A pair of another attribute sets none.
+    fn set(&mut self, attribute: i64, value: i64)
+        ensures width { self.new.width ≡ (if int_eq attribute (pos EGL_WIDTH) then value else self.old.width) }
+        ensures height { self.new.height ≡ (if int_eq attribute (pos EGL_HEIGHT) then value else self.old.height) }
+        ensures largest { self.new.largest ≡ (if int_eq attribute (pos EGL_LARGEST_PBUFFER) then int_eq value (pos 1) else self.old.largest) }
+    {
+        match unsigned(attribute) {
+            EGL_WIDTH => self.width = value,
+            EGL_HEIGHT => self.height = value,
+            EGL_LARGEST_PBUFFER => self.largest = value == 1,
+            _ => (),
+        }
+    }
+
     pub(crate) fn read(call: &Call) -> Self
         ensures width { result.width ≡ asked_width call.now }
         ensures height { result.height ≡ asked_height call.now }
         ensures largest { result.largest ≡ asks_for_largest call.now }
     {
-        PbufferAttributes {
-            width: listed(call, EGL_WIDTH, 0),
-            height: listed(call, EGL_HEIGHT, 0),
-            largest: listed(call, EGL_LARGEST_PBUFFER, 0) == 1,
+        let list = call.list.as_slice();
+        let mut asked = PbufferAttributes {
+            width: 0,
+            height: 0,
+            largest: false,
+        };
+        for k in 0..list.len() / 2 {
+            asked.set(list[2 * k], list[2 * k + 1]);
         }
+        asked
     }
 }
 
@@ -41,13 +60,24 @@ pub(crate) struct WindowAttributes {
 }
 
 impl WindowAttributes {
+    /// Sets the field of a pair's attribute. A pair of another attribute sets none.
+    fn set(&mut self, attribute: i64, value: i64)
+        ensures { self.new.single ≡ (if int_eq attribute (pos EGL_RENDER_BUFFER) then int_eq value (pos EGL_SINGLE_BUFFER) else self.old.single) }
+    {
+        if unsigned(attribute) == EGL_RENDER_BUFFER {
+            self.single = unsigned(value) == EGL_SINGLE_BUFFER;
+        }
+    }
+
     pub(crate) fn read(call: &Call) -> Self
         ensures { result.single ≡ asks_for_single call.now }
     {
-        let buffer = listed(call, EGL_RENDER_BUFFER, EGL_BACK_BUFFER as i64);
-        WindowAttributes {
-            single: buffer == EGL_SINGLE_BUFFER as i64,
+        let list = call.list.as_slice();
+        let mut asked = WindowAttributes { single: false };
+        for k in 0..list.len() / 2 {
+            asked.set(list[2 * k], list[2 * k + 1]);
         }
+        asked
     }
 }
 
@@ -59,13 +89,30 @@ pub(crate) struct ContextAttributes {
 }
 
 impl ContextAttributes {
+    /// Sets the field of a pair's attribute. A pair of another attribute sets none.
+    fn set(&mut self, attribute: i64, value: i64)
+        ensures version { self.new.version ≡ (if int_eq attribute (pos CLIENT_VERSION) then value else self.old.version) }
+        ensures minor { self.new.minor_version ≡ (if int_eq attribute (pos MINOR_VERSION) then value else self.old.minor_version) }
+    {
+        match unsigned(attribute) {
+            EGL_CONTEXT_CLIENT_VERSION => self.version = value,
+            EGL_CONTEXT_MINOR_VERSION => self.minor_version = value,
+            _ => (),
+        }
+    }
+
     pub(crate) fn read(call: &Call) -> Self
         ensures version { result.version ≡ listed call.now CLIENT_VERSION (pos 1) }
         ensures minor { result.minor_version ≡ listed call.now MINOR_VERSION (pos 0) }
     {
-        ContextAttributes {
-            version: listed(call, EGL_CONTEXT_CLIENT_VERSION, 1),
-            minor_version: listed(call, EGL_CONTEXT_MINOR_VERSION, 0),
+        let list = call.list.as_slice();
+        let mut asked = ContextAttributes {
+            version: 1,
+            minor_version: 0,
+        };
+        for k in 0..list.len() / 2 {
+            asked.set(list[2 * k], list[2 * k + 1]);
         }
+        asked
     }
 }

@@ -1,5 +1,5 @@
 //! One call of one thread.
-ghost use Rattle.std.specs.Prelude.{◌≡◌, ◌<◌, true, None, Some, is_some, IfOk, IsOk, OnOk, OnErr, pos, false, All, slice_index_or};
+ghost use Rattle.std.specs.Prelude.{◌≡◌, ◌<◌, true, None, is_some, IfOk, IsOk, OnOk, OnErr, false, All, slice_index_or};
 ghost use Rattle.driver_core.specs.Costs.{IsCheap, IsBounded};
 ghost use Rattle.driver_core.specs.Releases.{releases};
 ghost use Rattle.egl_model.specs.Sweep.{sweep};

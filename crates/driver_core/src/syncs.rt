@@ -1,5 +1,5 @@
 //! Fence syncs (EGL 1.5, section 3.8.1).
-ghost use Rattle.std.specs.Prelude.{◌≡◌, ◌<◌, ◌∷◌, [], ◌++◌, pos, true, None, Some, length, IfOk, IfSome, OnOk, OnErr, IsSome};
+ghost use Rattle.std.specs.Prelude.{◌≡◌, ◌<◌, pos, true, None, Some, IfOk, IfSome, OnOk, OnErr, IsSome};
 ghost use Rattle.egl_calls.specs.Ranges.{IsNumber, unsigned};
 ghost use Rattle.egl_model.specs.Arguments.{number};
 ghost use Rattle.egl_model.specs.Displays.{is_display};
@@ -7,7 +7,7 @@ ghost use Rattle.egl_model.specs.Currents.{current_context};
 ghost use Rattle.egl_model.specs.State.{object_at, record_of};
 ghost use Rattle.egl_model.specs.Objects.{change_fence};
 ghost use Rattle.egl_model.specs.Step.{done};
-ghost use Rattle.egl_model.specs.Syncs.{add_sync, asks_for_flush, client_waited, created_sync, flush_for, new_sync_facts, serve, served_fence, server_facts, sync_facts, sync_handle, sync_value, sync_value_at, value_of_sync, wait_for, wait_value, waited, waits_forever};
+ghost use Rattle.egl_model.specs.Syncs.{add_sync, asks_for_flush, client_waited, created_sync, flush_for, new_sync_facts, serve, served_fence, server_facts, sync_facts, sync_handle, sync_value, sync_value_at, wait_for, waited, waits_forever};
 
 use crate::arguments::{number, signed};
 use crate::handles::new_handle;
