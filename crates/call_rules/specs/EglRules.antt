@@ -12,6 +12,7 @@ use Rattle.egl_calls.specs.declared.errors.EglError.{EglError}
 use Rattle.egl_calls.specs.Ranges.{unsigned}
 use Rattle.egl_names.specs.declared.codes.TheConstants.{EGL_SWAP_BEHAVIOR, EGL_BUFFER_PRESERVED, EGL_BUFFER_DESTROYED, EGL_OPENGL_ES_API, EGL_DRAW, EGL_READ, EGL_SYNC_FENCE}
 use Rattle.egl_calls.specs.declared.errors.EglError.TheVariants.{NotInitialized, BadAccess, BadAlloc, BadAttribute, BadConfig, BadContext, BadDisplay, BadMatch, BadNativeWindow, BadParameter, BadSurface}
+use Rattle.call_rules.specs.declared.places.TheConstants.{API, ATTRIBUTE, CONTEXT, DRAW, FLAGS, READ, READDRAW, SYNC_TYPE, VALUE}
 use Rattle.call_rules.specs.declared.egl_facts.EglFacts.{EglFacts}
 use Rattle.call_rules.specs.Rows.{Row, ◌⇒◌, first_error, unbuilt}
 use Rattle.call_rules.specs.Arguments.{is_zero, signed}
@@ -179,7 +180,7 @@ fact_rows k f = unbuilt NotInitialized
 
 -- without draw surface, read surface and context: the current context is released (section 3.7.3)
 abbrev pub is_release : CallValue → Bool
-is_release c = is_zero c 1 && is_zero c 2 && is_zero c 3
+is_release c = is_zero c DRAW && is_zero c READ && is_zero c CONTEXT
 
 -- an argument that is given, and isn't what it has to be
 abbrev pub is_wrong : CallValue → ℕ → Bool → Bool
@@ -188,9 +189,9 @@ is_wrong c k is_valid = not (is_zero c k) && not is_valid
 -- the rows of making a context current (section 3.7.3)
 abbrev pub current_rows : CallValue → EglFacts → List (Row EglError)
 current_rows c f = display_rows f ++
-    (is_wrong c 1 f.is_draw || is_wrong c 2 f.is_read ⇒ BadSurface) ∷
-    (is_wrong c 3 f.is_context ⇒ BadContext) ∷
-    (is_zero c 1 || is_zero c 2 || is_zero c 3 ⇒ BadMatch) ∷
+    (is_wrong c DRAW f.is_draw || is_wrong c READ f.is_read ⇒ BadSurface) ∷
+    (is_wrong c CONTEXT f.is_context ⇒ BadContext) ∷
+    (is_zero c DRAW || is_zero c READ || is_zero c CONTEXT ⇒ BadMatch) ∷
     (not f.is_compatible ⇒ BadMatch) ∷
     (f.is_context_elsewhere ⇒ BadAccess) ∷
     (f.is_surface_elsewhere ⇒ BadAccess) ∷
@@ -209,26 +210,26 @@ abbrev pub egl_rows : EglKind → CallValue → EglFacts → List (Row EglError)
 egl_rows MakeCurrent c f = if is_release c then display_row f ∷ [] else current_rows c f
 -- section 3.5.6
 egl_rows SurfaceAttrib c f = surface_rows f ++
-    (not (has_code c 2 EGL_SWAP_BEHAVIOR) ⇒ BadAttribute) ∷
-    (not (has_code c 3 EGL_BUFFER_PRESERVED || has_code c 3 EGL_BUFFER_DESTROYED) ⇒ BadParameter) ∷
+    (not (has_code c ATTRIBUTE EGL_SWAP_BEHAVIOR) ⇒ BadAttribute) ∷
+    (not (has_code c VALUE EGL_BUFFER_PRESERVED || has_code c VALUE EGL_BUFFER_DESTROYED) ⇒ BadParameter) ∷
     []
 -- section 3.7
 egl_rows BindApi c f =
-    (not (has_code c 0 EGL_OPENGL_ES_API) ⇒ BadParameter) ∷
+    (not (has_code c API EGL_OPENGL_ES_API) ⇒ BadParameter) ∷
     []
 -- section 3.7.4
 egl_rows GetCurrentSurface c f =
-    (not (has_code c 0 EGL_DRAW || has_code c 0 EGL_READ) ⇒ BadParameter) ∷
+    (not (has_code c READDRAW EGL_DRAW || has_code c READDRAW EGL_READ) ⇒ BadParameter) ∷
     []
 -- section 3.8.1; the fence's attribute list is empty
 egl_rows CreateSync c f = display_rows f ++
-    (not (has_code c 1 EGL_SYNC_FENCE) ⇒ BadAttribute) ∷
+    (not (has_code c SYNC_TYPE EGL_SYNC_FENCE) ⇒ BadAttribute) ∷
     (has_attributes c ⇒ BadAttribute) ∷
     (not f.is_current_here ⇒ BadMatch) ∷
     (f.are_handles_used_up ⇒ BadAlloc) ∷
     []
 egl_rows WaitSync c f = sync_rows f ++
-    (not (is_zero c 2) ⇒ BadParameter) ∷
+    (not (is_zero c FLAGS) ⇒ BadParameter) ∷
     (not f.is_current ⇒ BadMatch) ∷
     []
 egl_rows k c f = fact_rows k f

@@ -3,14 +3,15 @@ use Rattle.std.specs.Prelude.{◌≡◌, ℤ, pos, ◌≤ℤ◌, true, ◌⊎◌
 use Rattle.egl_calls.specs.Calls.{CallValue}
 use Rattle.egl_calls.specs.Ranges.{unsigned}
 use Rattle.egl_names.specs.declared.codes.TheConstants.{GL_RGB, GL_RGBA, GL_UNSIGNED_BYTE, GL_UNSIGNED_SHORT_5_6_5}
+use Rattle.call_rules.specs.declared.places.TheConstants.{HEIGHT, MASK, WIDTH}
 use Rattle.call_rules.specs.declared.gl_facts.GlFacts.{GlFacts}
 use Rattle.call_rules.specs.Arguments.{signed}
 use Rattle.call_rules.specs.GlRules.{buffer_bits, read_format, read_type}
 
 -- glClear (OpenGL ES 1.1, section 4.2.3): the mask adds no bit to those of the buffers
 pub record ClearAllowed (c : CallValue) (f : GlFacts) : Type 0 where
-  pub mask : pos 0 ≤ℤ signed c 0
-  pub bits : bit_or (unsigned (signed c 0)) buffer_bits ≡ buffer_bits
+  pub mask : pos 0 ≤ℤ signed c MASK
+  pub bits : bit_or (unsigned (signed c MASK)) buffer_bits ≡ buffer_bits
   pub complete : f.is_framebuffer_complete ≡ true
 
 -- a width or height that something can have
@@ -26,7 +27,7 @@ IsReadPair c =
 
 -- glReadPixels (section 4.3.1)
 pub record ReadAllowed (c : CallValue) (f : GlFacts) : Type 0 where
-  pub width : IsSide (signed c 2)
-  pub height : IsSide (signed c 3)
+  pub width : IsSide (signed c WIDTH)
+  pub height : IsSide (signed c HEIGHT)
   pub pair : IsReadPair c
   pub complete : f.is_framebuffer_complete ≡ true

@@ -11,6 +11,7 @@ use Rattle.egl_calls.specs.declared.errors.GlError.{GlError}
 use Rattle.egl_calls.specs.declared.errors.GlError.TheVariants.{InvalidEnum, InvalidValue, InvalidOperation, InvalidFramebufferOperation}
 use Rattle.egl_calls.specs.Ranges.{unsigned}
 use Rattle.egl_names.specs.declared.codes.TheConstants.{GL_RGB, GL_RGBA, GL_UNSIGNED_BYTE, GL_UNSIGNED_SHORT_5_6_5, GL_COLOR_BUFFER_BIT, GL_DEPTH_BUFFER_BIT, GL_STENCIL_BUFFER_BIT}
+use Rattle.call_rules.specs.declared.places.TheConstants.{FORMAT, HEIGHT, MASK, TYPE, WIDTH}
 use Rattle.call_rules.specs.declared.gl_facts.GlFacts.{GlFacts}
 use Rattle.call_rules.specs.Rows.{Row, ◌⇒◌, first_error, unbuilt}
 use Rattle.call_rules.specs.Arguments.{signed}
@@ -42,11 +43,11 @@ is_read_pair format kind =
 
 -- the code of the format that glReadPixels is given
 abbrev pub read_format : CallValue → ℕ
-read_format c = unsigned (signed c 4)
+read_format c = unsigned (signed c FORMAT)
 
 -- the code of the type
 abbrev pub read_type : CallValue → ℕ
-read_type c = unsigned (signed c 5)
+read_type c = unsigned (signed c TYPE)
 
 -- OES_framebuffer_object: no framebuffer that isn't complete is written or read
 abbrev pub framebuffer_row : GlFacts → Row GlError
@@ -62,12 +63,12 @@ gl_rows Finish c f = []
 -- section 4.2.3
 gl_rows ClearColorx c f = []
 gl_rows Clear c f =
-    (not (is_clear_mask (signed c 0)) ⇒ InvalidValue) ∷
+    (not (is_clear_mask (signed c MASK)) ⇒ InvalidValue) ∷
     framebuffer_row f ∷
     []
 -- section 4.3.1
 gl_rows ReadPixels c f =
-    (is_no_side (signed c 2) || is_no_side (signed c 3) ⇒ InvalidValue) ∷
+    (is_no_side (signed c WIDTH) || is_no_side (signed c HEIGHT) ⇒ InvalidValue) ∷
     (not (is_read_format (read_format c) && is_read_type (read_type c)) ⇒ InvalidEnum) ∷
     (not (is_read_pair (read_format c) (read_type c)) ⇒ InvalidOperation) ∷
     framebuffer_row f ∷

@@ -51,20 +51,59 @@ pub const TIMEOUT: usize = 3;
 /// `mask` of glClear.
 pub const MASK: usize = 0;
 
-/// `x` of glReadPixels.
+/// `x` of glReadPixels, glScissor and glViewport.
 pub const X: usize = 0;
 
-/// `y` of glReadPixels.
+/// `y` of glReadPixels, glScissor and glViewport.
 pub const Y: usize = 1;
 
-/// `width` of glReadPixels.
+/// `width` of glReadPixels, glScissor and glViewport.
 pub const WIDTH: usize = 2;
 
-/// `height` of glReadPixels.
+/// `height` of glReadPixels, glScissor and glViewport.
 pub const HEIGHT: usize = 3;
+
+/// `format` of glReadPixels.
+pub const FORMAT: usize = 4;
 
 /// `type` of glReadPixels.
 pub const TYPE: usize = 5;
+
+/// `cap` of glEnable and glDisable.
+pub const CAP: usize = 0;
+
+/// `red` of glClearColorx, glColor4x and glColorMask.
+pub const RED: usize = 0;
+
+/// `green` of the same calls.
+pub const GREEN: usize = 1;
+
+/// `blue` of the same calls.
+pub const BLUE: usize = 2;
+
+/// `alpha` of the same calls.
+pub const ALPHA: usize = 3;
+
+/// `target` of glTexEnvx.
+pub const TARGET: usize = 0;
+
+/// `pname` of glTexEnvx.
+pub const ENVIRONMENT_PNAME: usize = 1;
+
+/// `param` of glTexEnvx.
+pub const ENVIRONMENT_PARAM: usize = 2;
+
+/// `pname` of glPixelStorei and glGetIntegerv.
+pub const PNAME: usize = 0;
+
+/// `param` of glPixelStorei.
+pub const PARAM: usize = 1;
+
+/// Which of its parameter's values a glGetIntegerv answers.
+pub const INDEX: usize = 1;
+
+/// The number that a `post` posts and an `await` awaits.
+pub const POSTED: usize = 0;
 
 /// The window of a `readFront`.
 pub const FRONT: usize = 0;

@@ -4,6 +4,7 @@ use Rattle.std.specs.Ordering.{int_eq}
 use Rattle.egl_calls.specs.Calls.{CallValue}
 use Rattle.egl_calls.specs.Ranges.{unsigned}
 use Rattle.egl_names.specs.declared.codes.TheConstants.{GL_TEXTURE_2D, GL_SCISSOR_TEST, GL_DITHER, GL_BLEND, GL_DEPTH_TEST, GL_ALPHA_TEST, GL_STENCIL_TEST, GL_CULL_FACE, GL_LIGHTING, GL_FOG, GL_TEXTURE_ENV, GL_TEXTURE_ENV_MODE, GL_MODULATE, GL_REPLACE, GL_UNPACK_ALIGNMENT, GL_PACK_ALIGNMENT, GL_VIEWPORT, GL_SCISSOR_BOX, GL_MAX_TEXTURE_SIZE}
+use Rattle.call_rules.specs.declared.places.TheConstants.{ALPHA, BLUE, GREEN, HEIGHT, RED, WIDTH, X, Y}
 use Rattle.context_state.specs.Bindings.{is_binding_code}
 use Rattle.context_state.specs.Parts.{clamped}
 
@@ -50,19 +51,19 @@ is_index pname index = not (int_lt index (pos 0)) && not (int_lt (pos (last_inde
 
 -- whether a box has a negative width or height; its left and its bottom may be any numbers
 abbrev pub has_negative_side : CallValue → Bool
-has_negative_side c = int_lt (signed c 2) (pos 0) || int_lt (signed c 3) (pos 0)
+has_negative_side c = int_lt (signed c WIDTH) (pos 0) || int_lt (signed c HEIGHT) (pos 0)
 
 -- left, bottom, width and height
 abbrev pub box : CallValue → List ℤ
-box c = signed c 0 ∷ signed c 1 ∷ signed c 2 ∷ signed c 3 ∷ []
+box c = signed c X ∷ signed c Y ∷ signed c WIDTH ∷ signed c HEIGHT ∷ []
 
 -- red, green, blue and alpha, held between 0 and 1
 abbrev pub colour : CallValue → List ℤ
-colour c = clamped (signed c 0) ∷ clamped (signed c 1) ∷ clamped (signed c 2) ∷ clamped (signed c 3) ∷ []
+colour c = clamped (signed c RED) ∷ clamped (signed c GREEN) ∷ clamped (signed c BLUE) ∷ clamped (signed c ALPHA) ∷ []
 
 -- whether the number at a place is set: any but 0 is
 abbrev pub is_set : CallValue → ℕ → Bool
 is_set c k = not (int_eq (signed c k) (pos 0))
 
 abbrev pub mask : CallValue → List Bool
-mask c = is_set c 0 ∷ is_set c 1 ∷ is_set c 2 ∷ is_set c 3 ∷ []
+mask c = is_set c RED ∷ is_set c GREEN ∷ is_set c BLUE ∷ is_set c ALPHA ∷ []

@@ -9,6 +9,7 @@ use Rattle.egl_calls.specs.declared.errors.GlError.TheVariants.{NoError}
 use Rattle.egl_calls.specs.declared.errors.Outcome.TheVariants.{Done, Gl}
 use Rattle.egl_calls.specs.declared.kinds.Kind.{Kind}
 use Rattle.egl_names.specs.declared.codes.TheConstants.{GL_TEXTURE_2D, GL_SCISSOR_TEST, GL_REPLACE, GL_UNPACK_ALIGNMENT, GL_PACK_ALIGNMENT, GL_VIEWPORT, GL_SCISSOR_BOX, GL_MAX_TEXTURE_SIZE}
+use Rattle.call_rules.specs.declared.places.TheConstants.{CAP, ENVIRONMENT_PARAM, INDEX, PARAM, PNAME}
 use Rattle.context_state.specs.declared.kinds.LocalKind.{LocalKind}
 use Rattle.context_state.specs.declared.kinds.LocalKind.TheVariants.{GetError, Enable, Disable, Scissor, Viewport, ClearColorx, Color4x, ClearDepthx, ClearStencil, ColorMask, TexEnvx, PixelStorei, GetIntegerv}
 use Rattle.context_state.specs.Arguments.{number, box, colour, mask}
@@ -45,7 +46,7 @@ value ClearStencil c p = pos 0
 value ColorMask c p = pos 0
 value TexEnvx c p = pos 0
 value PixelStorei c p = pos 0
-value GetIntegerv c p = parameter (number c 0) (number c 1) p
+value GetIntegerv c p = parameter (number c PNAME) (number c INDEX) p
 
 -- ---- What it changes.
 -- GL_DITHER and what is disabled for good have no state
@@ -64,8 +65,8 @@ aligned pname n p = record p {
 abbrev pub changed : LocalKind → CallValue → PartValue → PartValue
 -- no error is kept then (section 2.5)
 changed GetError c p = record p { error = NoError }
-changed Enable c p = switched (number c 0) true p
-changed Disable c p = switched (number c 0) false p
+changed Enable c p = switched (number c CAP) true p
+changed Disable c p = switched (number c CAP) false p
 changed Scissor c p = record p { scissor_box = box c }
 changed Viewport c p = record p { viewport = box c }
 changed ClearColorx c p = record p { clear_color = colour c }
@@ -74,8 +75,8 @@ changed Color4x c p = record p { color = colour c }
 changed ClearDepthx c p = p
 changed ClearStencil c p = p
 changed ColorMask c p = record p { mask = mask c }
-changed TexEnvx c p = record p { is_replacing = number c 2 == GL_REPLACE }
-changed PixelStorei c p = aligned (number c 0) (number c 1) p
+changed TexEnvx c p = record p { is_replacing = number c ENVIRONMENT_PARAM == GL_REPLACE }
+changed PixelStorei c p = aligned (number c PNAME) (number c PARAM) p
 changed GetIntegerv c p = p
 
 -- ---- The reply, and the state that is left.

@@ -5,6 +5,7 @@ use Rattle.std.specs.declared.option.Option.TheVariants.{None, Some}
 use Rattle.egl_calls.specs.Calls.{CallValue}
 use Rattle.egl_calls.specs.declared.errors.GlError.{GlError}
 use Rattle.egl_calls.specs.declared.errors.GlError.TheVariants.{InvalidEnum, InvalidValue}
+use Rattle.call_rules.specs.declared.places.TheConstants.{CAP, ENVIRONMENT_PARAM, ENVIRONMENT_PNAME, INDEX, PARAM, PNAME, TARGET}
 use Rattle.context_state.specs.declared.kinds.LocalKind.{LocalKind}
 use Rattle.context_state.specs.declared.kinds.LocalKind.TheVariants.{GetError, Enable, Disable, Scissor, Viewport, ClearColorx, Color4x, ClearDepthx, ClearStencil, ColorMask, TexEnvx, PixelStorei, GetIntegerv}
 use Rattle.context_state.specs.Arguments.{signed, number, may_enable, may_disable, is_environment, is_store, is_parameter, is_index, has_negative_side}
@@ -14,10 +15,10 @@ abbrev pub refusal : LocalKind → CallValue → Option GlError
 refusal GetError c = None
 -- OpenGL ES 1.1, sections 2.5 and 6.2
 refusal Enable c =
-    if not (may_enable (number c 0)) then Some InvalidEnum
+    if not (may_enable (number c CAP)) then Some InvalidEnum
     else None
 refusal Disable c =
-    if not (may_disable (number c 0)) then Some InvalidEnum
+    if not (may_disable (number c CAP)) then Some InvalidEnum
     else None
 -- section 4.1.2
 refusal Scissor c =
@@ -34,15 +35,15 @@ refusal ClearStencil c = None
 refusal ColorMask c = None
 -- section 3.7.12
 refusal TexEnvx c =
-    if not (is_environment (number c 0) (number c 1) (number c 2)) then Some InvalidEnum
+    if not (is_environment (number c TARGET) (number c ENVIRONMENT_PNAME) (number c ENVIRONMENT_PARAM)) then Some InvalidEnum
     else None
 -- section 3.6.1
 refusal PixelStorei c =
-    if not (is_store (number c 0)) then Some InvalidEnum
-    else if not (is_alignment (number c 1)) then Some InvalidValue
+    if not (is_store (number c PNAME)) then Some InvalidEnum
+    else if not (is_alignment (number c PARAM)) then Some InvalidValue
     else None
 -- section 6.2
 refusal GetIntegerv c =
-    if not (is_parameter (number c 0)) then Some InvalidEnum
-    else if not (is_index (number c 0) (signed c 1)) then Some InvalidValue
+    if not (is_parameter (number c PNAME)) then Some InvalidEnum
+    else if not (is_index (number c PNAME) (signed c INDEX)) then Some InvalidValue
     else None

@@ -5,6 +5,7 @@ ghost use Rattle.context_state.specs.Local.{is_local};
 ghost use Rattle.context_state.specs.Parts.{AreClamped, IsBox, IsClamped, clamped};
 
 use crate::parts::ONE;
+use call_rules::places::{ALPHA, BLUE, GREEN, RED};
 use egl_calls::{Call, unsigned};
 
 /// A number of a call, as it was given.
@@ -76,9 +77,9 @@ pub(crate) fn mask(call: &Call) -> [bool; 4]
     ensures { result ≡ mask call.now }
 {
     [
-        is_set(call, 0),
-        is_set(call, 1),
-        is_set(call, 2),
-        is_set(call, 3),
+        is_set(call, RED),
+        is_set(call, GREEN),
+        is_set(call, BLUE),
+        is_set(call, ALPHA),
     ]
 }

@@ -13,6 +13,7 @@ use crate::bindings::name_bound;
 use crate::kinds::{LocalKind, local_kind};
 use crate::parts::ContextPart;
 use crate::refusals::refusal;
+use call_rules::places::{CAP, ENVIRONMENT_PARAM, INDEX, PARAM, PNAME};
 use egl_calls::{Bytes, Call, GlError, Numbers, Outcome, Reply};
 use egl_names::codes::{
     GL_MAX_TEXTURE_SIZE, GL_PACK_ALIGNMENT, GL_REPLACE, GL_SCISSOR_BOX, GL_SCISSOR_TEST,
@@ -84,7 +85,10 @@ impl ContextPart {
     {
         match kind {
             LocalKind::GetError => self.kept_error(),
-            LocalKind::GetIntegerv => self.parameter(number(call, 0), number(call, 1) as usize),
+            LocalKind::GetIntegerv => self.parameter(
+                number(call, PNAME),
+                number(call, INDEX) as usize,
+            ),
             LocalKind::Enable
             | LocalKind::Disable
             | LocalKind::Scissor
@@ -176,15 +180,15 @@ impl ContextPart {
     {
         match kind {
             LocalKind::GetError => self.clear_error(),
-            LocalKind::Enable => self.switch(number(call, 0), true),
-            LocalKind::Disable => self.switch(number(call, 0), false),
+            LocalKind::Enable => self.switch(number(call, CAP), true),
+            LocalKind::Disable => self.switch(number(call, CAP), false),
             LocalKind::Scissor => self.set_scissor_box(call),
             LocalKind::Viewport => self.set_viewport(call),
             LocalKind::ClearColorx => self.set_clear_color(call),
             LocalKind::Color4x => self.set_color(call),
             LocalKind::ColorMask => self.set_mask(call),
-            LocalKind::TexEnvx => self.set_environment(number(call, 2)),
-            LocalKind::PixelStorei => self.align(number(call, 0), number(call, 1)),
+            LocalKind::TexEnvx => self.set_environment(number(call, ENVIRONMENT_PARAM)),
+            LocalKind::PixelStorei => self.align(number(call, PNAME), number(call, PARAM)),
             LocalKind::ClearDepthx | LocalKind::ClearStencil | LocalKind::GetIntegerv => {}
         }
     }

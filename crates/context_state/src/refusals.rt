@@ -7,6 +7,7 @@ ghost use Rattle.context_state.specs.Refusals.{refusal};
 use crate::arguments::{has_negative_side, number, signed};
 use crate::bindings::is_binding_code;
 use crate::kinds::LocalKind;
+use call_rules::places::{CAP, ENVIRONMENT_PARAM, ENVIRONMENT_PNAME, INDEX, PARAM, PNAME, TARGET};
 use egl_calls::{Call, GlError};
 use egl_names::codes::{
     GL_ALPHA_TEST, GL_BLEND, GL_CULL_FACE, GL_DEPTH_TEST, GL_DITHER, GL_FOG, GL_LIGHTING,
@@ -81,12 +82,12 @@ pub(crate) fn refusal(kind: LocalKind, call: &Call) -> Option<GlError>
 {
     match kind {
         LocalKind::Enable => {
-            if !may_enable(number(call, 0)) {
+            if !may_enable(number(call, CAP)) {
                 return Some(GlError::InvalidEnum);
             }
         }
         LocalKind::Disable => {
-            if !may_disable(number(call, 0)) {
+            if !may_disable(number(call, CAP)) {
                 return Some(GlError::InvalidEnum);
             }
         }
@@ -96,23 +97,27 @@ pub(crate) fn refusal(kind: LocalKind, call: &Call) -> Option<GlError>
             }
         }
         LocalKind::TexEnvx => {
-            if !is_environment(number(call, 0), number(call, 1), number(call, 2)) {
+            if !is_environment(
+                number(call, TARGET),
+                number(call, ENVIRONMENT_PNAME),
+                number(call, ENVIRONMENT_PARAM),
+            ) {
                 return Some(GlError::InvalidEnum);
             }
         }
         LocalKind::PixelStorei => {
-            if !is_store(number(call, 0)) {
+            if !is_store(number(call, PNAME)) {
                 return Some(GlError::InvalidEnum);
             }
-            if !is_alignment(number(call, 1)) {
+            if !is_alignment(number(call, PARAM)) {
                 return Some(GlError::InvalidValue);
             }
         }
         LocalKind::GetIntegerv => {
-            if !is_parameter(number(call, 0)) {
+            if !is_parameter(number(call, PNAME)) {
                 return Some(GlError::InvalidEnum);
             }
-            if !is_index(number(call, 0), signed(call, 1)) {
+            if !is_index(number(call, PNAME), signed(call, INDEX)) {
                 return Some(GlError::InvalidValue);
             }
         }

@@ -4,6 +4,7 @@ ghost use Rattle.trace_reader.specs.Heads.{window_with};
 ghost use Rattle.trace_reader.specs.Pixels.{rows_of_bytes, rectangle_bytes, shown_bytes, pixel_bytes};
 
 use crate::windows::{area, window_with};
+use call_rules::places::{FRONT, HEIGHT, WIDTH};
 use egl_calls::{Call, GlKind, Kind, OwnKind, unsigned};
 use surface_store::WindowSpec;
 
@@ -41,8 +42,8 @@ pub fn pixel_bytes(windows: &[WindowSpec], call: &Call) -> u128
     ensures { result ≡ pixel_bytes windows.now call.now }
 {
     match call.kind {
-        Kind::Gl(GlKind::ReadPixels) => rectangle_bytes(call.args[2], call.args[3]),
-        Kind::Own(OwnKind::ReadFront) => shown_bytes(windows, call.args[0]),
+        Kind::Gl(GlKind::ReadPixels) => rectangle_bytes(call.args[WIDTH], call.args[HEIGHT]),
+        Kind::Own(OwnKind::ReadFront) => shown_bytes(windows, call.args[FRONT]),
         _ => 0,
     }
 }

@@ -7,6 +7,7 @@ ghost use Rattle.trace_session.specs.Uses.{IsUse};
 ghost use Rattle.trace_session.specs.Learning.{posted_by, posted_with};
 
 use crate::answers::are_answered;
+use call_rules::places::POSTED;
 use egl_calls::{Call, Entry, Kind, NoMemory, OwnKind, Reply, unsigned};
 use indexmap::IndexSet;
 use std::alloc::Global;
@@ -55,9 +56,9 @@ impl Posts {
 
 /// The number that a call of `post` or `await` has.
 pub fn number_of(call: &Call) -> u64
-    ensures { result ≡ number call.now 0 }
+    ensures { result ≡ number call.now POSTED }
 {
-    unsigned(call.args[0])
+    unsigned(call.args[POSTED])
 }
 
 pub fn is_post(kind: Kind) -> bool
