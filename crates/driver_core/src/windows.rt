@@ -1,5 +1,5 @@
 //! eglCreateWindowSurface (EGL 1.5, section 3.5.1), eglSwapBuffers (section 3.10.1), and what windows show.
-ghost use Rattle.std.specs.Prelude.{◌≡◌, ◌<◌, ◌≤◌, pos, ◌≤ℤ◌, true, Some, IfOk, IfSome, IsSome, OnOk, OnErr};
+ghost use Rattle.std.specs.Prelude.{◌≡◌, ◌<◌, ◌≤◌, pos, ◌≤ℤ◌, true, IfOk, IfSome, IsSome, OnOk, OnErr};
 ghost use Rattle.egl_calls.specs.Ranges.{IsNumber};
 ghost use Rattle.call_rules.specs.Arguments.{signed};
 ghost use Rattle.pixel_rows.specs.Images.{blank};

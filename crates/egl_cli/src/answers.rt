@@ -1,5 +1,5 @@
 //! What the program says to the bytes of its input.
-ghost use Rattle.std.specs.Prelude.{◌≡◌, ◌≤◌, ◌++◌, true, false, length, IfOk};
+ghost use Rattle.std.specs.Prelude.{◌≡◌, ◌≤◌, true, false, length, IfOk};
 ghost use Rattle.trace_model.specs.Serial.{state_behind};
 ghost use Rattle.egl_cli.specs.Answers.{reason_name, malformed_text, journal_answer, run_answer};
 

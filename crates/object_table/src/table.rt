@@ -1,5 +1,5 @@
 //! The table itself.
-ghost use Rattle.std.specs.Prelude.{◌≡◌, ◌≢◌, ℕ, List, ◌+◌, ◌-◌, ◌<◌, ◌≤◌, ◌^◌, Some, None, [], ◌∷◌, ◌++◌, length, slice_index_or, IsSome, IfSome, true, OnOk, OnErr, option_copied};
+ghost use Rattle.std.specs.Prelude.{◌≡◌, ◌≢◌, ℕ, List, ◌+◌, ◌-◌, ◌<◌, ◌≤◌, ◌^◌, Some, None, [], ◌∷◌, ◌++◌, length, slice_index_or, IsSome, OnOk, OnErr};
 ghost use Rattle.driver_objects.specs.Objects.{edges_of, rank_of};
 ghost use Rattle.egl_model.specs.Links.{rank_in};
 ghost use Rattle.egl_model.specs.Sweep.{swept};

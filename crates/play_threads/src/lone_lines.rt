@@ -1,5 +1,5 @@
 //! Lines that a thread's private part answers, with no turn.
-ghost use Rattle.std.specs.Prelude.{◌≡◌, ◌<◌, ◌+◌, true, false, List, IfOk, OnOk};
+ghost use Rattle.std.specs.Prelude.{◌≡◌, ◌<◌, ◌+◌, true, false, List, OnOk};
 ghost use Rattle.egl_calls.specs.Journals.{are_halted};
 ghost use Rattle.egl_calls.specs.declared.entries.Entry.{Entry as AnEntry};
 ghost use Rattle.trace_session.specs.Answers.{IsLone};
@@ -12,7 +12,7 @@ ghost use Rattle.play_threads.specs.Work.{PlayLone};
 
 use crate::gates::{Gate, announce};
 use crate::pickers::LinePicker;
-use egl_calls::{Call, NoMemory};
+use egl_calls::NoMemory;
 use shared_driver::Thread;
 use std::alloc::Global;
 use trace_reader::Line;

@@ -1,9 +1,7 @@
 //! What a worker picks, by what it knows of the journal.
-ghost use Rattle.std.specs.Prelude.{◌≡◌, ◌<◌, ◌≤◌, ◌+◌, ◌-◌, ◌^◌, ◌||◌, ◌∷◌, ◌++◌, [], true, length, slice_get, Some, IfOk, IfSome, OnOk, List};
+ghost use Rattle.std.specs.Prelude.{◌≡◌, ◌<◌, ◌+◌, ◌-◌, ◌^◌, ◌||◌, ◌∷◌, ◌++◌, [], true, length, slice_get, Some, IfOk, IfSome, OnOk, List};
 ghost use Rattle.egl_calls.specs.Journals.{is_halt};
 ghost use Rattle.egl_calls.specs.declared.entries.Entry.{Entry as AnEntry};
-ghost use Rattle.egl_model.specs.State.{State};
-ghost use Rattle.driver_core.specs.Machine.{Machine};
 ghost use Rattle.trace_reader.specs.declared.traces.Line.{Line as ALine};
 ghost use Rattle.trace_model.specs.Turns.{next_line};
 ghost use Rattle.trace_model.specs.Serial.{next_call};
@@ -11,7 +9,6 @@ ghost use Rattle.trace_model.specs.Stalled.{is_stalled};
 ghost use Rattle.trace_session.specs.Answers.{IsLone};
 ghost use Rattle.trace_session.specs.Facts.{HasFacts};
 ghost use Rattle.trace_session.specs.Sessions.{Knows};
-ghost use Rattle.shared_driver.specs.declared.picks.Pick.{Pick as ThePick};
 ghost use Rattle.shared_driver.specs.Cores.{entry, of_number};
 ghost use Rattle.shared_driver.specs.Picks.{IsBuiltPick};
 ghost use Rattle.play_threads.specs.Picks.{HasLearnt, IsPickOf, MayLook, Picks, have_others_halted};

@@ -1,5 +1,5 @@
 //! The workers of a run, each with a token.
-ghost use Rattle.std.specs.Prelude.{◌≡◌, ◌<◌, ◌+◌, ◌≤◌, [], true, false, All, vec_len, vec_capacity};
+ghost use Rattle.std.specs.Prelude.{◌≡◌, ◌<◌, ◌+◌, [], true, false, All, vec_len, vec_capacity};
 ghost use Rattle.egl_model.specs.State.{opening};
 ghost use Rattle.shared_driver.specs.Tokens.{IsOf, mine, opening_of, token_of};
 ghost use Rattle.play_threads.specs.Plays.{IsReady, IsThrough, OwnersPlay};

@@ -1,5 +1,5 @@
 //! The value under the lock.
-ghost use Rattle.std.specs.Prelude.{◌≡◌, ◌<◌, ◌≤◌, ◌+◌, ◌-◌, [], ◌∷◌, ◌++◌, true, false, length, IfOk, IfSome, IfNone, OnSome, IfErr, OnOk, OnErr, IsOk, slice_index, slice_index_or, slice_set};
+ghost use Rattle.std.specs.Prelude.{◌≡◌, ◌<◌, ◌≤◌, ◌+◌, ◌-◌, [], ◌∷◌, ◌++◌, true, false, length, IfOk, IfSome, IfNone, OnSome, OnOk, OnErr, IsOk, slice_index, slice_index_or, slice_set};
 ghost use Rattle.std.specs.VecDeque.{deque_capacity};
 ghost use Rattle.egl_calls.specs.Kinds.{is_built};
 ghost use Rattle.surface_store.specs.Windows.{windows_ok};

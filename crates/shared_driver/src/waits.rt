@@ -1,7 +1,7 @@
 //! A wait for a sync, until it ends.
-ghost use Rattle.std.specs.Prelude.{◌≡◌, ◌∷◌, ◌++◌, [], IfSome, IfNone, OnSome};
+ghost use Rattle.std.specs.Prelude.{◌≡◌, ◌∷◌, [], IfSome, IfNone, OnSome};
 ghost use Rattle.shared_driver.specs.Cores.{entry, wait_end_call, wait_ended};
-ghost use Rattle.shared_driver.specs.Tokens.{Goes, HasPlace, IsOf, IsSame, Learns, mine, token_of};
+ghost use Rattle.shared_driver.specs.Tokens.{Goes, HasPlace, IsOf, IsSame, Learns, token_of};
 
 use crate::tokens::{Shared, Thread};
 use egl_calls::Reply;

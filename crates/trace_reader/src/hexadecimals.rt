@@ -1,5 +1,5 @@
 //! Hexadecimal numbers.
-ghost use Rattle.std.specs.Prelude.{◌≡◌, ℕ, ◌<◌, ◌≤◌, ◌^◌, length, true, IfSome};
+ghost use Rattle.std.specs.Prelude.{◌≡◌, ◌<◌, ◌≤◌, ◌^◌, length, true, IfSome};
 ghost use Rattle.trace_reader.specs.Hexadecimals.{is_hex_digit, hex_digit, hex_after, has_hex_form, hexadecimal};
 
 fn is_hex_digit(b: u8) -> bool
