@@ -1,6 +1,6 @@
 //! Values by number.
 
-ghost use Rattle.std.specs.Prelude.{◌≡◌, ◌≢◌, ℕ, ◌+◌, ◌-◌, ◌<◌, ◌≤◌, ◌^◌, [], length, is_some, Some, None, IsSome, OnOk, OnErr, slice_set, option_copied};
+ghost use Rattle.std.specs.Prelude.{◌≡◌, ℕ, ◌+◌, ◌-◌, ◌<◌, ◌^◌, [], length, is_some, Some, None, IsSome, OnOk, OnErr, slice_set, option_copied};
 ghost use Rattle.std.specs.Borrow.{sem};
 ghost use Rattle.std.specs.List.{count_by};
 ghost use Rattle.std.specs.Option.{option_copied_mut};
@@ -76,6 +76,7 @@ impl<X: Drop> Numbered<X> {
     }
 
     /// The value of a number.
+    #[inline(always)]
     pub fn get(&self, n: u64) -> Option<&X>
         ensures { option_copied result ≡ at self.now.items n }
     {
@@ -83,6 +84,7 @@ impl<X: Drop> Numbered<X> {
     }
 
     /// The value of a number, to write.
+    #[inline(always)]
     pub fn get_mut(&mut self, n: u64) -> Option<&mut X>
         ensures* writes_back { sem 𝓛 (lends_value X.row self.entry n result) }
         ensures value { option_copied_mut result ≡ at self.old.items n }
@@ -128,6 +130,17 @@ impl<X: Drop> Numbered<X> {
             }
             None => None,
         }
+    }
+
+    /// Drops the value of a number where it stands, so that it isn't moved. Its room stays with the values, as after `remove`.
+    #[inline(always)]
+    pub fn clear(&mut self, n: u64)
+        requires stored { IsSome (at self.old.items n) }
+        ensures items { self.new.items ≡ slice_set self.old.items n None }
+        ensures room { self.new.room ≡ self.old.room }
+    {
+        self.table.clear(n);
+        self.live -= 1;
     }
 
     /// There are few values. This is a law: there is nothing to run.

@@ -51,12 +51,23 @@ impl<X: Drop> Table<X> {
         }
     }
 
+    // The value of a number that isn't at home. What is done among the others is long and rare, so it is kept out of the
+    // callers, and what is done at home is short enough to be inlined.
+    #[inline(never)]
+    fn other(&self, n: u64) -> Option<&X>
+        requires { homed self.now n ≡ None }
+        ensures { option_copied result ≡ found self.now n }
+    {
+        self.others.get(&n)
+    }
+
+    #[inline(always)]
     pub(crate) fn get(&self, n: u64) -> Option<&X>
         ensures { option_copied result ≡ found self.now n }
     {
         match self.home(n) {
             Some(value) => Some(value),
-            None => self.others.get(&n),
+            None => self.other(n),
         }
     }
 
@@ -69,6 +80,16 @@ impl<X: Drop> Table<X> {
         self.homes[place].value_mut()
     }
 
+    #[inline(never)]
+    fn other_mut(&mut self, n: u64) -> Option<&mut X>
+        requires { homed self.old n ≡ None }
+        ensures* writes_back { sem 𝓛 (lends_found X.row self.entry n result) }
+        ensures value { option_copied_mut result ≡ found self.old n }
+    {
+        self.others.get_mut(&n)
+    }
+
+    #[inline(always)]
     pub(crate) fn get_mut(&mut self, n: u64) -> Option<&mut X>
         ensures* writes_back { sem 𝓛 (lends_found X.row self.entry n result) }
         ensures value { option_copied_mut result ≡ found self.old n }
@@ -76,7 +97,7 @@ impl<X: Drop> Table<X> {
         if self.home(n).is_some() {
             Some(self.home_mut(n))
         } else {
-            self.others.get_mut(&n)
+            self.other_mut(n)
         }
     }
 
@@ -109,6 +130,17 @@ impl<X: Drop> Table<X> {
         }
     }
 
+    #[inline(never)]
+    fn take_other(&mut self, n: u64) -> Option<X>
+        requires away { homed self.old n ≡ None }
+        requires laid { IsLaid self.old }
+        ensures value { result ≡ found self.old n }
+        ensures taken { Puts self.old self.new n None }
+        ensures room { spare self.old.others ≤ spare self.new.others }
+    {
+        self.others.swap_remove(&n)
+    }
+
     pub(crate) fn take(&mut self, n: u64) -> Option<X>
         requires laid { IsLaid self.old }
         ensures value { result ≡ found self.old n }
@@ -119,7 +151,22 @@ impl<X: Drop> Table<X> {
             let place = self.place(n);
             self.homes[place].take()
         } else {
-            self.others.swap_remove(&n)
+            self.take_other(n)
+        }
+    }
+
+    // Drops the value of a number where it stands.
+    #[inline(always)]
+    pub(crate) fn clear(&mut self, n: u64)
+        requires laid { IsLaid self.old }
+        ensures cleared { Puts self.old self.new n None }
+        ensures room { spare self.old.others ≤ spare self.new.others }
+    {
+        if self.home(n).is_some() {
+            let place = self.place(n);
+            self.homes[place] = Home::Vacant;
+        } else {
+            self.take_other(n);
         }
     }
 
