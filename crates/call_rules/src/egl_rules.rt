@@ -7,10 +7,11 @@ ghost use Rattle.egl_calls.specs.declared.errors.EglError.TheVariants.{NotInitia
 ghost use Rattle.call_rules.specs.Rows.{first_error, ◌⇒◌};
 ghost use Rattle.call_rules.specs.EglRules.{egl_refusal, egl_rows, fact_rows, display_row, current_rows, has_attributes, has_code, is_wrong, is_long, is_later_version, is_supported_version};
 
+use crate::arguments::{is_zero, number};
 use crate::egl_facts::EglFacts;
 use crate::places::{API, ATTRIBUTE, CONTEXT, DRAW, FLAGS, READ, READDRAW, SYNC_TYPE, VALUE};
 use crate::rows::first_error;
-use egl_calls::{Call, EglError, EglKind, Kind, unsigned};
+use egl_calls::{Call, EglError, EglKind, Kind};
 use egl_names::codes::{
     EGL_BUFFER_DESTROYED, EGL_BUFFER_PRESERVED, EGL_DRAW, EGL_OPENGL_ES_API, EGL_READ,
     EGL_SWAP_BEHAVIOR, EGL_SYNC_FENCE,
@@ -46,15 +47,7 @@ fn has_code(call: &Call, place: usize, code: u64) -> bool
     requires { place < 8 }
     ensures { result ≡ has_code call.now place code }
 {
-    unsigned(call.args[place]) == code
-}
-
-/// Whether the number at a place is 0.
-fn is_zero(call: &Call, place: usize) -> bool
-    requires { place < 8 }
-    ensures { result ≡ is_zero call.now place }
-{
-    call.args[place] == 0
+    number(call, place) == code
 }
 
 /// Whether an attribute list has anything.

@@ -12,7 +12,8 @@ use Rattle.egl_names.specs.declared.codes.TheConstants.{GL_TEXTURE_2D, GL_SCISSO
 use Rattle.call_rules.specs.declared.places.TheConstants.{CAP, ENVIRONMENT_PARAM, INDEX, PARAM, PNAME}
 use Rattle.context_state.specs.declared.kinds.LocalKind.{LocalKind}
 use Rattle.context_state.specs.declared.kinds.LocalKind.TheVariants.{GetError, Enable, Disable, Scissor, Viewport, ClearColorx, Color4x, ClearDepthx, ClearStencil, ColorMask, TexEnvx, PixelStorei, GetIntegerv}
-use Rattle.context_state.specs.Arguments.{number, box, colour, mask}
+use Rattle.call_rules.specs.Arguments.{number}
+use Rattle.context_state.specs.Arguments.{box, colour, mask}
 use Rattle.context_state.specs.Bindings.{name_bound}
 use Rattle.context_state.specs.Kinds.{local_kind}
 use Rattle.context_state.specs.Parts.{PartValue, noted}

@@ -8,7 +8,8 @@ use Rattle.egl_calls.specs.declared.errors.GlError.TheVariants.{InvalidEnum, Inv
 use Rattle.call_rules.specs.declared.places.TheConstants.{CAP, ENVIRONMENT_PARAM, ENVIRONMENT_PNAME, INDEX, PARAM, PNAME, TARGET}
 use Rattle.context_state.specs.declared.kinds.LocalKind.{LocalKind}
 use Rattle.context_state.specs.declared.kinds.LocalKind.TheVariants.{GetError, Enable, Disable, Scissor, Viewport, ClearColorx, Color4x, ClearDepthx, ClearStencil, ColorMask, TexEnvx, PixelStorei, GetIntegerv}
-use Rattle.context_state.specs.Arguments.{signed, number, may_enable, may_disable, is_environment, is_store, is_parameter, is_index, has_negative_side}
+use Rattle.call_rules.specs.Arguments.{signed, number}
+use Rattle.context_state.specs.Arguments.{may_enable, may_disable, is_environment, is_store, is_parameter, is_index, has_negative_side}
 use Rattle.context_state.specs.Parts.{is_alignment}
 
 abbrev pub refusal : LocalKind → CallValue → Option GlError

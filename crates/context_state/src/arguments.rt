@@ -1,28 +1,12 @@
 //! The numbers of a call.
 ghost use Rattle.std.specs.Prelude.{◌≡◌, ◌<◌, true, false};
-ghost use Rattle.context_state.specs.Arguments.{box, colour, has_negative_side, is_set, mask, number, signed};
+ghost use Rattle.context_state.specs.Arguments.{box, colour, has_negative_side, is_set, mask};
 ghost use Rattle.context_state.specs.Local.{is_local};
 ghost use Rattle.context_state.specs.Parts.{AreClamped, IsBox, IsClamped, clamped};
 
 use crate::parts::ONE;
 use call_rules::places::{ALPHA, BLUE, GREEN, RED};
-use egl_calls::{Call, unsigned};
-
-/// A number of a call, as it was given.
-pub(crate) fn signed(call: &Call, place: usize) -> i64
-    requires { place < 8 }
-    ensures { result ≡ signed call.now place }
-{
-    call.args[place]
-}
-
-/// A number of a call, or 0 where it is negative.
-pub(crate) fn number(call: &Call, place: usize) -> u64
-    requires { place < 8 }
-    ensures { result ≡ number call.now place }
-{
-    unsigned(call.args[place])
-}
+use egl_calls::Call;
 
 /// Whether the width or the height of a box is negative.
 pub(crate) fn has_negative_side(call: &Call) -> bool

@@ -8,11 +8,12 @@ ghost use Rattle.context_state.specs.Local.{aligned, answered, apply, changed, i
 ghost use Rattle.context_state.specs.Parts.{is_alignment};
 ghost use Rattle.context_state.specs.Refusals.{refusal};
 
-use crate::arguments::{box_of, colour, mask, number};
+use crate::arguments::{box_of, colour, mask};
 use crate::bindings::name_bound;
 use crate::kinds::{LocalKind, local_kind};
 use crate::parts::ContextPart;
 use crate::refusals::refusal;
+use call_rules::arguments::number;
 use call_rules::places::{CAP, ENVIRONMENT_PARAM, INDEX, PARAM, PNAME};
 use egl_calls::{Bytes, Call, GlError, Numbers, Outcome, Reply};
 use egl_names::codes::{

@@ -1,5 +1,5 @@
 //! What a context keeps for itself.
-ghost use Rattle.std.specs.Prelude.{◌≡◌, ℕ, pos, true, if◌then◌else◌, Some, None, IfSome};
+ghost use Rattle.std.specs.Prelude.{◌≡◌, true, if◌then◌else◌, Some, None, IfSome};
 ghost use Rattle.egl_calls.specs.Ranges.{unsigned};
 ghost use Rattle.context_state.specs.Bindings.{is_binding, name_bound, with_name};
 ghost use Rattle.context_state.specs.Parts.{AreClamped, IsAlignment, IsBox, fresh, first_current, noted};

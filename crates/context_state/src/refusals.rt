@@ -4,9 +4,10 @@ ghost use Rattle.context_state.specs.Arguments.{may_enable, may_disable, is_envi
 ghost use Rattle.context_state.specs.Parts.{is_alignment};
 ghost use Rattle.context_state.specs.Refusals.{refusal};
 
-use crate::arguments::{has_negative_side, number, signed};
+use crate::arguments::has_negative_side;
 use crate::bindings::is_binding_code;
 use crate::kinds::LocalKind;
+use call_rules::arguments::{number, signed};
 use call_rules::places::{CAP, ENVIRONMENT_PARAM, ENVIRONMENT_PNAME, INDEX, PARAM, PNAME, TARGET};
 use egl_calls::{Call, GlError};
 use egl_names::codes::{

@@ -22,13 +22,13 @@ ghost use Rattle.egl_model.specs.Sound.{IsSound};
 ghost use Rattle.egl_model.specs.Hidden.{hide};
 ghost use Rattle.driver_core.specs.Machine.{outs};
 
-use crate::arguments::signed;
 use crate::configs::attribute_value;
 use crate::currents::api_code;
 use crate::displays::display_of;
 use crate::machine::Driver;
 use crate::replies::{bare, listed, read, valued};
 use attrib_lists::AttribError;
+use call_rules::arguments::signed;
 use call_rules::places::DISPLAY_ID;
 use config_match::Configs;
 use display_table::HandleKind;

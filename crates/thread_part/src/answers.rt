@@ -12,27 +12,14 @@ ghost use Rattle.egl_model.specs.Drawing.{clears_colour, read_form, read_rect};
 ghost use Rattle.egl_model.specs.GlFacts.{no_framebuffer};
 ghost use Rattle.egl_model.specs.Local.{local_refusal};
 
+use call_rules::arguments::{number, signed};
 use call_rules::places::{DISPLAY_ID, HEIGHT, MASK, READDRAW, TYPE, WIDTH, X, Y};
 use call_rules::{EglFacts, GlFacts};
-use egl_calls::{Call, EglError, GlError, unsigned};
+use egl_calls::{Call, EglError, GlError};
 use egl_model::ClientApi;
 use egl_names::codes::{EGL_DRAW, EGL_OPENGL_ES_API, GL_COLOR_BUFFER_BIT, GL_UNSIGNED_SHORT_5_6_5};
 use pixel_formats::Format;
 use pixel_rows::Rect;
-
-fn signed(call: &Call, place: usize) -> i64
-    requires { place < 8 }
-    ensures { result ≡ signed call.now place }
-{
-    call.args[place]
-}
-
-fn number(call: &Call, place: usize) -> u64
-    requires { place < 8 }
-    ensures { result ≡ number call.now place }
-{
-    unsigned(call.args[place])
-}
 
 /// The display that eglGetDisplay answers, or 0 (EGL 1.5, section 3.2).
 pub fn display_of(call: &Call) -> i64
