@@ -132,7 +132,7 @@ impl<X: Drop> Numbered<X> {
         }
     }
 
-    /// Drops the value of a number where it stands, so that it isn't moved. Its room stays with the values, as after `remove`.
+    /// Drops the value of a number, where it stands if that is at home. Its room stays with the values, as after `remove`.
     #[inline(always)]
     pub fn clear(&mut self, n: u64)
         requires stored { IsSome (at self.old.items n) }

@@ -155,7 +155,7 @@ impl<X: Drop> Table<X> {
         }
     }
 
-    // Drops the value of a number where it stands.
+    // Drops the value of a number, at home where it stands.
     #[inline(always)]
     pub(crate) fn clear(&mut self, n: u64)
         requires laid { IsLaid self.old }
