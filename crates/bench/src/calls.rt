@@ -1,82 +1,24 @@
-//! The calls that are timed, and those that go before.
-ghost use Rattle.std.specs.Prelude.{◌≡◌, true, false, All, IfOk};
-ghost use Rattle.egl_calls.specs.Kinds.{is_built};
+//! Calls of displays and surfaces that parts make.
+ghost use Rattle.std.specs.Prelude.{◌≡◌, All, IfOk};
+ghost use Rattle.egl_calls.specs.declared.kinds.EglKind.TheVariants.{CreatePbufferSurface, DestroySurface, Initialize};
+ghost use Rattle.egl_calls.specs.declared.kinds.Kind.TheVariants.{Egl};
 ghost use Rattle.egl_calls.specs.Ranges.{IsNumber};
-ghost use Rattle.egl_model.specs.Waits.{is_wait_end};
 
-use egl_calls::{Call, EglKind, GlKind, Kind, NoMemory, Numbers, set_argument};
-use egl_names::codes::{EGL_HEIGHT, EGL_WIDTH, GL_COLOR_BUFFER_BIT};
+use egl_calls::{Call, EglKind, Kind, NoMemory, Numbers, set_argument};
+use egl_names::codes::{EGL_HEIGHT, EGL_WIDTH};
 use std::alloc::Global;
 
-/// A sort of call.
-#[derive(Clone, Copy, Drop)]
-pub enum Sort {
-    /// eglGetDisplay of the default display.
-    Display,
-    /// eglGetError.
-    Error,
-    /// glClear of a surface of 64 by 64 pixels.
-    Clear,
-    /// glClearColorx.
-    Colour,
-    /// The last two by turns.
-    Drawing,
-}
+/// How many bytes of pixels there may be in a driver.
+pub const PIXEL_BYTES: u64 = 67_108_864;
 
-/// Who answers a call.
-#[derive(Clone, Copy, Drop)]
-pub enum Way {
-    /// The driver, in a turn of the lock.
-    Turn,
-    /// The thread's private part, in all places that there are; once they are taken a call gives them back in a turn.
-    Part,
-}
+/// The display that calls name, which has this handle in every driver.
+pub const DISPLAY: u32 = 1;
 
-impl Way {
-    pub fn name(self) -> &'static str {
-        match self {
-            Way::Turn => "",
-            Way::Part => " by their own parts",
-        }
-    }
-}
+/// The config of surfaces and contexts.
+pub const CONFIG: u32 = 4;
 
-/// How many calls go before, for each thread.
-pub const BEFORE: u32 = 4;
-
-/// The first handle that the driver gives.
-const FIRST_HANDLE: u32 = 3;
-
-impl Sort {
-    pub fn name(self) -> &'static str {
-        match self {
-            Sort::Display => "eglGetDisplay",
-            Sort::Error => "eglGetError",
-            Sort::Clear => "glClear of 64 by 64",
-            Sort::Colour => "glClearColorx",
-            Sort::Drawing => "glClearColorx and glClear by turns",
-        }
-    }
-
-    /// The call at a place among those of its sort.
-    pub fn call(self, alloc: Global, place: u64) -> Call
-        ensures built { is_built result.kind ≡ true }
-        ensures kind { is_wait_end result.kind ≡ false }
-    {
-        let clear = (Kind::Gl(GlKind::Clear), GL_COLOR_BUFFER_BIT as u32);
-        let colour = (Kind::Gl(GlKind::ClearColorx), 65_536);
-        let (kind, number) = match self {
-            Sort::Display => (Kind::Egl(EglKind::GetDisplay), 0),
-            Sort::Error => (Kind::Egl(EglKind::GetError), 0),
-            Sort::Clear => clear,
-            Sort::Colour => colour,
-            Sort::Drawing => { if place % 2 == 0 { colour } else { clear } }
-        };
-        call_with(kind, [number, 0, 0, 0], Numbers::new(alloc))
-    }
-}
-
-fn call_with(kind: Kind, numbers: [u32; 4], list: Numbers) -> Call
+/// A call with four numbers and a list.
+pub fn call_with(kind: Kind, numbers: [u32; 4], list: Numbers) -> Call
     requires { All IsNumber list }
     ensures { result.kind ≡ kind }
 {
@@ -94,32 +36,43 @@ fn call_with(kind: Kind, numbers: [u32; 4], list: Numbers) -> Call
     }
 }
 
-fn sides(alloc: Global) -> Result<Numbers, NoMemory>
+// The attributes of a surface with as many columns as rows.
+fn sides(alloc: Global, side: u32) -> Result<Numbers, NoMemory>
     ensures { IfOk result (All IsNumber) }
 {
-    let pairs = [EGL_WIDTH as i64, 64, EGL_HEIGHT as i64, 64];
+    let pairs = [
+        EGL_WIDTH as i64,
+        i64::from(side),
+        EGL_HEIGHT as i64,
+        i64::from(side),
+    ];
     match Vec::from_slice(alloc, &pairs) {
         Ok(items) => Ok(Numbers::from_vec(items)),
         Err(_) => Err(NoMemory),
     }
 }
 
-/// The calls that make a surface and a context current to the thread at a place, by their order.
-pub fn before(alloc: Global, place: u16, step: u32) -> Result<Call, NoMemory>
-    ensures built { IfOk result (λ c. is_built c.kind ≡ true) }
-    ensures kind { IfOk result (λ c. is_wait_end c.kind ≡ false) }
+/// eglInitialize.
+pub fn initialize(alloc: Global) -> Call
+    ensures { result.kind ≡ Egl Initialize }
 {
-    let surface = FIRST_HANDLE + 2 * u32::from(place);
-    let (kind, numbers) = match step {
-        0 => (EglKind::Initialize, [1, 0, 0, 0]),
-        1 => (EglKind::CreatePbufferSurface, [1, 4, 0, 0]),
-        2 => (EglKind::CreateContext, [1, 4, 0, 0]),
-        _ => (EglKind::MakeCurrent, [1, surface, surface, surface + 1]),
-    };
-    let list = if step == 1 {
-        sides(alloc)?
-    } else {
-        Numbers::new(alloc)
-    };
-    Ok(call_with(Kind::Egl(kind), numbers, list))
+    let kind = Kind::Egl(EglKind::Initialize);
+    call_with(kind, [DISPLAY, 0, 0, 0], Numbers::new(alloc))
+}
+
+/// eglCreatePbufferSurface of so many columns and rows.
+pub fn create_pbuffer(alloc: Global, side: u32) -> Result<Call, NoMemory>
+    ensures { IfOk result (λ c. c.kind ≡ Egl CreatePbufferSurface) }
+{
+    let list = sides(alloc, side)?;
+    let kind = Kind::Egl(EglKind::CreatePbufferSurface);
+    Ok(call_with(kind, [DISPLAY, CONFIG, 0, 0], list))
+}
+
+/// eglDestroySurface.
+pub fn destroy_surface(alloc: Global, surface: u32) -> Call
+    ensures { result.kind ≡ Egl DestroySurface }
+{
+    let kind = Kind::Egl(EglKind::DestroySurface);
+    call_with(kind, [DISPLAY, surface, 0, 0], Numbers::new(alloc))
 }

@@ -1,20 +1,20 @@
-//! Measures writes into images of 2,048 by 2,048 pixels, their rows as bytes, draws and copies, beside
-//! a plain copy of as many bytes, and the memory that 64 such images take. With the word `measure` it prints millions
-//! of pixels a second, which differ from run to run; without it it prints nothing.
-#![tactic(auto)]
+//! Writes into images, their rows as bytes, loads, draws and copies between images in each format, beside a plain copy of
+//! as many bytes, and the memory that images take.
 
 mod draws;
-mod memory;
+mod images;
+mod telling;
 mod work;
 
-use anyhow::Result;
+use crate::extents::Extent;
+use anyhow::{Result, bail};
 use draws::{context, copies, cropped, draw};
-use egl_calls::Bytes;
-use pixel_formats::{Format, bytes_of};
+use pixel_formats::Format;
 use pixel_rows::Image;
-use std::env;
+use std::rt::{Clock, Files};
 use std::time::Instant;
-use work::{ALL, RED, SIDE, copy, fill, filled, load, rows, speed};
+use telling::{tell, tell_image};
+use work::{ALL, GREY, ORANGE, RED, copy, fill, load, payload, rounds, rows, side};
 
 const FORMATS: [Format; 8] = [
     Format::Rgb565,
@@ -27,79 +27,135 @@ const FORMATS: [Format; 8] = [
     Format::La88,
 ];
 
-/// Measures one format beside a copy of as many bytes.
-fn measure(rt: &HostRuntime, f: Format) -> Result<()> {
-    let size = bytes_of(f) as usize;
-    let from = filled(rt.alloc(), size, 7)?;
-    let mut to = filled(rt.alloc(), size, 0)?;
+/// The formats that rows are given in and loaded from, beside the image's own.
+const OTHERS: [Format; 2] = [Format::Rgba8888, Format::Rgb565];
+
+fn measure_copy<R: Clock + Print + AllocGlobal>(rt: &R, extent: Extent, f: Format) -> Result<()> {
+    let from = payload(rt.alloc(), f, extent)?;
+    let mut to = Vec::new(rt.alloc());
+    to.resize(from.as_slice().len(), 0)?;
     let start = Instant::now(rt)?;
-    let sum = copy(to.as_mut_slice(), from.as_slice());
-    let copied = speed(start.elapsed(rt)?.as_nanos());
-    println!(rt; "{f:?}: copy {copied} ({sum})")?;
-    let Ok(mut image) = Image::new(rt.alloc(), f, SIDE, SIDE) else {
-        return Ok(());
-    };
-    let start = Instant::now(rt)?;
-    fill(&mut image, ALL);
-    let all = speed(start.elapsed(rt)?.as_nanos());
-    let start = Instant::now(rt)?;
-    fill(&mut image, RED);
-    let red = speed(start.elapsed(rt)?.as_nanos());
-    println!(rt; "{f:?}: fill {all}, of red alone {red}")?;
-    measure_rows(rt, &image, f)?;
-    measure_draws(rt, &image, f)?;
-    measure_loads(rt, &mut image, Bytes::from_vec(from), f)
+    copy(to.as_mut_slice(), from.as_slice(), rounds(extent));
+    let took = start.elapsed(rt)?;
+    tell(rt, extent, f, "plain copy", took, to.as_slice())
 }
 
-fn measure_rows(rt: &HostRuntime, image: &Image, f: Format) -> Result<()> {
-    for to in [f, Format::Rgba8888, Format::Rgb565] {
+fn measure_fills<R: Clock + Print + AllocGlobal>(
+    rt: &R,
+    extent: Extent,
+    image: &mut Image,
+) -> Result<()> {
+    let fills = [(ORANGE, ALL, "fill"), (GREY, RED, "fill of red alone")];
+    for (colour, mask, name) in fills {
         let start = Instant::now(rt)?;
-        let long = rows(rt.alloc(), image, to);
-        let took = speed(start.elapsed(rt)?.as_nanos());
-        println!(rt; "{f:?}: rows as {to:?} {took} ({long} bytes)")?;
+        fill(image, colour, mask, rounds(extent));
+        let took = start.elapsed(rt)?;
+        tell_image(rt, extent, name, took, image)?;
     }
     Ok(())
 }
 
-fn measure_loads(rt: &HostRuntime, image: &mut Image, bytes: Bytes, f: Format) -> Result<()> {
-    for from in [f, Format::Rgba8888, Format::Rgb565] {
-        let start = Instant::now(rt)?;
-        load(image, &bytes, from);
-        let took = speed(start.elapsed(rt)?.as_nanos());
-        println!(rt; "{f:?}: load from {from:?} {took}")?;
-    }
-    Ok(())
+fn measure_rows<R: Clock + Print + AllocGlobal>(
+    rt: &R,
+    extent: Extent,
+    image: &Image,
+    to: Format,
+) -> Result<()> {
+    let start = Instant::now(rt)?;
+    let bytes = rows(rt.alloc(), image, to, rounds(extent))?;
+    let took = start.elapsed(rt)?;
+    let name = format!(in rt.alloc(); "rows as {to:?}")?;
+    let f = image.format();
+    tell(rt, extent, f, name.as_str(), took, bytes.as_slice())
 }
 
-/// Measures a texture drawn over an image of its format, texel by texel and at twice its size, and a
-/// copy of one image into the other.
-fn measure_draws(rt: &HostRuntime, image: &Image, f: Format) -> Result<()> {
-    let Ok(mut target) = Image::new(rt.alloc(), f, SIDE, SIDE) else {
-        return Ok(());
-    };
+fn measure_load<R: Clock + Print + AllocGlobal>(
+    rt: &R,
+    extent: Extent,
+    image: &mut Image,
+    from: Format,
+) -> Result<()> {
+    let bytes = payload(rt.alloc(), from, extent)?;
+    let start = Instant::now(rt)?;
+    load(image, &bytes, from, rounds(extent));
+    let took = start.elapsed(rt)?;
+    let name = format!(in rt.alloc(); "load from {from:?}")?;
+    tell_image(rt, extent, name.as_str(), took, image)
+}
+
+// A texture drawn over an image of its format, texel by texel and at twice its size.
+fn measure_draws<R: Clock + Print + AllocGlobal>(
+    rt: &R,
+    extent: Extent,
+    target: &mut Image,
+    image: &Image,
+) -> Result<()> {
+    let whole = side(extent);
     for (replaces, mode) in [(true, "REPLACE"), (false, "MODULATE")] {
         let part = context(rt.alloc(), replaces);
-        for (crop, scale) in [(2_048, "unscaled"), (1_024, "scaled")] {
+        for (crop, scale) in [(whole, "unscaled"), (whole / 2, "scaled")] {
             let start = Instant::now(rt)?;
-            draw(&mut target, &part, image, &cropped(crop));
-            let took = speed(start.elapsed(rt)?.as_nanos());
-            println!(rt; "{f:?}: {scale} draw in {mode} {took}")?;
+            draw(target, &part, image, &cropped(crop), rounds(extent));
+            let took = start.elapsed(rt)?;
+            let name = format!(in rt.alloc(); "{scale} draw in {mode}")?;
+            tell_image(rt, extent, name.as_str(), took, target)?;
         }
     }
-    let start = Instant::now(rt)?;
-    copies(&mut target, image);
-    let took = speed(start.elapsed(rt)?.as_nanos());
-    println!(rt; "{f:?}: copy between images {took}")?;
     Ok(())
 }
 
-fn main(rt: HostRuntime) -> Result<()> {
-    if env::args(&rt)?.count() < 2 {
-        return Ok(());
+fn measure_copies<R: Clock + Print + AllocGlobal>(
+    rt: &R,
+    extent: Extent,
+    target: &mut Image,
+    image: &Image,
+) -> Result<()> {
+    let start = Instant::now(rt)?;
+    copies(target, image, rounds(extent));
+    let took = start.elapsed(rt)?;
+    tell_image(rt, extent, "copy between images", took, target)
+}
+
+// One format, beside a copy of as many bytes.
+fn measure_image<R: Clock + Print + AllocGlobal>(
+    rt: &R,
+    extent: Extent,
+    image: &mut Image,
+    target: &mut Image,
+) -> Result<()> {
+    let f = image.format();
+    measure_copy(rt, extent, f)?;
+    measure_fills(rt, extent, image)?;
+    measure_load(rt, extent, image, f)?;
+    measure_rows(rt, extent, image, f)?;
+    for other in OTHERS {
+        if other != f {
+            measure_load(rt, extent, image, other)?;
+            measure_rows(rt, extent, image, other)?;
+        }
     }
-    memory::measure_all(&rt)?;
+    measure_draws(rt, extent, target, image)?;
+    measure_copies(rt, extent, target, image)
+}
+
+fn measure<R: Clock + Print + AllocGlobal>(rt: &R, extent: Extent, f: Format) -> Result<()> {
+    let side = side(extent);
+    let image = Image::new(rt.alloc(), f, side, side);
+    let target = Image::new(rt.alloc(), f, side, side);
+    match (image, target) {
+        (Ok(mut image), Ok(mut target)) => measure_image(rt, extent, &mut image, &mut target),
+        (Ok(_) | Err(_), _) => bail!("no memory for an image"),
+    }
+}
+
+/// Does each piece of work once with images of 64 by 64, and prints what is left. Or does each eight times over with images
+/// of 2,048 by 2,048, and prints millions of pixels a second; before that, the memory that 64 such images take.
+pub fn run<R: Clock + Files + Print + AllocGlobal>(rt: &R, extent: Extent) -> Result<()> {
+    if extent == Extent::Full {
+        images::measure(rt)?;
+    }
     for f in FORMATS {
-        measure(&rt, f)?;
+        measure(rt, extent, f)?;
     }
     Ok(())
 }

@@ -1,27 +1,45 @@
-//! Frees nodes of a counted store by one release, and says how long each took.
-//!
-//! With no word it frees 1,000 nodes of each shape and says so. With the word `time` it frees 1,000, 10,000 and 100,000, and
-//! prints the nanoseconds a node in the fastest of five runs; then it makes ten million nodes and lets each go before the
-//! next, and prints how long each took, and the memory after the first thousand and at the end.
-#![tactic(auto)]
+//! Frees nodes of a counted store by one release, and makes nodes one after another.
 
 ghost use Rattle.std.specs.Prelude.{◌≡◌, ◌<◌};
+ghost use Rattle.ref_store.specs.Kept.{AllIn};
 
 mod branches;
-mod memory;
 mod shapes;
 
+use crate::extents::Extent;
+use crate::memory::resident;
 use anyhow::{Result, bail};
-use memory::resident;
+use branches::Branch;
 use ref_store::{Steps, Store};
 use shapes::{Shape, add, build};
-use std::env;
+use std::alloc::Global;
 use std::marker::Brand;
 use std::rt::{Clock, Files};
 use std::sync::ledger::{Blank, Ledger};
 use std::time::{Duration, Instant};
 
-// Builds the nodes, frees them, and answers how long the freeing took.
+/// How many nodes are made one after another.
+const PASSING: u32 = 10_000_000;
+
+// Builds nodes in an empty store, frees them, and answers how long the freeing took.
+fn free_in<R: Clock + AllocGlobal, L: Ledger>(
+    rt: &R,
+    store: &mut Store<Branch>,
+    steps: &mut Steps<L>,
+    shape: Shape,
+    nodes: u32,
+) -> Result<Duration>
+    requires { AllIn store.old.nodes }
+{
+    let root = build(rt.alloc(), store, shape, nodes)?;
+    if store.outside(root) == 0 {
+        bail!("nothing holds the root");
+    }
+    let start = Instant::now(rt)?;
+    store.release(root, steps);
+    Ok(start.elapsed(rt)?)
+}
+
 fn free<R: Clock + AllocGlobal, L: Ledger>(
     rt: &R,
     shape: Shape,
@@ -32,15 +50,31 @@ fn free<R: Clock + AllocGlobal, L: Ledger>(
     requires parts { blank.parts ≡ L.parts }
     requires some { 0 < blank.parts }
 {
-    let mut store = Store::new(rt.alloc());
     let mut steps: Steps<L> = Steps::open(blank);
-    let root = build(rt.alloc(), &mut store, shape, nodes)?;
-    let start = Instant::now(rt)?;
-    if store.outside(root) == 0 {
-        bail!("nothing holds the root");
+    let mut store = Store::new(rt.alloc());
+    free_in(rt, &mut store, &mut steps, shape, nodes)
+}
+
+// Makes a node and lets it go.
+fn pass<L: Ledger>(
+    alloc: Global,
+    store: &mut Store<Branch>,
+    steps: &mut Steps<L>,
+    next: &mut u64,
+) -> Result<()>
+    requires { AllIn store.old.nodes }
+    ensures { AllIn store.new.nodes }
+{
+    let id = add(store, next, 0, Vec::new(alloc))?;
+    if store.get(id).is_none() || store.outside(id) != 0 {
+        bail!("the node isn't stored");
     }
-    store.release(root, &mut steps);
-    Ok(start.elapsed(rt)?)
+    store.hold(id);
+    if store.outside(id) == 0 {
+        bail!("nothing holds the node");
+    }
+    store.release(id, steps);
+    Ok(())
 }
 
 // What making nodes and letting each go before the next took, with the memory after the first thousand and at the end.
@@ -53,45 +87,49 @@ struct Churn {
 
 fn make_and_drop<R: Clock + Files + AllocGlobal, L: Ledger>(
     rt: &R,
-    nodes: u32,
-    blank: Blank,
+    store: &mut Store<Branch>,
+    steps: &mut Steps<L>,
 ) -> Result<Churn>
-    requires name { blank.name ≡ L.name }
-    requires parts { blank.parts ≡ L.parts }
-    requires some { 0 < blank.parts }
+    requires { AllIn store.old.nodes }
 {
-    let mut store = Store::new(rt.alloc());
-    let mut steps: Steps<L> = Steps::open(blank);
     let mut next = 0;
     let mut first = 0;
     let start = Instant::now(rt)?;
-    'nodes: for turn in 0..nodes {
+    'nodes: for turn in 0..PASSING {
         if turn == 1_000 {
             first = resident(rt)?;
         }
-        let id = add(&mut store, &mut next, 0, Vec::new(rt.alloc()))?;
-        if store.get(id).is_none() || store.outside(id) != 0 {
-            bail!("the node isn't stored");
-        }
-        store.hold(id);
-        if store.outside(id) == 0 {
-            bail!("nothing holds the node");
-        }
-        store.release(id, &mut steps);
+        pass(rt.alloc(), store, steps, &mut next)?;
     }
     let took = start.elapsed(rt)?;
     let last = resident(rt)?;
     Ok(Churn { took, first, last })
 }
 
+fn passed<R: Clock + Files + AllocGlobal, L: Ledger>(rt: &R, blank: Blank) -> Result<Churn>
+    requires name { blank.name ≡ L.name }
+    requires parts { blank.parts ≡ L.parts }
+    requires some { 0 < blank.parts }
+{
+    let mut steps: Steps<L> = Steps::open(blank);
+    let mut store = Store::new(rt.alloc());
+    make_and_drop(rt, &mut store, &mut steps)
+}
+
 fn print_churn<R: Clock + Files + Print + AllocGlobal>(rt: &R) -> Result<()> {
-    let churned = make_and_drop::<_, Brand>(rt, 10_000_000, Blank::new(1))?;
-    let each = churned.took.as_nanos() / 10_000_000;
+    let churned = passed::<_, Brand>(rt, Blank::new(1))?;
+    let each = churned.took.as_nanos() / u128::from(PASSING);
     println!(rt; "10,000,000 one after another: {each} ns a node")?;
     println!(rt;
         "memory: {} kB after the first thousand, {} kB at the end",
         churned.first, churned.last
     )?;
+    Ok(())
+}
+
+fn print_freed<R: Clock + Print + AllocGlobal>(rt: &R, shape: Shape) -> Result<()> {
+    let _took = free::<_, Brand>(rt, shape, 1_000, Blank::new(1))?;
+    println!(rt; "{} 1000: freed", shape.name())?;
     Ok(())
 }
 
@@ -106,20 +144,21 @@ fn print_times<R: Clock + Print + AllocGlobal>(rt: &R, shape: Shape, nodes: u32)
     Ok(())
 }
 
-fn main(rt: HostRuntime) -> Result<()> {
-    let timed = env::args(&rt)?.nth(1).is_some();
-    for shape in [Shape::Chain, Shape::Fan] {
-        if timed {
-            for nodes in [1_000, 10_000, 100_000] {
-                print_times(&rt, shape, nodes)?;
-            }
-        } else {
-            let _took = free::<_, Brand>(&rt, shape, 1_000, Blank::new(1))?;
-            println!(rt; "{} 1000: freed", shape.name())?;
+/// Frees 1,000 nodes of each shape and says so. Or frees 1,000, 10,000 and 100,000, and prints the nanoseconds a node in the
+/// fastest of five runs; then it makes ten million nodes and lets each go before the next, and prints how long each took,
+/// and the memory after the first thousand and at the end.
+pub fn run<R: Clock + Files + Print + AllocGlobal>(rt: &R, extent: Extent) -> Result<()> {
+    let shapes = [Shape::Chain, Shape::Fan];
+    if extent == Extent::Little {
+        for shape in shapes {
+            print_freed(rt, shape)?;
+        }
+        return Ok(());
+    }
+    for shape in shapes {
+        for nodes in [1_000, 10_000, 100_000] {
+            print_times(rt, shape, nodes)?;
         }
     }
-    if timed {
-        print_churn(&rt)?;
-    }
-    Ok(())
+    print_churn(rt)
 }

@@ -1,9 +1,4 @@
 //! Makes, finds and frees names, handles and fences, and says how long each took.
-//!
-//! With no word it does so with 1,000 and prints what was done. With two words, one of these lines up to its number and a
-//! size, it does that alone, and prints the nanoseconds that so many took. With one word, as `passing`, it makes and
-//! removes 10,000,000 handles one after another, of which never more than one is there.
-#![tactic(auto)]
 
 mod fences;
 mod handles;
@@ -11,7 +6,6 @@ mod names;
 mod timing;
 
 use anyhow::{Context, Result, bail};
-use std::env;
 use std::rt::Clock;
 use std::time::Duration;
 
@@ -73,7 +67,7 @@ impl Phase {
     }
 }
 
-fn run<R: Clock + AllocGlobal>(rt: &R, phase: Phase, n: u32) -> Result<Duration> {
+fn time<R: Clock + AllocGlobal>(rt: &R, phase: Phase, n: u32) -> Result<Duration> {
     match phase {
         Phase::Generate => names::generate(rt, n),
         Phase::LookUp => names::look_up(rt, n),
@@ -90,36 +84,35 @@ fn run<R: Clock + AllocGlobal>(rt: &R, phase: Phase, n: u32) -> Result<Duration>
     }
 }
 
-fn report_all<R: Clock + Print + AllocGlobal>(rt: &R) -> Result<()> {
+/// Does each thing with 1,000 and prints what was done.
+pub fn run<R: Clock + Print + AllocGlobal>(rt: &R) -> Result<()> {
     for phase in PHASES {
-        let _took = run(rt, phase, 1_000)?;
+        let _took = time(rt, phase, 1_000)?;
         println!(rt; "{} 1000: done", phase.name())?;
     }
     Ok(())
 }
 
-fn report_one<R: Clock + Print + AllocGlobal>(rt: &R, name: &str, n: u32) -> Result<()> {
-    'phases: for phase in PHASES {
-        if phase.name() == name {
-            let mut least = u128::MAX;
-            'runs: for _ in 0..phase.runs() {
-                least = least.min(run(rt, phase, n)?.as_nanos());
-            }
-            println!(rt; "{least}")?;
-            return Ok(());
-        }
-    }
-    bail!("nothing is called {name}")
+fn phase_named(name: &str) -> Option<Phase> {
+    PHASES.into_iter().find(|phase| phase.name() == name)
 }
 
-fn main(rt: HostRuntime) -> Result<()> {
-    let mut words = env::args(&rt)?.skip(1);
-    match (words.next(), words.next()) {
-        (None, _) => report_all(&rt),
-        (Some(_), None) => handles::one_at_a_time(&rt, 10_000_000),
-        (Some(name), Some(size)) => {
-            let n = size.as_str().parse::<u32>().context("a size is a number")?;
-            report_one(&rt, name.as_str(), n)
-        }
+/// Does one thing, whose name is what `run` prints of it up to the number, at a size, and prints the nanoseconds that so
+/// many took.
+pub fn time_one<R: Clock + Print + AllocGlobal>(rt: &R, name: &str, size: &str) -> Result<()> {
+    let n = size.parse::<u32>().context("a size is a number")?;
+    let Some(phase) = phase_named(name) else {
+        bail!("nothing is called {name}");
+    };
+    let mut least = u128::MAX;
+    'runs: for _ in 0..phase.runs() {
+        least = least.min(time(rt, phase, n)?.as_nanos());
     }
+    println!(rt; "{least}")?;
+    Ok(())
+}
+
+/// Makes and removes 10,000,000 handles one after another, of which never more than one is there.
+pub fn pass<R: AllocGlobal>(rt: &R) -> Result<()> {
+    handles::one_at_a_time(rt, 10_000_000)
 }

@@ -1,17 +1,13 @@
 //! Makes calls by threads that share a driver, one, two, four and sixteen with a token each, and by one driver that nobody shares.
 //! Clears and colours are then made by the threads' own parts, where they take no turn.
-//!
-//! With no word they make 100 calls each, and it prints what was done. With a word, as `time`, they make 100,000
-//! in all, or 1,600,000 by their own parts, and it prints how many a second in the fastest of three runs.
-#![tactic(auto)]
 
 mod alone;
-mod calls;
+mod sorts;
 mod together;
 
+use crate::extents::Extent;
 use anyhow::Result;
-use calls::{Sort, Way};
-use std::env;
+use sorts::{Sort, Way};
 use std::rt::Clock;
 use std::sync::Wait;
 use std::thread::Threads;
@@ -30,7 +26,7 @@ const SORTS: [Sort; 5] = [
 const OWN: [Sort; 3] = [Sort::Clear, Sort::Colour, Sort::Drawing];
 
 /// How many threads share a driver; 0 is a driver that nobody shares.
-const THREADS: [u16; 5] = [0, 1, 2, 4, 16];
+const TOKENS: [u16; 5] = [0, 1, 2, 4, 16];
 
 /// And how many where their own parts answer.
 const APART: [u16; 3] = [1, 2, 4];
@@ -43,7 +39,7 @@ fn timed_calls(way: Way) -> u32 {
     }
 }
 
-fn run<R: Clock + AllocGlobal + Threads + Wait + Sync>(
+fn time<R: Clock + AllocGlobal + Threads + Wait + Sync>(
     rt: &R,
     threads: u16,
     work: Work,
@@ -62,7 +58,7 @@ fn least_time<R: Clock + AllocGlobal + Threads + Wait + Sync>(
 ) -> Result<u128> {
     let mut least = u128::MAX;
     'runs: for _ in 0..3 {
-        let took = run(rt, threads, work)?;
+        let took = time(rt, threads, work)?;
         least = least.min(took.as_nanos());
     }
     Ok(least)
@@ -70,16 +66,16 @@ fn least_time<R: Clock + AllocGlobal + Threads + Wait + Sync>(
 
 fn report<R: Clock + Print + AllocGlobal + Threads + Wait + Sync>(
     rt: &R,
-    is_timed: bool,
+    extent: Extent,
     sort: Sort,
     way: Way,
     threads: u16,
 ) -> Result<()> {
     let name = sort.name();
     let by = way.name();
-    if !is_timed {
+    if extent == Extent::Little {
         let count = 100;
-        let _took = run(rt, threads, Work { sort, way, count })?;
+        let _took = time(rt, threads, Work { sort, way, count })?;
         println!(rt; "{name}, {threads} tokens{by}: done")?;
         return Ok(());
     }
@@ -91,16 +87,20 @@ fn report<R: Clock + Print + AllocGlobal + Threads + Wait + Sync>(
     Ok(())
 }
 
-fn main(rt: HostRuntime) -> Result<()> {
-    let is_timed = env::args(&rt)?.count() > 1;
+/// Makes 100 calls by each thread, and prints what was done. Or makes 100,000 in all, or 1,600,000 by their own parts, and
+/// prints how many a second in the fastest of three runs.
+pub fn run<R: Clock + Print + AllocGlobal + Threads + Wait + Sync>(
+    rt: &R,
+    extent: Extent,
+) -> Result<()> {
     'sorts: for sort in SORTS {
-        'threads: for threads in THREADS {
-            report(&rt, is_timed, sort, Way::Turn, threads)?;
+        'threads: for threads in TOKENS {
+            report(rt, extent, sort, Way::Turn, threads)?;
         }
     }
     'own: for sort in OWN {
         'apart: for threads in APART {
-            report(&rt, is_timed, sort, Way::Part, threads)?;
+            report(rt, extent, sort, Way::Part, threads)?;
         }
     }
     Ok(())

@@ -1,14 +1,22 @@
-//! The work that is measured, each piece eight times over.
+//! The work that is measured, each piece so many rounds.
 
+ghost use Rattle.std.specs.Prelude.{◌≤◌};
+
+use crate::extents::Extent;
+use anyhow::{Result, bail};
 use egl_calls::Bytes;
-use pixel_formats::{Format, Pixel};
+use pixel_formats::{Format, Pixel, bytes_of};
 use pixel_rows::{Image, Mask, Rect};
 use std::alloc::{AllocError, Global};
+use std::time::Duration;
 
-pub const ROUNDS: u32 = 8;
-
-/// The sides of the image that is measured.
+/// The sides of an image where all is done, and how often each piece of work is done there.
 pub const SIDE: u32 = 2_048;
+
+const ROUNDS: u32 = 8;
+
+/// The sides of an image where little is done.
+const LITTLE_SIDE: u32 = 64;
 
 pub const ALL: Mask = Mask {
     r: true,
@@ -24,61 +32,89 @@ pub const RED: Mask = Mask {
     a: false,
 };
 
-const COLOUR: Pixel = Pixel {
+pub const ORANGE: Pixel = Pixel {
     r: 200,
     g: 100,
     b: 50,
     a: 255,
 };
 
-/// Millions of pixels a second, of eight times 4,194,304 pixels in so many nanoseconds.
-pub fn speed(nanoseconds: u128) -> u128 {
-    33_554_432_000 / nanoseconds.max(1)
+pub const GREY: Pixel = Pixel {
+    r: 100,
+    g: 100,
+    b: 100,
+    a: 100,
+};
+
+/// The sides of the images.
+pub fn side(extent: Extent) -> u32
+    ensures { result ≤ 2048 }
+{
+    match extent {
+        Extent::Little => LITTLE_SIDE,
+        Extent::Full => SIDE,
+    }
 }
 
-/// As many bytes as 2,048 by 2,048 pixels of so many bytes take.
-pub fn filled(alloc: Global, size: usize, byte: u8) -> Result<Vec<u8>, AllocError> {
-    let mut bytes = Vec::new(alloc);
-    let long = size.min(4) * (SIDE as usize * SIDE as usize);
-    bytes.resize(long, byte)?;
-    Ok(bytes)
+/// How often a piece of work is done.
+pub fn rounds(extent: Extent) -> u32 {
+    match extent {
+        Extent::Little => 1,
+        Extent::Full => ROUNDS,
+    }
 }
 
-pub fn copy(to: &mut [u8], from: &[u8]) -> u8 {
-    let mut last = 0;
-    for _round in 0..ROUNDS {
+/// Millions of pixels a second, where all rounds over an image took so long.
+pub fn speed(took: Duration) -> u128 {
+    let pixels = u128::from(ROUNDS * SIDE * SIDE);
+    pixels * 1_000 / took.as_nanos().max(1)
+}
+
+/// As many bytes as the pixels of an image take in a format, of which neighbours differ.
+pub fn payload(alloc: Global, f: Format, extent: Extent) -> Result<Bytes, AllocError> {
+    let side = side(extent) as usize;
+    let long = (bytes_of(f) as usize).min(4) * (side * side);
+    let mut bytes = Vec::with_capacity(alloc, long)?;
+    for k in 0..long {
+        bytes.push((k % 251) as u8)?;
+    }
+    Ok(Bytes::from_vec(bytes))
+}
+
+pub fn copy(to: &mut [u8], from: &[u8], rounds: u32) {
+    for _round in 0..rounds {
         if to.len() == from.len() {
             to.copy_from_slice(from);
         }
-        last ^= to.last().copied().unwrap_or(0);
     }
-    last
 }
 
-pub fn fill(image: &mut Image, mask: Mask) {
-    for _round in 0..ROUNDS {
+pub fn fill(image: &mut Image, colour: Pixel, mask: Mask, rounds: u32) {
+    for _round in 0..rounds {
         let (w, h) = (image.width() as i64, image.height() as i64);
         let rect = Rect { x: 0, y: 0, w, h };
-        let _ = image.fill_rect(rect, COLOUR, mask);
+        let _ = image.fill_rect(rect, colour, mask);
     }
 }
 
-pub fn load(image: &mut Image, bytes: &Bytes, from: Format) {
-    for _round in 0..ROUNDS {
+pub fn load(image: &mut Image, bytes: &Bytes, from: Format, rounds: u32) {
+    for _round in 0..rounds {
         let (w, h) = (image.width() as i64, image.height() as i64);
         let rect = Rect { x: 0, y: 0, w, h };
         let _ = image.load_rows(rect, bytes, from, 1);
     }
 }
 
-pub fn rows(alloc: Global, image: &Image, to: Format) -> u64 {
-    let mut long = 0;
-    for _round in 0..ROUNDS {
+/// The rows of an image as bytes, made so many times.
+pub fn rows(alloc: Global, image: &Image, to: Format, rounds: u32) -> Result<Bytes> {
+    let mut made = Bytes::new(alloc);
+    for _round in 0..rounds {
         let (w, h) = (image.width() as i64, image.height() as i64);
         let rect = Rect { x: 0, y: 0, w, h };
-        if let Ok(bytes) = image.row_bytes(alloc, rect, to, 1) {
-            long = bytes.len();
+        match image.row_bytes(alloc, rect, to, 1) {
+            Ok(bytes) => made = bytes,
+            Err(_) => bail!("no memory for the rows of an image"),
         }
     }
-    long
+    Ok(made)
 }

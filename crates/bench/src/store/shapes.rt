@@ -3,9 +3,9 @@
 ghost use Rattle.std.specs.Prelude.{◌≡◌, ◌<◌, ◌++◌, ℕ, IsTrue, IsSome, None};
 ghost use Rattle.ref_store.specs.Kept.{at, rank_at, AllIn};
 ghost use Rattle.ref_store.specs.Counts.{times, as_list};
-ghost use Rattle.bench_store.specs.declared.branches.Branch.{Branch};
+ghost use Rattle.bench.specs.declared.store.branches.Branch.{Branch};
 
-use crate::branches::Branch;
+use crate::store::branches::Branch;
 use anyhow::{Result, bail};
 use ref_store::{Node, Store};
 use std::alloc::Global;

@@ -1,6 +1,6 @@
 //! Fences of as many contexts.
 
-use crate::timing::{tables_of, time, time_each};
+use crate::tables::timing::{tables_of, time, time_each};
 use anyhow::{Result, bail};
 use egl_calls::NoMemory;
 use fence_sync::Fences;

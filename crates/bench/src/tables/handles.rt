@@ -1,6 +1,6 @@
 //! Handles of two displays by turns.
 
-use crate::timing::{tables_of, time, time_each};
+use crate::tables::timing::{tables_of, time, time_each};
 use anyhow::{Result, bail};
 use display_table::{Displays, HandleKind};
 use std::rt::Clock;

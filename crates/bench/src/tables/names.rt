@@ -1,6 +1,6 @@
 //! Names of textures.
 
-use crate::timing::{tables_of, time, time_each};
+use crate::tables::timing::{tables_of, time, time_each};
 use anyhow::{Result, bail};
 use egl_calls::NoMemory;
 use share_group::{Group, NameKind};

@@ -1,7 +1,8 @@
 //! Calls of one driver that nobody shares.
 ghost use Rattle.std.specs.Prelude.{◌≡◌, ◌<◌};
 
-use crate::calls::{BEFORE, Sort, before};
+use crate::calls::PIXEL_BYTES;
+use crate::threads::sorts::{BEFORE, Sort, before};
 use anyhow::{Result, bail};
 use driver_core::Driver;
 use egl_calls::NoMemory;
@@ -29,18 +30,29 @@ fn play(alloc: Global, driver: &mut Driver, sort: Sort, count: u32) -> Result<()
     Ok(())
 }
 
-/// How long so many calls take.
-pub fn run<R: Clock + AllocGlobal>(rt: &R, sort: Sort, count: u32) -> Result<Duration> {
-    let alloc = rt.alloc();
-    let Ok(mut driver) = Driver::new(alloc, &[], 67_108_864) else {
-        bail!("no memory for a driver");
-    };
-    if prepare(alloc, &mut driver).is_err() {
+// How long so many calls of a driver take.
+fn time<R: Clock + AllocGlobal>(
+    rt: &R,
+    driver: &mut Driver,
+    sort: Sort,
+    count: u32,
+) -> Result<Duration>
+    requires { 0 < driver.old.made }
+{
+    if prepare(rt.alloc(), driver).is_err() {
         bail!("no memory for a surface");
     }
     let start = Instant::now(rt)?;
-    if play(alloc, &mut driver, sort, count).is_err() {
+    if play(rt.alloc(), driver, sort, count).is_err() {
         bail!("no memory for a call");
     }
     Ok(start.elapsed(rt)?)
+}
+
+/// How long so many calls take.
+pub fn run<R: Clock + AllocGlobal>(rt: &R, sort: Sort, count: u32) -> Result<Duration> {
+    match Driver::new(rt.alloc(), &[], PIXEL_BYTES) {
+        Ok(mut driver) => time(rt, &mut driver, sort, count),
+        Err(_) => bail!("no memory for a driver"),
+    }
 }

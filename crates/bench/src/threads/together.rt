@@ -2,7 +2,8 @@
 ghost use Rattle.std.specs.Prelude.{◌+◌, ◌<◌, ◌≤◌, All, vec_len, vec_capacity};
 ghost use Rattle.shared_driver.specs.Tokens.{IsOf};
 
-use crate::calls::{BEFORE, Sort, Way, before};
+use crate::calls::PIXEL_BYTES;
+use crate::threads::sorts::{BEFORE, Sort, Way, before};
 use anyhow::{Result, bail};
 use shared_driver::{Closed, Opened, Shared, Thread};
 use std::alloc::Global;
@@ -91,13 +92,14 @@ fn join_all<R: Wait>(rt: &R, shared: &Shared, first: &mut Thread, mut tokens: Ve
     tokens.destroy_empty();
 }
 
-// Waits until the first token is the only one, and closes the driver.
-fn closed<R: Wait>(rt: &R, shared: Shared, mut first: Thread) -> Closed
+// Waits until the first token is the only one, closes the driver, and answers how many calls its journal has.
+fn closed<R: Wait>(rt: &R, shared: Shared, mut first: Thread) -> u64
     requires { IsOf shared first }
 {
     'waiting: for _ in rt.forever() {
         if shared.live(&mut first, rt) == 1 {
-            return shared.close(first);
+            let Closed { driver: _, journal } = shared.close(first);
+            return journal.len();
         }
     }
     unreachable!()
@@ -149,13 +151,13 @@ pub fn run<R: Clock + AllocGlobal + Threads + Wait + Sync>(
             shared,
             thread: mut first,
         },
-    ) = Shared::open(alloc, &[], 67_108_864)
+    ) = Shared::open(alloc, &[], PIXEL_BYTES)
     else {
         bail!("no memory for a driver");
     };
     let took = time_threads(rt, alloc, &shared, &mut first, threads, work);
-    let run = closed(rt, shared, first);
-    if run.journal.len() != u64::from(threads) * (u64::from(BEFORE) + u64::from(work.count)) {
+    let made = closed(rt, shared, first);
+    if made != u64::from(threads) * (u64::from(BEFORE) + u64::from(work.count)) {
         bail!("no memory for a call");
     }
     took
