@@ -94,7 +94,12 @@ pub fn run<R: Clock + Print + AllocGlobal>(rt: &R) -> Result<()> {
 }
 
 fn phase_named(name: &str) -> Option<Phase> {
-    PHASES.into_iter().find(|phase| phase.name() == name)
+    'phases: for phase in PHASES {
+        if phase.name() == name {
+            return Some(phase);
+        }
+    }
+    None
 }
 
 /// Does one thing, whose name is what `run` prints of it up to the number, at a size, and prints the nanoseconds that so

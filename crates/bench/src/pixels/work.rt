@@ -56,6 +56,16 @@ pub fn side(extent: Extent) -> u32
     }
 }
 
+// The pixels of an image.
+fn pixels(extent: Extent) -> usize
+    ensures { result ≤ 4194304 }
+{
+    match extent {
+        Extent::Little => LITTLE_SIDE as usize * LITTLE_SIDE as usize,
+        Extent::Full => SIDE as usize * SIDE as usize,
+    }
+}
+
 /// How often a piece of work is done.
 pub fn rounds(extent: Extent) -> u32 {
     match extent {
@@ -66,14 +76,13 @@ pub fn rounds(extent: Extent) -> u32 {
 
 /// Millions of pixels a second, where all rounds over an image took so long.
 pub fn speed(took: Duration) -> u128 {
-    let pixels = u128::from(ROUNDS * SIDE * SIDE);
-    pixels * 1_000 / took.as_nanos().max(1)
+    let written = u128::from(ROUNDS * SIDE * SIDE);
+    written * 1_000 / took.as_nanos().max(1)
 }
 
 /// As many bytes as the pixels of an image take in a format, of which neighbours differ.
 pub fn payload(alloc: Global, f: Format, extent: Extent) -> Result<Bytes, AllocError> {
-    let side = side(extent) as usize;
-    let long = (bytes_of(f) as usize).min(4) * (side * side);
+    let long = (bytes_of(f) as usize).min(4) * pixels(extent);
     let mut bytes = Vec::with_capacity(alloc, long)?;
     for k in 0..long {
         bytes.push((k % 251) as u8)?;
