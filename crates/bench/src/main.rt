@@ -17,7 +17,7 @@ mod threads;
 use anyhow::{Result, bail};
 use extents::Extent;
 use std::env;
-use std::rt::{Clock, Env, Files};
+use std::rt::{Clock, Files};
 use std::sync::Wait;
 use std::thread::Threads;
 
