@@ -1,6 +1,6 @@
 //! What is done over and over.
 ghost use Rattle.std.specs.Prelude.{◌≡◌, ◌<◌, true, IfSome};
-ghost use Rattle.egl_calls.specs.Kinds.{is_built};
+ghost use Rattle.call_rules.specs.Kinds.{is_built};
 
 use crate::calls::{create, destroy, initialize};
 use driver_core::Driver;
