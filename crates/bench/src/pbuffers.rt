@@ -1,6 +1,6 @@
 //! Makes pbuffers through the library and destroys each before the next, and tells the memory that the process has.
 ghost use Rattle.std.specs.Prelude.{◌≡◌, ◌<◌, true, IfSome};
-ghost use Rattle.egl_calls.specs.Kinds.{is_built};
+ghost use Rattle.call_rules.specs.Kinds.{is_built};
 
 use crate::calls::{PIXEL_BYTES, create_pbuffer, destroy_surface, initialize};
 use crate::extents::Extent;

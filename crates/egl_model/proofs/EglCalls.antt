@@ -9,7 +9,7 @@ use Rattle.egl_calls.specs.Calls.{CallValue}
 use Rattle.egl_calls.specs.declared.errors.EglError.{EglError}
 use Rattle.egl_calls.specs.declared.kinds.Kind.TheVariants.{Egl}
 use Rattle.egl_calls.specs.declared.kinds.EglKind.TheVariants.{CreatePbufferSurface, MakeCurrent}
-use Rattle.call_rules.specs.Arguments.{is_zero, signed}
+use Rattle.egl_calls.specs.Arguments.{is_zero, signed}
 use Rattle.call_rules.specs.EglRules.{is_release, has_code}
 use Rattle.call_rules.proofs.EglLaws.{current_allowed, pbuffer_allowed}
 use Rattle.driver_objects.specs.declared.kinds.ObjectKind.TheVariants.{Context as a_context_kind, Group as a_group, Storage as a_storage, Surface as a_surface_kind, Texture as a_texture}

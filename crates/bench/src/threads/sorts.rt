@@ -1,6 +1,6 @@
 //! The calls that are timed, and those that go before.
 ghost use Rattle.std.specs.Prelude.{◌≡◌, true, false, IfOk};
-ghost use Rattle.egl_calls.specs.Kinds.{is_built};
+ghost use Rattle.call_rules.specs.Kinds.{is_built};
 ghost use Rattle.egl_model.specs.Waits.{is_wait_end};
 
 use crate::calls::{CONFIG, DISPLAY, call_with, create_pbuffer, initialize};
