@@ -1,6 +1,6 @@
 //! Measures what the driver stands on or will stand on, and calls made through the library.
 //!
-//! The first word is the part that is measured: `store`, `tables`, `pbuffers`, `pixels` or `threads`. Alone it does a little
+//! The first word is the part that is measured: `store`, `tables`, `pbuffers`, `pixels`, `windows` or `threads`. Alone it does a little
 //! of it, and prints what is the same on every run; with no word each part does so. The words behind it are those of
 //! `USAGE`: with them the part does all, and prints what that took.
 #![tactic(auto)]
@@ -13,6 +13,7 @@ mod pixels;
 mod store;
 mod tables;
 mod threads;
+mod windows;
 
 use anyhow::{Result, bail};
 use extents::Extent;
@@ -22,7 +23,7 @@ use std::sync::Wait;
 use std::thread::Threads;
 
 const USAGE: &str =
-    "usage: bench [store [time] | tables [passing | NAME SIZE] | pbuffers [measure] | pixels [measure] | threads [time]]";
+    "usage: bench [store [time] | tables [passing | NAME SIZE] | pbuffers [measure] | pixels [measure] | windows [measure] | threads [time]]";
 
 // A little of every part.
 fn all<R: Clock + Files + Print + AllocGlobal + Threads + Wait + Sync>(rt: &R) -> Result<()> {
@@ -30,6 +31,7 @@ fn all<R: Clock + Files + Print + AllocGlobal + Threads + Wait + Sync>(rt: &R) -
     tables::run(rt)?;
     pbuffers::run(rt, Extent::Little)?;
     pixels::run(rt, Extent::Little)?;
+    windows::run(rt, Extent::Little)?;
     threads::run(rt, Extent::Little)
 }
 
@@ -48,6 +50,8 @@ fn run<R: Clock + Files + Print + AllocGlobal + Threads + Wait + Sync>(
         ["pbuffers", "measure"] => pbuffers::run(rt, Extent::Full),
         ["pixels"] => pixels::run(rt, Extent::Little),
         ["pixels", "measure"] => pixels::run(rt, Extent::Full),
+        ["windows"] => windows::run(rt, Extent::Little),
+        ["windows", "measure"] => windows::run(rt, Extent::Full),
         ["threads"] => threads::run(rt, Extent::Little),
         ["threads", "time"] => threads::run(rt, Extent::Full),
         _ => bail!("{USAGE}"),

@@ -3,8 +3,8 @@
 
 mod draws;
 mod images;
-mod telling;
-mod work;
+pub mod telling;
+pub mod work;
 
 use crate::extents::Extent;
 use anyhow::{Result, bail};

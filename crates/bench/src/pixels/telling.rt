@@ -8,7 +8,7 @@ use pixel_rows::Image;
 use std::time::Duration;
 
 /// The sum of Fowler, Noll and Vo, 1a, of 64 bits.
-fn sum_of(bytes: &[u8]) -> u64 {
+pub fn sum_of(bytes: &[u8]) -> u64 {
     let mut sum = 14_695_981_039_346_656_037u64;
     for byte in bytes {
         sum = (sum ^ u64::from(*byte)).wrapping_mul(1_099_511_628_211);

@@ -48,7 +48,7 @@ pub const GREY: Pixel = Pixel {
 
 /// The sides of the images.
 pub fn side(extent: Extent) -> u32
-    ensures { result ≤ 2048 }
+    ensures { (1 ≤ result) × (result ≤ 2048) }
 {
     match extent {
         Extent::Little => LITTLE_SIDE,
