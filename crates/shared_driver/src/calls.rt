@@ -64,8 +64,9 @@ impl Shared {
         ensures opening { IfOk result (λ o. opening_of o.shared ≡ opening windows.now video) }
         ensures token { IfOk result (λ o. token_of o.thread ≡ record { number = 0; seen = []; tail = []; ended = []; made = 1; live = 1; sole = false; places = 256; start = opening windows.now video }) }
     {
-        let mut core = Core::new(alloc, windows, video)?;
+        // The core comes last, since whatever owns it drops it at each early exit.
         let tail = own_calls(alloc)?;
+        let mut core = Core::new(alloc, windows, video)?;
         let part = core.part_out(0);
         let Ok(Opening { turns, pass }) = Turns::new(alloc, core) else {
             return Err(NoMemory);
