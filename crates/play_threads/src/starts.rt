@@ -51,7 +51,8 @@ impl Start {
             if now >= workers {
                 return Some(true);
             }
-            self.begun.park_timeout(rt, (now % CLOSED) as u32, Duration::from_millis(NAP));
+            self.begun
+                .park_timeout(rt, (now % CLOSED) as u32, Duration::from_millis(NAP));
         }
         match self.begun.compare_exchange(begun, CLOSED, SeqCst, SeqCst) {
             Ok(_) => {

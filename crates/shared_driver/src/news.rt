@@ -2,7 +2,7 @@
 use crate::cores::{Core, is_waiting};
 use crate::tokens::Shared;
 use call_rules::places::POSTED;
-use egl_calls::{Entry, Kind, OwnKind, unsigned};
+use egl_calls::{EglKind, Entry, GlKind, Kind, OwnKind, unsigned};
 use std::array;
 use std::sync::Wait;
 use std::sync::atomic::AtomicU64;
@@ -45,17 +45,47 @@ impl Awaited {
     }
 }
 
-// Whether an entry is one that a thread waits for.
-fn frees(entry: &Entry, reason: u64, number: u64) -> bool {
-    match reason {
-        ENTRY => true,
-        POST => {
-            matches!(entry.call.kind, Kind::Own(OwnKind::Post))
-                && unsigned(entry.call.args[POSTED]) == number
-        }
-        ANSWER => entry.mark == number && !is_waiting(entry.reply.outcome),
-        _ => false,
+fn is_post(kind: Kind) -> bool {
+    matches!(kind, Kind::Own(OwnKind::Post))
+}
+
+// Whether a call of this kind signals no fence. One that isn't among them costs a look at each wait that has begun.
+fn signals_nothing(kind: Kind) -> bool {
+    matches!(
+        kind,
+        Kind::Egl(
+            EglKind::GetError
+                | EglKind::GetDisplay
+                | EglKind::Initialize
+                | EglKind::QuerySurface
+                | EglKind::QueryContext
+                | EglKind::QueryApi
+                | EglKind::CreatePbufferSurface
+                | EglKind::CreateContext
+                | EglKind::CreateSync
+        ) | Kind::Gl(GlKind::GetError | GlKind::ClearColorx | GlKind::Clear | GlKind::ReadPixels)
+            | Kind::Own(OwnKind::Post | OwnKind::Await | OwnKind::Census)
+    )
+}
+
+// The seats of a reason in the word of those that are taken.
+fn seats_of(reason: u64) -> u64 {
+    0xffff << (16 * (reason % 4))
+}
+
+// Among which seats there may be one that an entry frees.
+fn concerned(entry: &Entry) -> u64 {
+    let mut seats = seats_of(ENTRY);
+    if is_post(entry.call.kind) {
+        seats |= seats_of(POST);
     }
+    if !is_waiting(entry.reply.outcome) {
+        seats |= seats_of(ANSWER);
+    }
+    if !signals_nothing(entry.call.kind) {
+        seats |= seats_of(WAIT_END);
+    }
+    seats
 }
 
 /// What sleeping threads wait for, and how often each was called.
@@ -63,11 +93,10 @@ fn frees(entry: &Entry, reason: u64, number: u64) -> bool {
 /// A thread takes its seat in the turn in which it finds nothing to do, and each turn calls those whom its entries free, so no entry is missed between. The words are no part of the history: a thread that is called takes a turn and looks again.
 #[derive(Drop)]
 pub struct News {
-    // the bits of the seats that are taken; as all words but `calls`, it changes in turns alone
+    // A bit for each seat that is taken, 16 for each reason. As all words but `calls`, it changes in turns alone
     taken: AtomicU64,
-    // of each seat the token that took it last, and what it waits for
+    // of each seat the token that took it last, and the number that it waits for
     tokens: [AtomicU64; SEATS],
-    reasons: [AtomicU64; SEATS],
     numbers: [AtomicU64; SEATS],
     // how many of the journal's entries were looked through
     looked: AtomicU64,
@@ -85,12 +114,16 @@ fn seat_of(token: u32) -> usize {
     token as usize % SEATS
 }
 
+// The bits of a seat, for each reason.
+fn bits_of(seat: usize) -> u64 {
+    0x0001_0001_0001_0001 << (seat % SEATS)
+}
+
 impl News {
     pub(crate) fn new() -> News {
         News {
             taken: AtomicU64::new(0),
             tokens: zeros(),
-            reasons: zeros(),
             numbers: zeros(),
             looked: AtomicU64::new(0),
             everyone: AtomicU64::new(0),
@@ -98,11 +131,11 @@ impl News {
         }
     }
 
-    // Whether two tokens wait in a seat, or one that waits for any entry.
+    // Whether another token waits in a seat, or one that waits for any entry.
     fn is_shared(&self, seat: usize, token: u32) -> bool {
-        self.taken.load(SeqCst) & (1 << seat) != 0
-            && (self.tokens[seat].load(SeqCst) != u64::from(token)
-                || self.reasons[seat].load(SeqCst) == ENTRY)
+        let bits = self.taken.load(SeqCst) & bits_of(seat);
+        let other = self.tokens[seat % SEATS].load(SeqCst) != u64::from(token);
+        bits != 0 && (other || bits & seats_of(ENTRY) != 0)
     }
 
     /// Notes what a token's thread waits for. It is to be called in the thread's turn: by its picker, where that answers `Wait`.
@@ -114,10 +147,10 @@ impl News {
             awaited.words()
         };
         self.tokens[seat].store(u64::from(token), SeqCst);
-        self.reasons[seat].store(reason, SeqCst);
         self.numbers[seat].store(number, SeqCst);
-        let taken = self.taken.load(SeqCst);
-        self.taken.store(taken | (1 << seat), SeqCst);
+        let others = self.taken.load(SeqCst) & !bits_of(seat);
+        let taken = others | (bits_of(seat) & seats_of(reason));
+        self.taken.store(taken, SeqCst);
     }
 
     /// Calls all at the end of this turn: there is a new token, or a thread has nothing to play any more. Where the run has stalled, all see it then.
@@ -131,22 +164,47 @@ impl News {
         }
     }
 
-    // Whether entries from a place on, or the driver, free the thread in a seat.
-    fn is_freed(&self, core: &Core, from: u64, seat: usize) -> bool {
-        let reason = self.reasons[seat].load(SeqCst);
-        if reason == WAIT_END {
+    // Whether an entry frees the token in a seat, by what that waits for.
+    fn frees(&self, core: &Core, entry: &Entry, seat: usize, bits: u64) -> bool {
+        let number = self.numbers[seat].load(SeqCst);
+        if bits & seats_of(POST) != 0 {
+            return unsigned(entry.call.args[POSTED]) == number;
+        }
+        if bits & seats_of(ANSWER) != 0 {
+            return entry.mark == number;
+        }
+        if bits & seats_of(WAIT_END) != 0 {
             let token = self.tokens[seat].load(SeqCst) as u32;
             return token < core.driver.threads() && core.driver.wait_ready(token);
         }
-        let number = self.numbers[seat].load(SeqCst);
-        for place in from..core.journal.len() {
-            if let Some(entry) = core.journal.entry(place) {
-                if frees(entry, reason, number) {
-                    return true;
-                }
+        true
+    }
+
+    // The bits of the seats that an entry frees, of some that are taken.
+    fn freed(&self, core: &Core, entry: &Entry, taken: u64) -> u64 {
+        let seats = taken & concerned(entry);
+        if seats == 0 {
+            return 0;
+        }
+        let mut freed = 0;
+        for seat in 0..SEATS {
+            let bits = seats & bits_of(seat);
+            if bits != 0 && self.frees(core, entry, seat, bits) {
+                freed |= bits;
             }
         }
-        false
+        freed
+    }
+
+    // The bits of the seats that this turn's entries free.
+    fn freed_by_all(&self, core: &Core, from: u64, taken: u64) -> u64 {
+        let mut freed = 0;
+        for place in from..core.journal.len() {
+            if let Some(entry) = core.journal.entry(place) {
+                freed |= self.freed(core, entry, taken & !freed);
+            }
+        }
+        freed
     }
 
     /// Calls those whom this turn freed, and answers the bits of their seats. They are woken by `wake`, once the turn was passed on.
@@ -157,15 +215,25 @@ impl News {
         if taken == 0 {
             return 0;
         }
-        let mut called = 0u64;
+        let called = if all {
+            taken
+        } else {
+            self.freed_by_all(core, from, taken)
+        };
+        if called != 0 {
+            self.taken.store(taken & !called, SeqCst);
+            self.count(called);
+        }
+        called
+    }
+
+    // Counts a call of each of these seats.
+    fn count(&self, called: u64) {
         for seat in 0..SEATS {
-            if taken & (1 << seat) != 0 && (all || self.is_freed(core, from, seat)) {
+            if called & bits_of(seat) != 0 {
                 self.calls[seat].fetch_add(1, SeqCst);
-                called |= 1 << seat;
             }
         }
-        self.taken.store(taken & !called, SeqCst);
-        called
     }
 
     /// Wakes those who were called. Where there are none, this costs no call of the system.
@@ -174,7 +242,7 @@ impl News {
             return;
         }
         for seat in 0..SEATS {
-            if called & (1 << seat) != 0 {
+            if called & bits_of(seat) != 0 {
                 self.calls[seat].wake_all();
             }
         }

@@ -36,8 +36,7 @@ impl Shared {
                 Some(reply)
             }
             None => {
-                self.news
-                    .wait_for(thread.hold.number, Awaited::WaitEnd);
+                self.news.wait_for(thread.hold.number, Awaited::WaitEnd);
                 self.end_turn(&mut thread.hold, held);
                 None
             }
