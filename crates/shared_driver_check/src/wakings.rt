@@ -10,7 +10,7 @@ use trace_reader::Trace;
 use trace_session::RunError;
 
 /// How often each trace is played, by each gate.
-const RUNS: u32 = 50;
+const RUNS: u32 = 20;
 
 /// How many turns thread 0 is kept before each of its lines, so that others sleep by then.
 const TURNS: u32 = 300;
@@ -99,7 +99,7 @@ static TRACES: [Row; 8] = [
     },
     Row {
         name: "two answers",
-        lines: "egl-trace 1 3\n0 $a = eglGetDisplay 0\n0 $b = eglInitialize 2\n1 eglSurfaceAttrib $a $b $a $b\n2 eglInitialize $b\n",
+        lines: "egl-trace 1 3\n0 $a = eglGetDisplay 0\n0 $b = eglInitialize 2\n1 eglMakeCurrent $a $b $b $b\n2 eglInitialize $b\n",
         ends: true,
     },
     Row {
@@ -214,7 +214,7 @@ fn ring(alloc: Global, rounds: u32) -> Result<String, Fail> {
 #[test]
 fn a_post_goes_round(rt: HostRuntime) -> Result<(), Fail> {
     let alloc = rt.alloc();
-    let count = how_many_end(&rt, alloc, ring(alloc, 160)?)?;
+    let count = how_many_end(&rt, alloc, ring(alloc, 64)?)?;
     assert_eq!(rt; count, 2 * RUNS);
     Ok(())
 }
