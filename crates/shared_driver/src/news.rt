@@ -70,7 +70,12 @@ fn signals_nothing(kind: Kind) -> bool {
 
 // The seats of a reason in the word of those that are taken.
 fn seats_of(reason: u64) -> u64 {
-    0xffff << (16 * (reason % 4))
+    match reason {
+        POST => 0xffff_0000,
+        ANSWER => 0xffff_0000_0000,
+        WAIT_END => 0xffff_0000_0000_0000,
+        _ => 0xffff,
+    }
 }
 
 // Among which seats there may be one that an entry frees.
@@ -114,9 +119,14 @@ fn seat_of(token: u32) -> usize {
     token as usize % SEATS
 }
 
+// The word of a seat.
+fn of_seat(words: &[AtomicU64; SEATS], seat: usize) -> &AtomicU64 {
+    &words[seat % SEATS]
+}
+
 // The bits of a seat, for each reason.
 fn bits_of(seat: usize) -> u64 {
-    0x0001_0001_0001_0001 << (seat % SEATS)
+    0x0001_0001_0001_0001u64.wrapping_shl((seat % SEATS) as u32)
 }
 
 impl News {
@@ -134,7 +144,7 @@ impl News {
     // Whether another token waits in a seat, or one that waits for any entry.
     fn is_shared(&self, seat: usize, token: u32) -> bool {
         let bits = self.taken.load(SeqCst) & bits_of(seat);
-        let other = self.tokens[seat % SEATS].load(SeqCst) != u64::from(token);
+        let other = of_seat(&self.tokens, seat).load(SeqCst) != u64::from(token);
         bits != 0 && (other || bits & seats_of(ENTRY) != 0)
     }
 
@@ -146,8 +156,8 @@ impl News {
         } else {
             awaited.words()
         };
-        self.tokens[seat].store(u64::from(token), SeqCst);
-        self.numbers[seat].store(number, SeqCst);
+        of_seat(&self.tokens, seat).store(u64::from(token), SeqCst);
+        of_seat(&self.numbers, seat).store(number, SeqCst);
         let others = self.taken.load(SeqCst) & !bits_of(seat);
         let taken = others | (bits_of(seat) & seats_of(reason));
         self.taken.store(taken, SeqCst);
@@ -166,7 +176,7 @@ impl News {
 
     // Whether an entry frees the token in a seat, by what that waits for.
     fn frees(&self, core: &Core, entry: &Entry, seat: usize, bits: u64) -> bool {
-        let number = self.numbers[seat].load(SeqCst);
+        let number = of_seat(&self.numbers, seat).load(SeqCst);
         if bits & seats_of(POST) != 0 {
             return unsigned(entry.call.args[POSTED]) == number;
         }
@@ -174,7 +184,7 @@ impl News {
             return entry.mark == number;
         }
         if bits & seats_of(WAIT_END) != 0 {
-            let token = self.tokens[seat].load(SeqCst) as u32;
+            let token = (of_seat(&self.tokens, seat).load(SeqCst) % (1 << 32)) as u32;
             return token < core.driver.threads() && core.driver.wait_ready(token);
         }
         true
@@ -231,7 +241,7 @@ impl News {
     fn count(&self, called: u64) {
         for seat in 0..SEATS {
             if called & bits_of(seat) != 0 {
-                self.calls[seat].fetch_add(1, SeqCst);
+                of_seat(&self.calls, seat).fetch_add(1, SeqCst);
             }
         }
     }
@@ -243,19 +253,19 @@ impl News {
         }
         for seat in 0..SEATS {
             if called & bits_of(seat) != 0 {
-                self.calls[seat].wake_all();
+                of_seat(&self.calls, seat).wake_all();
             }
         }
     }
 
     /// How often a token's seat was called. To be read before the look that a sleep follows, so that no call is missed.
     pub(crate) fn heard(&self, token: u32) -> u64 {
-        self.calls[seat_of(token)].load(SeqCst)
+        of_seat(&self.calls, seat_of(token)).load(SeqCst)
     }
 
     /// Sleeps until the token's seat is called after `heard`.
     pub(crate) fn sleep<R: Wait>(&self, rt: &R, token: u32, heard: u64) {
-        let calls = &self.calls[seat_of(token)];
+        let calls = of_seat(&self.calls, seat_of(token));
         'asleep: for _ in rt.forever() {
             if calls.load(SeqCst) != heard {
                 return;

@@ -26,6 +26,9 @@ struct Row {
 const FENCE: &str =
     "egl-trace 1 4\n0 $d = eglGetDisplay 0\n0 eglInitialize $d\n0 $s = eglCreatePbufferSurface $d 4 [EGL_WIDTH,1,EGL_HEIGHT,1]\n0 $c = eglCreateContext $d 4 0 []\n0 eglMakeCurrent $d $s $s $c\n0 $y = eglCreateSync $d EGL_SYNC_FENCE []\n1 eglClientWaitSync $d $y 0 EGL_FOREVER\n2 eglClientWaitSync $d $y 0 EGL_FOREVER\n3 await 1\n0 post 1\n";
 
+/// Thread 0 waits for the others at its end, so that nobody is called by that. A thread that comes to its end calls all.
+const BEHIND: &str = "1 post 5\n2 post 6\n3 post 7\n0 await 5\n0 await 6\n0 await 7\n";
+
 /// What comes of that fence.
 static FENCES: [Row; 11] = [
     Row {
@@ -89,22 +92,22 @@ static FENCES: [Row; 11] = [
 static TRACES: [Row; 8] = [
     Row {
         name: "an answer",
-        lines: "egl-trace 1 2\n0 $d = eglGetDisplay 0\n1 eglInitialize $d\n",
+        lines: "egl-trace 1 2\n0 $d = eglGetDisplay 0\n1 eglInitialize $d\n1 post 1\n0 await 1\n",
         ends: true,
     },
     Row {
         name: "an answer without a turn",
-        lines: "egl-trace 1 2\n0 $a = eglQueryAPI\n1 eglInitialize $a\n",
+        lines: "egl-trace 1 2\n0 $a = eglQueryAPI\n1 eglInitialize $a\n1 post 1\n0 await 1\n",
         ends: true,
     },
     Row {
         name: "two answers",
-        lines: "egl-trace 1 3\n0 $a = eglGetDisplay 0\n0 $b = eglInitialize 2\n1 eglMakeCurrent $a $b $b $b\n2 eglInitialize $b\n",
+        lines: "egl-trace 1 3\n0 $a = eglGetDisplay 0\n0 $b = eglInitialize 2\n1 eglMakeCurrent $a $b $b $b\n2 eglInitialize $b\n1 post 1\n2 post 2\n0 await 1\n0 await 2\n",
         ends: true,
     },
     Row {
         name: "a post",
-        lines: "egl-trace 1 3\n0 post 7\n1 await 7\n2 await 7\n",
+        lines: "egl-trace 1 3\n0 post 7\n1 await 7\n2 await 7\n1 post 1\n2 post 2\n0 await 1\n0 await 2\n",
         ends: true,
     },
     Row {
@@ -180,7 +183,7 @@ fn how_many_end<R: Threads + Wait + Sync>(
 fn fences_free_those_who_wait(rt: HostRuntime) -> Result<(), Fail> {
     let alloc = rt.alloc();
     for row in &FENCES {
-        let text = format!(in alloc; "{}{}", FENCE, row.lines)?;
+        let text = format!(in alloc; "{}{}{}", FENCE, row.lines, BEHIND)?;
         let count = how_many_end(&rt, alloc, text)?;
         let all = if row.ends { 2 * RUNS } else { 0 };
         assert_eq!(rt; count, all, "of {}", row.name);
