@@ -2,10 +2,13 @@
 use std::sync::Wait;
 use std::sync::atomic::AtomicU64;
 use std::sync::atomic::Ordering::SeqCst;
-use std::thread;
+use std::time::Duration;
 
-/// How many turns a worker waits for the others, before it closes the count.
-const MOST_TURNS: u64 = 10_000_000;
+/// How long a worker sleeps at a time, in milliseconds.
+const NAP: u64 = 50;
+
+/// How often a worker sleeps while no other begins, before it closes the count.
+const MOST_NAPS: u64 = 10;
 
 /// What the word has at least, once the count is closed.
 const CLOSED: u64 = 1 << 32;
@@ -25,30 +28,37 @@ impl Start {
 
     /// Counts a worker in, and waits until all have begun. False where the count was closed before: then no worker plays a line.
     pub(crate) fn count_in<R: Wait>(&self, rt: &R, workers: u64) -> bool {
-        self.begun.fetch_add(1, SeqCst);
+        let before = self.begun.fetch_add(1, SeqCst);
+        if before.wrapping_add(1) == workers {
+            self.begun.wake_all();
+        }
         'waiting: for _ in rt.forever() {
-            if let Some(all) = self.wait_for(workers) {
+            if let Some(all) = self.wait_for(rt, workers) {
                 return all;
             }
         }
         unreachable!()
     }
 
-    // Waits so many turns, and then closes the count, unless another worker begins meanwhile: then there is no answer yet.
-    fn wait_for(&self, workers: u64) -> Option<bool> {
-        let mut begun = self.begun.load(SeqCst);
-        'turns: for _turn in 0..MOST_TURNS {
-            if begun >= CLOSED {
+    // Sleeps so often, and then closes the count, unless another worker begins meanwhile: then there is no answer yet.
+    fn wait_for<R: Wait>(&self, rt: &R, workers: u64) -> Option<bool> {
+        let begun = self.begun.load(SeqCst);
+        'naps: for _nap in 0..MOST_NAPS {
+            let now = self.begun.load(SeqCst);
+            if now >= CLOSED {
                 return Some(false);
             }
-            if begun >= workers {
+            if now >= workers {
                 return Some(true);
             }
-            thread::yield_now();
-            begun = self.begun.load(SeqCst);
+            self.begun
+                .park_timeout(rt, (now % CLOSED) as u32, Duration::from_millis(NAP));
         }
         match self.begun.compare_exchange(begun, CLOSED, SeqCst, SeqCst) {
-            Ok(_) => Some(false),
+            Ok(_) => {
+                self.begun.wake_all();
+                Some(false)
+            }
             Err(_) => None,
         }
     }

@@ -9,6 +9,7 @@ ghost use Rattle.egl_model.specs.Parts.{part_of};
 ghost use Rattle.egl_model.specs.Sound.{IsSound};
 ghost use Rattle.egl_model.specs.State.{State, opening};
 ghost use Rattle.egl_model.specs.Step.{step};
+ghost use Rattle.egl_model.specs.Waits.{is_ready};
 ghost use Rattle.driver_core.specs.Machine.{outs};
 ghost use Rattle.driver_core.specs.Memory.{takes_no_memory};
 ghost use Rattle.driver_core.specs.Parts.{FitsThread};
@@ -391,15 +392,15 @@ impl Core {
     }
 
     // Whether the wait of a token can end.
-    #[tactic(auto, using(crate::proofs::Ending::ready_ends))]
     fn can_end(&self, number: u32) -> bool
         requires { number < self.now.driver.made }
-        ensures { result ≡ true → (step self.now.driver.state number wait_end_call).reply ≡ wait_ended }
+        ensures { result ≡ is_ready self.now.driver.state number }
     {
         self.driver.wait_ready(number)
     }
 
-    /// Ends the wait of a token, where it can end, in a place that its room promises.
+    /// Ends the wait of a token, exactly where it can end, in a place that its room promises.
+    #[tactic(auto, using(crate::proofs::Ending::ready_ends))]
     pub fn try_end(
         &mut self,
         alloc: Global,
@@ -411,6 +412,7 @@ impl Core {
         requires room { length tail.old.items + 1 < slice_index self.old.rooms.items number }
         requires owed { self.old.promised ≡ owed self.old.rooms.items }
         requires spare { self.old.promised ≤ self.old.journal.spare }
+        ensures ready { OnSome result (is_ready self.old.driver.state number ≡ true) }
         ensures ended { IfSome result (λ r. (r ≡ wait_ended) × (r ≡ (step self.old.driver.state number wait_end_call).reply)) }
         ensures driver { OnSome result (self.new.driver ≡ record self.old.driver { state = (step self.old.driver.state number wait_end_call).state }) }
         ensures added { OnSome result (self.new.journal.entries ≡ (self.old.journal.entries ++ tail.old.items) ++ entry number mark wait_end_call wait_ended ∷ []) }
@@ -420,6 +422,7 @@ impl Core {
         ensures owed { OnSome result (self.new.promised ≡ owed self.new.rooms.items) }
         ensures spare { OnSome result (self.new.promised ≤ self.new.journal.spare) }
         ensures live { self.new.live ≡ self.old.live }
+        ensures waits { IfNone result (is_ready self.old.driver.state number ≡ false) }
         ensures none { IfNone result ((self.new ≡ self.old) × (tail.new.items ≡ tail.old.items)) }
     {
         if !self.can_end(number) {

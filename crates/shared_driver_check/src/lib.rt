@@ -17,3 +17,5 @@ mod sides;
 mod tests;
 #[cfg(test)]
 mod traces;
+#[cfg(test)]
+mod wakings;
