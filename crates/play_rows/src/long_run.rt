@@ -1,16 +1,15 @@
-//! A long run, and then the program's own run on what it is given: a crate has one stored run, and that of `egl_main` ends well.
+//! A long run: a trace of 100,000 lines over every kind of call but those of windows and fences, `post` and `await`.
 //!
-//! The long run plays a trace of 100,000 lines over every kind of call but those of windows and fences, `post` and `await`. It prints the sum of the trace and that of its recording, which `bench/long_run_model` works out apart from the driver.
-#![tactic(auto)]
-
-mod calls;
-
+//! It prints the sum of the trace and that of its recording, which `bench/long_run_model` works out apart from the driver.
+use crate::long_lines::trace;
+use crate::playing::words_of;
 use anyhow::{Result, bail};
-use egl_calls::{Bytes, Numbers, Text};
-use egl_cli::{plain, run};
+use egl_calls::{Bytes, Numbers};
+use egl_cli::plain;
 use egl_flow::{MemorySink, MemorySource};
-use std::alloc::Global;
-use std::process::ExitCode;
+
+/// How many bytes the recording may have.
+const ROOM: u64 = 33_554_432;
 
 /// The sum of Fowler, Noll and Vo, 1a, of 64 bits.
 fn sum_of(bytes: &[u8]) -> u64 {
@@ -21,33 +20,24 @@ fn sum_of(bytes: &[u8]) -> u64 {
     sum
 }
 
-fn report(rt: &HostRuntime, name: &str, text: &[u8]) -> Result<()> {
+fn report<R: Print>(rt: &R, name: &str, text: &[u8]) -> Result<()> {
     let (length, sum) = (text.len(), sum_of(text));
     println!(rt; "{name}: {length} bytes, sum {sum}")?;
     Ok(())
 }
 
-fn serial(alloc: Global) -> Result<Vec<Text>> {
-    let mut words = Vec::new(alloc);
-    words.push(Text::from_vec(Vec::from_slice(alloc, b"serial")?))?;
-    Ok(words)
-}
-
-fn long_run(rt: &HostRuntime) -> Result<()> {
+/// Plays the trace by turns, and prints the sums and the exit status.
+pub fn long_run<R: Print + AllocGlobal>(rt: &R) -> Result<()> {
     let alloc = rt.alloc();
-    let trace = calls::trace(alloc)?;
+    let trace = trace(alloc)?;
     report(rt, "trace", trace.as_bytes())?;
+    let words = words_of(alloc, "serial")?;
     let bytes = Bytes::from_vec(trace.into_bytes());
     let mut source = MemorySource::new(bytes, Numbers::new(alloc));
-    let Ok(mut sink) = MemorySink::new(alloc, 33_554_432, Numbers::new(alloc)) else {
+    let Ok(mut sink) = MemorySink::new(alloc, ROOM, Numbers::new(alloc)) else {
         bail!("no memory for the recording");
     };
-    let status = plain(alloc, &serial(alloc)?, &mut source, &mut sink).number();
+    let status = plain(alloc, &words, &mut source, &mut sink).number();
     println!(rt; "status: {status}")?;
     report(rt, "recording", sink.taken())
-}
-
-fn main(rt: HostRuntime) -> Result<ExitCode> {
-    long_run(&rt)?;
-    Ok(ExitCode::from(run(&rt, rt.stdin(), rt.stdout()).number()))
 }
