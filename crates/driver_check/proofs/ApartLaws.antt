@@ -7,7 +7,7 @@ use Rattle.egl_model.specs.Frame.{IsReady}
 use Rattle.egl_model.specs.Hidden.{hide}
 use Rattle.egl_model.specs.Parts.{Private, part_of}
 use Rattle.driver_core.specs.Machine.{Machine, outs}
-use Rattle.driver_rows.specs.Apart.{IsApart, IsJoined}
+use Rattle.driver_check.specs.Apart.{IsApart, IsJoined}
 
 pub some_threads : 0 < capacity
 unfolding capacity

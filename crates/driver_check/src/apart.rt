@@ -1,5 +1,5 @@
 //! A driver of two threads, of which the first has its private part beside the driver.
-ghost use Rattle.std.specs.Prelude.{◌≡◌, ◌<◌, true, false, slice_index_or, IfOk, OnOk};
+ghost use Rattle.std.specs.Prelude.{◌≡◌, ◌<◌, true, false, slice_index_or, OnOk};
 ghost use Rattle.egl_calls.specs.Kinds.{is_built};
 ghost use Rattle.egl_model.specs.State.{State};
 ghost use Rattle.egl_model.specs.Sound.{IsSound};
@@ -7,7 +7,7 @@ ghost use Rattle.egl_model.specs.Hidden.{hide};
 ghost use Rattle.egl_model.specs.Local.{is_local};
 ghost use Rattle.egl_model.specs.Step.{step};
 ghost use Rattle.driver_core.specs.Machine.{outs};
-ghost use Rattle.driver_rows.specs.Apart.{IsApart, IsJoined};
+ghost use Rattle.driver_check.specs.Apart.{IsApart, IsJoined};
 
 use driver_core::{Driver, a_part_fits_after_local_calls};
 use egl_calls::{Call, NoMemory, Reply, ReplyPair};
@@ -15,6 +15,7 @@ use egl_model::part_laws::{a_step_keeps_other_parts, histories_are_ready};
 use ref_store::Steps;
 use std::alloc::Global;
 use std::marker::Brand;
+use std::process::Abort;
 use std::sync::ledger::{Blank, Ledger};
 use thread_part::ThreadPart;
 
@@ -31,14 +32,18 @@ pub struct Apart {
 }
 
 /// A driver of two threads.
-pub fn opened(alloc: Global) -> Result<Driver, NoMemory>
-    ensures made { IfOk result (λ d. d.made ≡ 2) }
-    ensures joined { IfOk result IsJoined }
+pub fn opened(rt: &impl Abort, alloc: Global) -> Driver
+    ensures made { result.made ≡ 2 }
+    ensures joined { IsJoined result }
 {
-    let mut driver = Driver::new(alloc, &[], 67_108_864)?;
-    driver.add_thread()?;
+    let Ok(mut driver) = Driver::new(alloc, &[], 67_108_864) else {
+        panic!(rt; "no memory");
+    };
+    let Ok(_) = driver.add_thread() else {
+        panic!(rt; "no memory");
+    };
     histories_are_ready();
-    Ok(driver)
+    driver
 }
 
 /// The first thread's part goes out.
@@ -83,47 +88,51 @@ fn uncounted<L: Ledger>(
 }
 
 /// A call that the driver plays.
-fn step(driver: &mut Driver, alloc: Global, thread: u32, call: &Call) -> Result<Reply, NoMemory>
+fn step(rt: &impl Abort, driver: &mut Driver, alloc: Global, thread: u32, call: &Call) -> Reply
     requires made { thread < driver.old.made }
     requires built { is_built call.now.kind ≡ true }
-    ensures outside { (s : State) → IsSound s → slice_index_or driver.old.away thread false ≡ false → driver.old.state ≡ hide (outs driver.old.away) s → OnOk result (driver.new ≡ record driver.old { state = hide (outs driver.old.away) (step s thread call.now).state }) }
+    ensures outside { (s : State) → IsSound s → slice_index_or driver.old.away thread false ≡ false → driver.old.state ≡ hide (outs driver.old.away) s → driver.new ≡ record driver.old { state = hide (outs driver.old.away) (step s thread call.now).state } }
 {
-    uncounted::<Brand>(driver, alloc, thread, call, Blank::new(1))
+    let Ok(reply) = uncounted::<Brand>(driver, alloc, thread, call, Blank::new(1)) else {
+        panic!(rt; "no memory");
+    };
+    reply
 }
 
 /// A call of the other thread, while the part is out.
-pub fn call_of_other(alloc: Global, apart: &mut Apart, call: &Call) -> Result<Reply, NoMemory>
+pub fn call_of_other(rt: &impl Abort, alloc: Global, apart: &mut Apart, call: &Call) -> Reply
     requires apart { IsApart apart.old.driver apart.old.part }
     requires built { is_built call.now.kind ≡ true }
-    ensures { OnOk result (IsApart apart.new.driver apart.new.part) }
+    ensures { IsApart apart.new.driver apart.new.part }
 {
     histories_are_ready();
     a_step_keeps_other_parts();
-    let reply = step(&mut apart.driver, alloc, OTHER, call)?;
-    Ok(reply)
+    step(rt, &mut apart.driver, alloc, OTHER, call)
 }
 
 /// A local call of the thread whose part is out, on the part alone.
-pub fn local_call(alloc: Global, apart: &mut Apart, call: &Call) -> Result<Reply, NoMemory>
+pub fn local_call(rt: &impl Abort, alloc: Global, apart: &mut Apart, call: &Call) -> Reply
     requires apart { IsApart apart.old.driver apart.old.part }
     requires local { is_local apart.old.part call.now ≡ true }
     requires built { is_built call.now.kind ≡ true }
-    ensures { OnOk result (IsApart apart.new.driver apart.new.part) }
+    ensures { IsApart apart.new.driver apart.new.part }
 {
     histories_are_ready();
     a_part_fits_after_local_calls();
-    let ReplyPair { reply, copy: _ } = apart.part.local(alloc, call)?;
-    Ok(reply)
+    let Ok(ReplyPair { reply, copy: _ }) = apart.part.local(alloc, call) else {
+        panic!(rt; "no memory");
+    };
+    reply
 }
 
 /// Another call of it: its part is in for as long as the driver plays the call.
-pub fn shared_call(alloc: Global, apart: Apart, call: &Call) -> Result<(Apart, Reply), NoMemory>
+pub fn shared_call(rt: &impl Abort, alloc: Global, apart: Apart, call: &Call) -> (Apart, Reply)
     requires apart { IsApart apart.driver apart.part }
     requires built { is_built call.now.kind ≡ true }
-    ensures { IfOk result (λ r. IsApart r.0.driver r.0.part) }
+    ensures { IsApart result.0.driver result.0.part }
 {
     let mut driver = put_back(apart);
     histories_are_ready();
-    let reply = step(&mut driver, alloc, APART, call)?;
-    Ok((taken(driver), reply))
+    let reply = step(rt, &mut driver, alloc, APART, call);
+    (taken(driver), reply)
 }

@@ -1,10 +1,10 @@
 //! Threads of a trace that run at once.
-use crate::playing::{answer, sink, source};
+use crate::commands::{answer, sink, source, wrote};
 use egl_cli::{Gate, play_words};
+use std::process::Abort;
 use std::sync::Wait;
 use std::sync::atomic::AtomicU64;
 use std::sync::atomic::Ordering::SeqCst;
-use std::test::Fail;
 use std::thread;
 use std::thread::Threads;
 
@@ -45,17 +45,16 @@ impl Gate for Meeting {
 }
 
 #[test]
-fn two_at_once(rt: HostRuntime) -> Result<(), Fail> {
+fn two_at_once(rt: HostRuntime) {
     let alloc = rt.alloc();
     let gate = Meeting {
         came: AtomicU64::new(0),
         met: AtomicU64::new(0),
     };
-    let mut sink = sink(alloc, 200, &[])?;
-    let mut source = source(alloc, THREE_LINES, &[])?;
+    let mut sink = sink(&rt, alloc, 200, &[]);
+    let mut source = source(&rt, alloc, THREE_LINES, &[]);
     let status = play_words(&rt, alloc, &mut source, &mut sink, &gate);
     assert_eq!(rt; (status.number(), gate.met.load(SeqCst)), (0, 1));
-    Ok(())
 }
 
 /// Thread 0 waits for a fence of thread 1, which flushes.
@@ -69,17 +68,15 @@ static RECORDINGS: [&[u8]; 2] = [
 ];
 
 /// Whether a run of it ends, by one of the two recordings.
-fn ends_so<R: AllocGlobal + Threads + Wait + Sync>(rt: &R) -> Result<bool, Fail> {
-    let (status, sink) = answer(rt, "play", WAIT)?;
-    let text = sink.taken();
+fn ends_so<R: Abort + AllocGlobal + Threads + Wait + Sync>(rt: &R) -> bool {
+    let ran = answer(rt, "play", WAIT);
     let [before, behind] = RECORDINGS;
-    Ok(status == 0 && (text == before || text == behind))
+    wrote(&ran, 0, before) || wrote(&ran, 0, behind)
 }
 
 #[test]
-fn a_wait_ends_by_another_threads_flush(rt: HostRuntime) -> Result<(), Fail> {
+fn a_wait_ends_by_another_threads_flush(rt: HostRuntime) {
     for _run in 0..20 {
-        assert!(rt; ends_so(&rt)?);
+        assert!(rt; ends_so(&rt));
     }
-    Ok(())
 }

@@ -5,7 +5,7 @@ ghost use Rattle.egl_model.specs.Waits.{is_wait_end};
 ghost use Rattle.shared_driver.specs.Tokens.{IsOf};
 
 use crate::draws::{Draws, built_call, display_call, own_call};
-use egl_calls::{Call, Reply};
+use egl_calls::{Call, Journal, Reply};
 use shared_driver::{AttachError, Closed, Opened, Shared, Thread};
 use std::alloc::Global;
 use std::process::Abort;
@@ -172,13 +172,25 @@ pub fn attached_all<R: Abort + Wait>(rt: &R, shared: &Shared, thread: &mut Threa
     0
 }
 
-/// Closes the driver, whose other tokens are all joined.
-pub fn finish<R: Abort + Wait>(rt: &R, shared: Shared, mut thread: Thread) -> Closed
+/// What a closed driver leaves to look at.
+#[derive(Drop)]
+pub struct Ended {
+    pub journal: Journal,
+    /// How many threads the driver had.
+    pub threads: u32,
+}
+
+/// Closes the driver, whose other tokens are all joined. The driver itself goes here, so that no test proves again that it may go.
+pub fn finish<R: Abort + Wait>(rt: &R, shared: Shared, mut thread: Thread) -> Ended
     requires { IsOf shared thread }
 {
     let live = shared.live(&mut thread, rt);
     if live != 1 {
         panic!(rt; "{live} tokens are live");
     }
-    shared.close(thread)
+    let Closed { driver, journal } = shared.close(thread);
+    Ended {
+        journal,
+        threads: driver.threads(),
+    }
 }

@@ -1,13 +1,12 @@
 //! Words that are no command, faults of reading and writing, and inputs at the limit.
 ghost use Rattle.std.specs.Prelude.{None};
 
-use crate::playing::{answer, ran, sink, source, status_of, words};
+use crate::commands::{answer, ran, sink, source, status_of, words, wrote};
 use egl_cli::plain;
 use egl_flow::{Failed, Sink};
 use std::alloc::Global;
 use std::process::Abort;
 use std::sync::Wait;
-use std::test::Fail;
 use std::thread::Threads;
 
 const HEADER: &[u8] = b"egl-trace 1 1\n";
@@ -33,44 +32,22 @@ static OTHER_WORDS: [&[&str]; 9] = [
     &["Serial"],
 ];
 
-/// Whether words are answered by the usage, and nothing is read.
-fn are_no_command<R: AllocGlobal + Threads + Wait + Sync>(
-    rt: &R,
-    words: &[&str],
-) -> Result<bool, Fail> {
-    let (status, sink) = ran(rt, words, HEADER, 0, 200, -1)?;
-    Ok(status == 2 && sink.taken() == USAGE)
-}
-
 #[test]
-fn other_words_are_no_command(rt: HostRuntime) -> Result<(), Fail> {
+fn other_words_are_no_command(rt: HostRuntime) {
+    // A read would fail.
     for words in &OTHER_WORDS {
-        assert!(rt; are_no_command(&rt, words)?, "{words:?}");
+        let ran = ran(&rt, words, HEADER, 0, 200, -1);
+        assert!(rt; wrote(&ran, 2, USAGE), "{words:?}");
     }
-    Ok(())
 }
 
 #[test]
-fn play_is_no_command_without_threads(rt: HostRuntime) -> Result<(), Fail> {
-    let words = words(rt.alloc(), &["play"])?;
-    let mut sink = sink(rt.alloc(), 200, &[])?;
-    let mut source = source(rt.alloc(), HEADER, &[0])?;
+fn play_is_no_command_without_threads(rt: HostRuntime) {
+    let words = words(&rt, rt.alloc(), &["play"]);
+    let mut sink = sink(&rt, rt.alloc(), 200, &[]);
+    let mut source = source(&rt, rt.alloc(), HEADER, &[0]);
     let status = plain(rt.alloc(), &words, &mut source, &mut sink);
     assert_eq!(rt; (status.number(), sink.taken()), (2, USAGE));
-    Ok(())
-}
-
-/// Whether a command answers this of an input whose source fails at a call.
-fn reads_so<R: AllocGlobal + Threads + Wait + Sync>(
-    rt: &R,
-    word: &str,
-    input: &[u8],
-    fails: i64,
-    wanted: u8,
-    text: &[u8],
-) -> Result<bool, Fail> {
-    let (status, sink) = ran(rt, &[word], input, fails, 100, -1)?;
-    Ok(status == wanted && sink.taken() == text)
 }
 
 /// Three calls give the bytes, and a fourth says that it was all.
@@ -81,34 +58,26 @@ static READS: [(i64, u8, &[u8]); 4] = [
     (4, 0, EMPTY_RECORDING),
 ];
 
-fn expect_reads<R: AllocGlobal + Abort + Threads + Wait + Sync>(
-    rt: &R,
-    word: &str,
-    input: &[u8],
-) -> Result<(), Fail> {
+fn expect_reads<R: AllocGlobal + Abort + Threads + Wait + Sync>(rt: &R, word: &str, input: &[u8]) {
     for (call, status, text) in &READS {
-        assert!(rt;
-            reads_so(rt, word, input, *call, *status, text)?,
-            "{word} {call}"
-        );
+        let ran = ran(rt, &[word], input, *call, 100, -1);
+        assert!(rt; wrote(&ran, *status, text), "{word} {call}");
     }
-    Ok(())
 }
 
 /// A header, and spaces up to so many bytes.
-fn padded(alloc: Global, bytes: usize) -> Result<Vec<u8>, Fail> {
-    let mut input = Vec::from_slice(alloc, HEADER)?;
-    input.resize(bytes, b' ')?;
-    Ok(input)
+fn padded(rt: &impl Abort, alloc: Global, bytes: usize) -> Vec<u8> {
+    let mut input = Vec::from_slice(alloc, HEADER).expect(rt, "memory");
+    input.resize(bytes, b' ').expect(rt, "memory");
+    input
 }
 
 #[test]
-fn a_source_that_fails_is_a_read_fault(rt: HostRuntime) -> Result<(), Fail> {
-    let input = padded(rt.alloc(), 20_000)?;
+fn a_source_that_fails_is_a_read_fault(rt: HostRuntime) {
+    let input = padded(&rt, rt.alloc(), 20_000);
     for word in PLAYERS {
-        expect_reads(&rt, word, &input)?;
+        expect_reads(&rt, word, &input);
     }
-    Ok(())
 }
 
 /// Takes one byte a call, and fails at one of them.
@@ -139,48 +108,31 @@ impl Sink for Slow {
 }
 
 /// Whether a command that writes the empty recording to a sink that fails at a call is a write fault, with all bytes before that call taken.
-fn fails_at<R: AllocGlobal + Threads + Wait + Sync>(
-    rt: &R,
-    word: &str,
-    call: u64,
-) -> Result<bool, Fail> {
+fn fails_at<R: Abort + AllocGlobal + Threads + Wait + Sync>(rt: &R, word: &str, call: u64) -> bool {
     let mut sink = Slow {
         calls: 0,
         fails_at: call,
         faults: 0,
         taken: 0,
     };
-    let mut source = source(rt.alloc(), HEADER, &[])?;
-    let status = status_of(rt, &[word], &mut source, &mut sink)?;
-    Ok((status, sink.taken) == (5, call))
+    let mut source = source(rt, rt.alloc(), HEADER, &[]);
+    let status = status_of(rt, &[word], &mut source, &mut sink);
+    (status, sink.taken) == (5, call)
 }
 
 /// The first, a middle and the last of 43 calls.
 static CALLS: [u64; 3] = [0, 20, 42];
 
 #[test]
-fn a_sink_that_fails_is_a_write_fault(rt: HostRuntime) -> Result<(), Fail> {
+fn a_sink_that_fails_is_a_write_fault(rt: HostRuntime) {
     for word in PLAYERS {
         for call in CALLS {
-            assert!(rt; fails_at(&rt, word, call)?, "{word} {call}");
+            assert!(rt; fails_at(&rt, word, call), "{word} {call}");
         }
     }
-    Ok(())
 }
 
-/// Whether a command writes only the front of its text to a sink with room for five bytes.
-fn writes_front<R: AllocGlobal + Threads + Wait + Sync>(
-    rt: &R,
-    word: &str,
-    input: &[u8],
-    fails: i64,
-    front: &[u8],
-) -> Result<bool, Fail> {
-    let (status, sink) = ran(rt, &[word], input, fails, 5, -1)?;
-    Ok(status == 5 && sink.taken() == front)
-}
-
-/// An input, the call at which its source fails, and the front of what is written.
+/// An input, the call at which its source fails, and the front of what is written to a sink with room for five bytes.
 static FRONTS: [(&[u8], i64, &[u8]); 4] = [
     (b"", -1, b"malfo"),
     (b"", 0, b"read "),
@@ -188,54 +140,37 @@ static FRONTS: [(&[u8], i64, &[u8]); 4] = [
     (b"egl-trace 1 1\n0 await 1\n", -1, b"recor"),
 ];
 
-fn expect_fronts<R: AllocGlobal + Abort + Threads + Wait + Sync>(
-    rt: &R,
-    word: &str,
-) -> Result<(), Fail> {
+fn expect_fronts<R: AllocGlobal + Abort + Threads + Wait + Sync>(rt: &R, word: &str) {
     for (input, fails, front) in &FRONTS {
-        assert!(rt; writes_front(rt, word, input, *fails, front)?, "{word}");
+        let ran = ran(rt, &[word], input, *fails, 5, -1);
+        assert!(rt; wrote(&ran, 5, front), "{word}");
     }
-    Ok(())
 }
 
 #[test]
-fn a_sink_that_is_full_is_a_write_fault_in_place_of_every_status(
-    rt: HostRuntime,
-) -> Result<(), Fail> {
+fn a_sink_that_is_full_is_a_write_fault_in_place_of_every_status(rt: HostRuntime) {
     for word in PLAYERS {
-        expect_fronts(&rt, word)?;
+        expect_fronts(&rt, word);
     }
-    assert!(rt; writes_front(&rt, "frob", b"", -1, b"usage")?);
-    Ok(())
-}
-
-/// Whether a command answers this of an input.
-fn answers<R: AllocGlobal + Threads + Wait + Sync>(
-    rt: &R,
-    word: &str,
-    input: &[u8],
-    wanted: u8,
-    text: &[u8],
-) -> Result<bool, Fail> {
-    let (status, sink) = answer(rt, word, input)?;
-    Ok(status == wanted && sink.taken() == text)
+    let ran = ran(&rt, &["frob"], b"", -1, 5, -1);
+    assert!(rt; wrote(&ran, 5, b"usage"));
 }
 
 /// The most bytes that an input may have.
 const MOST_BYTES: usize = 33_554_432;
 
 #[test]
-fn an_input_of_the_limit_is_played(rt: HostRuntime) -> Result<(), Fail> {
-    let input = padded(rt.alloc(), MOST_BYTES)?;
-    assert!(rt; answers(&rt, "serial", &input, 0, EMPTY_RECORDING)?);
-    Ok(())
+fn an_input_of_the_limit_is_played(rt: HostRuntime) {
+    let input = padded(&rt, rt.alloc(), MOST_BYTES);
+    let ran = answer(&rt, "serial", &input);
+    assert!(rt; wrote(&ran, 0, EMPTY_RECORDING));
 }
 
 #[test]
-fn a_byte_more_is_too_long(rt: HostRuntime) -> Result<(), Fail> {
-    let input = padded(rt.alloc(), MOST_BYTES + 1)?;
+fn a_byte_more_is_too_long(rt: HostRuntime) {
+    let input = padded(&rt, rt.alloc(), MOST_BYTES + 1);
     for word in PLAYERS {
-        assert!(rt; answers(&rt, word, &input, 8, b"too long\n")?, "{word}");
+        let ran = answer(&rt, word, &input);
+        assert!(rt; wrote(&ran, 8, b"too long\n"), "{word}");
     }
-    Ok(())
 }

@@ -4,8 +4,9 @@ ghost use Rattle.egl_model.specs.State.{opening};
 ghost use Rattle.shared_driver.specs.Tokens.{IsOf, mine, opening_of, token_of};
 
 use crate::crowds::finish;
+use crate::readings::read_text;
 use driver_core::Driver;
-use egl_calls::{Bytes, Journal, NoMemory};
+use egl_calls::{Journal, NoMemory};
 use play_threads::{Gate, work};
 use shared_driver::{Opened, Pick, Picker, Shared, Thread};
 use std::alloc::Global;
@@ -13,7 +14,6 @@ use std::process::Abort;
 use std::sync::Wait;
 use std::sync::atomic::AtomicU64;
 use std::sync::atomic::Ordering::SeqCst;
-use std::test::Fail;
 use std::thread;
 use std::thread::Threads;
 use trace_reader::Trace;
@@ -22,7 +22,7 @@ use trace_reader::Trace;
 const MOST_TURNS: u64 = 10_000_000;
 
 /// Two lines that the thread's private part answers.
-const TWO_QUERIES: &[u8] = b"egl-trace 1 1\n0 eglQueryAPI\n0 eglQueryAPI\n";
+const TWO_QUERIES: &str = "egl-trace 1 1\n0 eglQueryAPI\n0 eglQueryAPI\n";
 
 /// How far the trace's thread and the other token have come. Each is 0, and then 1.
 #[derive(Drop)]
@@ -159,11 +159,24 @@ fn play_beside<R: Abort + Threads + Wait + Sync>(
     thread
 }
 
+// A driver for the trace, with one token.
+fn opened_for<R: Abort>(rt: &R, alloc: Global, trace: &Trace) -> Opened
+    ensures owns { IsOf result.shared result.thread }
+    ensures opening { opening_of result.shared ≡ opening trace.now.windows trace.now.video }
+    ensures mine { mine (token_of result.thread) ≡ [] }
+{
+    // That a trace's windows and limit of bytes are within bounds stands on `lines`.
+    trace.lines();
+    match Shared::open(alloc, trace.windows(), trace.video()) {
+        Ok(opened) => opened,
+        Err(_) => panic!(rt; "memory"),
+    }
+}
+
 #[test]
-fn local_without_turn(rt: HostRuntime) -> Result<(), Fail> {
+fn local_without_turn(rt: HostRuntime) {
     let alloc = rt.alloc();
-    let bytes = Bytes::from_vec(Vec::from_slice(alloc, TWO_QUERIES)?);
-    let trace = Trace::read(alloc, &bytes)?;
+    let trace = read_text(&rt, alloc, TWO_QUERIES);
     let stages = Stages {
         at_first_line: AtomicU64::new(0),
         in_turn: AtomicU64::new(0),
@@ -171,8 +184,7 @@ fn local_without_turn(rt: HostRuntime) -> Result<(), Fail> {
         at_second_line: AtomicU64::new(0),
         met: AtomicU64::new(0),
     };
-    trace.lines();
-    let Opened { shared, thread } = Shared::open(alloc, trace.windows(), trace.video())?;
+    let Opened { shared, thread } = opened_for(&rt, alloc, &trace);
     let thread = play_beside(&rt, alloc, &trace, &shared, thread, &stages);
     let run = finish(&rt, shared, thread);
     let lines: [u64; 2] = [2, 3];
@@ -180,5 +192,4 @@ fn local_without_turn(rt: HostRuntime) -> Result<(), Fail> {
     assert!(rt; marks.eq(lines));
     assert_eq!(rt; stages.kept.load(SeqCst), 1);
     assert_eq!(rt; stages.met.load(SeqCst), 1);
-    Ok(())
 }

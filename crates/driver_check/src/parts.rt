@@ -1,20 +1,19 @@
 //! A thread's part goes out and comes back between the calls of another thread, and leaves every reply as without it.
-ghost use Rattle.std.specs.Prelude.{◌≡◌, ◌<◌, true, All, IfOk};
+ghost use Rattle.std.specs.Prelude.{◌≡◌, ◌<◌, true, All};
 ghost use Rattle.egl_calls.specs.Kinds.{is_built};
 ghost use Rattle.egl_calls.specs.Ranges.{IsNumber};
-ghost use Rattle.egl_model.specs.Local.{is_local};
-ghost use Rattle.driver_rows.specs.Apart.{IsApart};
+ghost use Rattle.driver_check.specs.Apart.{IsApart};
 
 use crate::apart::{APART, Apart, OTHER, call_of_other, local_call, opened, shared_call, taken};
+use crate::replays::is_same;
 use driver_core::Driver;
-use egl_calls::{Call, EglKind, GlKind, Kind, NoMemory, Numbers, OwnKind, Reply, is_built};
+use egl_calls::{Call, EglKind, GlKind, Kind, Numbers, OwnKind, Reply, is_built};
 use egl_names::codes::{
     EGL_DRAW, EGL_HEIGHT, EGL_OPENGL_ES_API, EGL_READ, EGL_WIDTH, GL_COLOR_BUFFER_BIT, GL_RGBA,
     GL_UNSIGNED_BYTE,
 };
 use std::alloc::Global;
 use std::process::Abort;
-use std::test::Fail;
 
 /// A thread, and its call with its first six numbers.
 type Row = (u32, Kind, [u32; 6]);
@@ -178,133 +177,81 @@ fn call(alloc: Global, kind: Kind, numbers: [u32; 6]) -> Call
 
 /// A call's reply by a driver whose parts are all in. What it says isn't told, so that the proof of the test below stays short.
 fn plain_reply(
+    rt: &impl Abort,
     alloc: Global,
     driver: &mut Driver,
     thread: u32,
     call: &Call,
-) -> Result<Reply, NoMemory>
+) -> Reply
     requires made { thread < driver.old.made }
     requires built { is_built call.now.kind ≡ true }
     ensures made { driver.new.made ≡ driver.old.made }
 {
-    driver.play(alloc, thread, call)
-}
-
-/// The reply to the other thread's call.
-fn other_reply(alloc: Global, mut apart: Apart, call: &Call) -> Result<(Apart, Reply), NoMemory>
-    requires apart { IsApart apart.driver apart.part }
-    requires built { is_built call.now.kind ≡ true }
-    ensures { IfOk result (λ r. IsApart r.0.driver r.0.part) }
-{
-    let reply = call_of_other(alloc, &mut apart, call)?;
-    Ok((apart, reply))
-}
-
-/// The reply to a local call.
-fn local_reply(alloc: Global, mut apart: Apart, call: &Call) -> Result<(Apart, Reply), NoMemory>
-    requires apart { IsApart apart.driver apart.part }
-    requires local { is_local apart.part call.now ≡ true }
-    requires built { is_built call.now.kind ≡ true }
-    ensures { IfOk result (λ r. IsApart r.0.driver r.0.part) }
-{
-    let reply = local_call(alloc, &mut apart, call)?;
-    Ok((apart, reply))
+    let Ok(reply) = driver.play(alloc, thread, call) else {
+        panic!(rt; "no memory");
+    };
+    reply
 }
 
 /// The reply where the first thread's part is out between its calls that aren't local.
 fn reply_apart(
+    rt: &impl Abort,
     alloc: Global,
-    apart: Apart,
+    mut apart: Apart,
     thread: u32,
     call: &Call,
-) -> Result<(Apart, Reply), NoMemory>
+) -> (Apart, Reply)
     requires apart { IsApart apart.driver apart.part }
     requires built { is_built call.now.kind ≡ true }
-    ensures { IfOk result (λ r. IsApart r.0.driver r.0.part) }
+    ensures { IsApart result.0.driver result.0.part }
 {
     if thread == OTHER {
-        other_reply(alloc, apart, call)
+        let reply = call_of_other(rt, alloc, &mut apart, call);
+        (apart, reply)
     } else if apart.part.is_local(call) {
-        local_reply(alloc, apart, call)
+        let reply = local_call(rt, alloc, &mut apart, call);
+        (apart, reply)
     } else {
-        shared_call(alloc, apart, call)
+        shared_call(rt, alloc, apart, call)
     }
-}
-
-fn are_equal(first: &Reply, second: &Reply) -> bool {
-    first.outcome == second.outcome
-        && first.value == second.value
-        && first.list.as_slice() == second.list.as_slice()
-        && first.bytes.as_slice() == second.bytes.as_slice()
-}
-
-/// Whether a call is answered so where the part is out.
-fn is_answered(
-    alloc: Global,
-    apart: Apart,
-    thread: u32,
-    call: &Call,
-    wanted: &Reply,
-) -> Result<(Apart, bool), NoMemory>
-    requires apart { IsApart apart.driver apart.part }
-    requires built { is_built call.now.kind ≡ true }
-    ensures { IfOk result (λ r. IsApart r.0.driver r.0.part) }
-{
-    let (apart, reply) = reply_apart(alloc, apart, thread, call)?;
-    let alike = are_equal(&reply, wanted);
-    Ok((apart, alike))
 }
 
 /// Whether a row's call is answered alike by a driver and by one whose first thread has its part out.
 fn both(
+    rt: &impl Abort,
     alloc: Global,
     whole: &mut Driver,
     apart: Apart,
     row: &Row,
-) -> Result<(Apart, bool), NoMemory>
+) -> (Apart, bool)
     requires whole { whole.old.made ≡ 2 }
     requires apart { IsApart apart.driver apart.part }
     ensures whole { whole.new.made ≡ 2 }
-    ensures apart { IfOk result (λ r. IsApart r.0.driver r.0.part) }
+    ensures apart { IsApart result.0.driver result.0.part }
 {
     let (thread, kind, numbers) = *row;
-    if thread > OTHER || !is_built(kind) {
-        return Ok((apart, false));
-    }
+    assert!(rt; thread <= OTHER && is_built(kind), "{kind:?}");
     let call = call(alloc, kind, numbers);
-    let wanted = plain_reply(alloc, whole, thread, &call)?;
-    is_answered(alloc, apart, thread, &call, &wanted)
+    let wanted = plain_reply(rt, alloc, whole, thread, &call);
+    let (apart, reply) = reply_apart(rt, alloc, apart, thread, &call);
+    (apart, is_same(&reply, &wanted))
 }
 
-fn expect_rows(
-    rt: &impl Abort,
-    alloc: Global,
-    whole: &mut Driver,
-    mut apart: Apart,
-) -> Result<(), Fail>
+fn expect_rows(rt: &impl Abort, alloc: Global, whole: &mut Driver, mut apart: Apart)
     requires whole { whole.old.made ≡ 2 }
     requires apart { IsApart apart.driver apart.part }
 {
     'each: for (k, row) in ROWS.iter().enumerate() {
-        let (next, holds) = both(alloc, whole, apart, row)?;
+        let (next, holds) = both(rt, alloc, whole, apart, row);
         assert!(rt; holds, "row {k}");
         apart = next;
     }
-    Ok(())
-}
-
-/// A driver whose first thread's part is out.
-fn opened_apart(alloc: Global) -> Result<Apart, NoMemory>
-    ensures { IfOk result (λ a. IsApart a.driver a.part) }
-{
-    Ok(taken(opened(alloc)?))
 }
 
 #[test]
-fn a_part_that_is_out_changes_no_reply(rt: HostRuntime) -> Result<(), Fail> {
-    let apart = opened_apart(rt.alloc())?;
-    let mut whole = opened(rt.alloc())?;
-    expect_rows(&rt, rt.alloc(), &mut whole, apart)?;
+fn a_part_that_is_out_changes_no_reply(rt: HostRuntime) {
+    let apart = taken(opened(&rt, rt.alloc()));
+    let mut whole = opened(&rt, rt.alloc());
+    expect_rows(&rt, rt.alloc(), &mut whole, apart);
     assert_eq!(rt; whole.census(), [0; 11]);
-    Ok(())
 }

@@ -3,7 +3,6 @@ use crate::readings::read;
 use egl_calls::{EglKind, GlKind, Kind, OwnKind};
 use std::alloc::Global;
 use std::process::Abort;
-use std::test::Fail;
 use trace_reader::Trace;
 
 /// A line of a trace is a call of a kind with these numbers, and has no list.
@@ -21,13 +20,12 @@ fn expect_call(rt: &impl Abort, trace: &Trace, n: u64, kind: Kind, numbers: [i64
 /// A call, its kind, and its numbers.
 type Row = (&'static str, Kind, [i64; 4]);
 
-fn expect_rows(rt: &impl Abort, alloc: Global, rows: &[Row]) -> Result<(), Fail> {
+fn expect_rows(rt: &impl Abort, alloc: Global, rows: &[Row]) {
     for (call, kind, numbers) in rows {
-        let line = format!(in alloc; "0 {call}")?;
-        let trace = read(alloc, &line)?;
+        let line = format!(in alloc; "0 {call}").expect(rt, "memory");
+        let trace = read(rt, alloc, &line);
         expect_call(rt, &trace, 0, *kind, *numbers);
     }
-    Ok(())
 }
 
 static FENCES: [Row; 7] = [
@@ -61,8 +59,8 @@ static FENCES: [Row; 7] = [
 ];
 
 #[test]
-fn calls_of_fences_are_read(rt: HostRuntime) -> Result<(), Fail> {
-    expect_rows(&rt, rt.alloc(), &FENCES)
+fn calls_of_fences_are_read(rt: HostRuntime) {
+    expect_rows(&rt, rt.alloc(), &FENCES);
 }
 
 static POSTS: [Row; 4] = [
@@ -81,8 +79,8 @@ static POSTS: [Row; 4] = [
 ];
 
 #[test]
-fn posts_have_their_range(rt: HostRuntime) -> Result<(), Fail> {
-    expect_rows(&rt, rt.alloc(), &POSTS)
+fn posts_have_their_range(rt: HostRuntime) {
+    expect_rows(&rt, rt.alloc(), &POSTS);
 }
 
 /// Timeouts, and the numbers that they are.
@@ -95,32 +93,29 @@ static TIMEOUTS: [(&str, i64); 6] = [
     ("EGL_FOREVER", -1),
 ];
 
-fn expect_timeout(rt: &impl Abort, alloc: Global, timeout: &str, number: i64) -> Result<(), Fail> {
-    let line = format!(in alloc; "0 eglClientWaitSync 1 5 1 {timeout}")?;
-    let trace = read(alloc, &line)?;
+fn expect_timeout(rt: &impl Abort, alloc: Global, timeout: &str, number: i64) {
+    let line = format!(in alloc; "0 eglClientWaitSync 1 5 1 {timeout}").expect(rt, "memory");
+    let trace = read(rt, alloc, &line);
     let kind = Kind::Egl(EglKind::ClientWaitSync);
     expect_call(rt, &trace, 0, kind, [1, 5, 1, number]);
-    Ok(())
 }
 
 #[test]
-fn timeouts_have_their_range(rt: HostRuntime) -> Result<(), Fail> {
+fn timeouts_have_their_range(rt: HostRuntime) {
     for (timeout, number) in &TIMEOUTS {
-        expect_timeout(&rt, rt.alloc(), timeout, *number)?;
+        expect_timeout(&rt, rt.alloc(), timeout, *number);
     }
-    Ok(())
 }
 
 #[test]
-fn calls_of_windows_are_read(rt: HostRuntime) -> Result<(), Fail> {
+fn calls_of_windows_are_read(rt: HostRuntime) {
     let lines =
         "window 7 2 2\n0 $s = eglCreateWindowSurface 1 4 7 [EGL_NONE]\n0 eglSwapBuffers 1 $s\n0 readFront 7";
-    let trace = read(rt.alloc(), lines)?;
+    let trace = read(&rt, rt.alloc(), lines);
     let create = Kind::Egl(EglKind::CreateWindowSurface);
     expect_call(&rt, &trace, 0, create, [1, 4, 7, 0]);
     let swap = Kind::Egl(EglKind::SwapBuffers);
     expect_call(&rt, &trace, 1, swap, [1, 0, 0, 0]);
     let read_front = Kind::Own(OwnKind::ReadFront);
     expect_call(&rt, &trace, 2, read_front, [7, 0, 0, 0]);
-    Ok(())
 }

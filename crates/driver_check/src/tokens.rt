@@ -1,3 +1,4 @@
+//! What tokens do: calls, halts, waits, picks, and how many there are.
 ghost use Rattle.std.specs.Prelude.{◌≤◌, ◌<◌, All};
 ghost use Rattle.shared_driver.specs.Tokens.{IsOf};
 
@@ -12,7 +13,6 @@ use shared_driver::{Opened, Pick, Picked, Picker, Shared, Thread};
 use std::alloc::Global;
 use std::process::Abort;
 use std::sync::Wait;
-use std::test::*;
 use std::thread::Threads;
 
 /// Stops at once.
@@ -30,7 +30,7 @@ impl Picker for Stopping {
 }
 
 #[test]
-fn a_picker_that_stops_adds_nothing(rt: HostRuntime) -> Result<(), Fail> {
+fn a_picker_that_stops_adds_nothing(rt: HostRuntime) {
     let Opened { shared, mut thread } = opened(&rt, rt.alloc(), 1000);
     let stopped = matches!(
         shared.call_picked(&mut thread, &rt, rt.alloc(), &mut Stopping),
@@ -39,11 +39,10 @@ fn a_picker_that_stops_adds_nothing(rt: HostRuntime) -> Result<(), Fail> {
     let run = finish(&rt, shared, thread);
     assert!(rt; stopped);
     assert_eq!(rt; run.journal.len(), 0);
-    Ok(())
 }
 
 #[test]
-fn one_call_is_one_entry(rt: HostRuntime) -> Result<(), Fail> {
+fn one_call_is_one_entry(rt: HostRuntime) {
     let Opened { shared, mut thread } = opened(&rt, rt.alloc(), 1000);
     let value = match shared.call(&mut thread, &rt, rt.alloc(), 7, display_call(rt.alloc())) {
         Ok(reply) => reply.value,
@@ -58,7 +57,6 @@ fn one_call_is_one_entry(rt: HostRuntime) -> Result<(), Fail> {
     assert_eq!(rt; number, 0);
     assert_eq!(rt; run.journal.len(), 2);
     assert!(rt; run.journal.is_halted());
-    Ok(())
 }
 
 // How many entries of a token stand in a journal, where their marks rise by one from 0 and their values are 1.
@@ -76,7 +74,7 @@ fn rising(entries: &[Entry], number: u32) -> u64 {
 }
 
 #[test]
-fn two_threads_make_500_calls_each(rt: HostRuntime) -> Result<(), Fail> {
+fn two_threads_make_500_calls_each(rt: HostRuntime) {
     let Opened { shared, mut thread } = opened(&rt, rt.alloc(), 1000);
     let own = crowd(&rt, rt.alloc(), &shared, &mut thread, 2, false, 500);
     let run = finish(&rt, shared, thread);
@@ -84,18 +82,16 @@ fn two_threads_make_500_calls_each(rt: HostRuntime) -> Result<(), Fail> {
     assert_eq!(rt; run.journal.len(), 1000);
     assert_eq!(rt; rising(run.journal.as_slice(), 1), 500);
     assert_eq!(rt; rising(run.journal.as_slice(), 2), 500);
-    Ok(())
 }
 
 #[test]
-fn no_more_than_65_536_tokens(rt: HostRuntime) -> Result<(), Fail> {
+fn no_more_than_65_536_tokens(rt: HostRuntime) {
     let Opened { shared, mut thread } = opened(&rt, rt.alloc(), 1000);
     let made = attached_all(&rt, &shared, &mut thread);
     let run = finish(&rt, shared, thread);
     assert_eq!(rt; made, 65536);
-    assert_eq!(rt; run.driver.threads(), 65536);
+    assert_eq!(rt; run.threads, 65536);
     assert_eq!(rt; run.journal.len(), 0);
-    Ok(())
 }
 
 // Two tokens more, of which the second sets the scene; what the first's wait answered, and what was closed.
@@ -124,7 +120,7 @@ fn waited<R: Abort + Threads + Wait + Sync>(
 }
 
 #[test]
-fn a_wait_ends_by_another_threads_flush(rt: HostRuntime) -> Result<(), Fail> {
+fn a_wait_ends_by_another_threads_flush(rt: HostRuntime) {
     let Opened { shared, mut thread } = opened(&rt, rt.alloc(), 1000);
     let answered = waited(&rt, rt.alloc(), &shared, &mut thread);
     let run = finish(&rt, shared, thread);
@@ -142,7 +138,6 @@ fn a_wait_ends_by_another_threads_flush(rt: HostRuntime) -> Result<(), Fail> {
     assert_eq!(rt; of_the_wait, 2);
     assert_eq!(rt; run.journal.len(), 12);
     assert!(rt; is_replayed(&rt, rt.alloc(), &run.journal, 3, 1000));
-    Ok(())
 }
 
 /// Counts the Halt entries of a token, and stops.
@@ -198,7 +193,7 @@ fn halted<R: Abort + Wait>(
 }
 
 #[test]
-fn a_token_halts_once(rt: HostRuntime) -> Result<(), Fail> {
+fn a_token_halts_once(rt: HostRuntime) {
     let Opened { shared, mut thread } = opened(&rt, rt.alloc(), 1000);
     let (halts, both, one) = halted(&rt, rt.alloc(), &shared, &mut thread);
     let run = finish(&rt, shared, thread);
@@ -207,11 +202,10 @@ fn a_token_halts_once(rt: HostRuntime) -> Result<(), Fail> {
     assert_eq!(rt; one, 1);
     assert_eq!(rt; run.journal.len(), 1);
     assert!(rt; run.journal.is_halted());
-    Ok(())
 }
 
 #[test]
-fn local_calls_take_the_places_that_other_calls_give_back(rt: HostRuntime) -> Result<(), Fail> {
+fn local_calls_take_the_places_that_other_calls_give_back(rt: HostRuntime) {
     let rows = [
         Row {
             local: 256,
@@ -227,7 +221,6 @@ fn local_calls_take_the_places_that_other_calls_give_back(rt: HostRuntime) -> Re
     'rows: for row in &rows {
         assert!(rt; holds(&rt, rt.alloc(), row), "{} local calls", row.local);
     }
-    Ok(())
 }
 
 // Local calls of a token before it makes another, and of that one before it is joined.
@@ -246,7 +239,7 @@ fn queried<R: Abort + Wait>(rt: &R, alloc: Global, shared: &Shared, thread: &mut
 }
 
 #[test]
-fn own_calls_are_handed_in_once(rt: HostRuntime) -> Result<(), Fail> {
+fn own_calls_are_handed_in_once(rt: HostRuntime) {
     let Opened { shared, mut thread } = opened(&rt, rt.alloc(), 1000);
     let made = queried(&rt, rt.alloc(), &shared, &mut thread);
     let run = finish(&rt, shared, thread);
@@ -256,14 +249,13 @@ fn own_calls_are_handed_in_once(rt: HostRuntime) -> Result<(), Fail> {
     assert_eq!(rt; entries.len(), 6);
     assert_eq!(rt; of_other, 2);
     assert!(rt; is_replayed(&rt, rt.alloc(), &run.journal, 2, 1000));
-    Ok(())
 }
 
 // How many bytes of pixels the random calls may make.
 const VIDEO: u64 = 1 << 20;
 
 #[test]
-fn sixteen_threads_make_1_000_calls_each(rt: HostRuntime) -> Result<(), Fail> {
+fn sixteen_threads_make_1_000_calls_each(rt: HostRuntime) {
     let Opened { shared, mut thread } = opened(&rt, rt.alloc(), VIDEO);
     let own = crowd(&rt, rt.alloc(), &shared, &mut thread, 16, true, 1000);
     let run = finish(&rt, shared, thread);
@@ -271,8 +263,7 @@ fn sixteen_threads_make_1_000_calls_each(rt: HostRuntime) -> Result<(), Fail> {
     let reads = entries.iter().filter(|e| e.reply.bytes.len() != 0).count();
     assert!(rt; own > 7_500, "{own} calls took no turn");
     assert_eq!(rt; run.journal.len(), 16_000);
-    assert_eq!(rt; run.driver.threads(), 17);
+    assert_eq!(rt; run.threads, 17);
     assert!(rt; reads != 0, "no pixels were read");
     assert!(rt; is_replayed(&rt, rt.alloc(), &run.journal, 17, VIDEO));
-    Ok(())
 }

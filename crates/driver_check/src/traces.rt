@@ -1,10 +1,14 @@
 //! A trace of several threads, drawn by a fixed seed, whose runs are played again by one.
 use crate::draws::Draws;
+use crate::readings::read_text;
 use crate::replays::is_replayed;
-use egl_calls::Bytes;
+use egl_calls::Journal;
 use play_threads::{OpenGate, play};
 use std::alloc::Global;
+use std::process::Abort;
+use std::sync::Wait;
 use std::test::Fail;
+use std::thread::Threads;
 use trace_reader::Trace;
 
 const THREADS: u32 = 8;
@@ -42,17 +46,17 @@ const PLAIN: [&str; 10] = [
 ];
 
 impl Draft {
-    fn new(alloc: Global, seed: u64) -> Result<Draft, Fail> {
-        Ok(Draft {
+    fn new(rt: &impl Abort, alloc: Global, seed: u64) -> Draft {
+        Draft {
             alloc,
             draws: Draws::new(seed),
-            text: format!(in alloc; "egl-trace 1 {THREADS}\n")?,
+            text: format!(in alloc; "egl-trace 1 {THREADS}\n").expect(rt, "memory"),
             lines: 0,
             surfaces: 0,
             contexts: 0,
             syncs: 0,
             posts: 0,
-        })
+        }
     }
 
     fn add(&mut self, thread: u32, call: &str) -> Result<(), Fail> {
@@ -181,8 +185,8 @@ impl Draft {
     }
 }
 
-fn drawn(alloc: Global, seed: u64) -> Result<Bytes, Fail> {
-    let mut draft = Draft::new(alloc, seed)?;
+/// Draws so many lines.
+fn draw(draft: &mut Draft) -> Result<(), Fail> {
     draft.begin()?;
     'lines: for _ in 0..LINES {
         if draft.lines >= LINES {
@@ -190,20 +194,37 @@ fn drawn(alloc: Global, seed: u64) -> Result<Bytes, Fail> {
         }
         draft.step()?;
     }
-    Ok(Bytes::from_vec(draft.text.into_bytes()))
+    Ok(())
+}
+
+fn drawn(rt: &impl Abort, alloc: Global, seed: u64) -> String {
+    let mut draft = Draft::new(rt, alloc, seed);
+    match draw(&mut draft) {
+        Ok(()) => draft.text,
+        Err(_) => panic!(rt; "memory"),
+    }
+}
+
+/// The journal of a run by threads at once.
+fn played<R: Abort + AllocGlobal + Threads + Wait + Sync>(
+    rt: &R,
+    alloc: Global,
+    trace: &Trace,
+) -> Journal {
+    match play(rt, alloc, trace, &OpenGate) {
+        Ok(run) => run.journal,
+        Err(_) => panic!(rt; "the run stalled, or found no memory"),
+    }
 }
 
 #[test]
-fn twenty_runs_of_eight_threads_are_replayed(rt: HostRuntime) -> Result<(), Fail> {
+fn twenty_runs_of_eight_threads_are_replayed(rt: HostRuntime) {
     let alloc = rt.alloc();
-    let trace = Trace::read(alloc, &drawn(alloc, 1)?)?;
+    let trace = read_text(&rt, alloc, &drawn(&rt, alloc, 1));
     let lines = trace.lines().len() as u64;
     'runs: for _ in 0..RUNS {
-        let Ok(run) = play(&rt, alloc, &trace, &OpenGate) else {
-            panic!(rt; "the run stalled, or found no memory");
-        };
-        assert!(rt; run.journal.len() >= lines);
-        assert!(rt; is_replayed(&rt, alloc, &run.journal, THREADS, trace.video()));
+        let journal = played(&rt, alloc, &trace);
+        assert!(rt; journal.len() >= lines);
+        assert!(rt; is_replayed(&rt, alloc, &journal, THREADS, trace.video()));
     }
-    Ok(())
 }

@@ -1,7 +1,6 @@
 //! Variables: their numbers, and where they stand. Threads.
 use crate::readings::{read, read_text};
 use std::process::Abort;
-use std::test::Fail;
 use trace_reader::Trace;
 
 /// What a line's reference at a place is: the place in the call, the variable, and the place in its list.
@@ -37,22 +36,20 @@ fn expect_assigned(rt: &impl Abort, trace: &Trace) {
 }
 
 #[test]
-fn variables_are_numbered_by_the_lines_that_assign_them(rt: HostRuntime) -> Result<(), Fail> {
+fn variables_are_numbered_by_the_lines_that_assign_them(rt: HostRuntime) {
     let lines =
         "0 eglMakeCurrent $a $b.1023 5 $c.0\n0 $c = eglTerminate $c\n\n# $d = census\n0   $a =  eglGetError\n0 $b = eglInitialize $a";
-    let trace = read(rt.alloc(), lines)?;
+    let trace = read(&rt, rt.alloc(), lines);
     expect_references(&rt, &trace);
     assert_eq!(rt; trace.lines().len(), 4);
     expect_assigned(&rt, &trace);
-    Ok(())
 }
 
 #[test]
-fn sixteen_threads_are_counted(rt: HostRuntime) -> Result<(), Fail> {
+fn sixteen_threads_are_counted(rt: HostRuntime) {
     let text = " egl-trace  1 16 \n15 eglInitialize $v.7\n0 $v = census\n";
-    let trace = read_text(rt.alloc(), text)?;
+    let trace = read_text(&rt, rt.alloc(), text);
     assert_eq!(rt; trace.threads(), 16);
     assert_eq!(rt; trace.line(0).map(|line| line.thread), Some(15));
     assert_eq!(rt; reference(&trace, 0, 0), Some((0, 0, Some(7))));
-    Ok(())
 }

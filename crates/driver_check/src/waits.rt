@@ -1,15 +1,13 @@
 //! Two threads at one driver: what a thread that waits is answered. A trace shows nothing of it, since its threads make no call while they wait.
-ghost use Rattle.std.specs.Prelude.{◌≡◌, ◌<◌, true, IfOk};
+ghost use Rattle.std.specs.Prelude.{◌≡◌, ◌<◌, true};
 ghost use Rattle.egl_calls.specs.Kinds.{is_built};
 
+use crate::apart::opened;
 use driver_core::Driver;
-use egl_calls::{
-    Call, EglError, EglKind, GlKind, Kind, NoMemory, Numbers, Outcome, OwnKind, is_built,
-};
+use egl_calls::{Call, EglError, EglKind, GlKind, Kind, Numbers, Outcome, OwnKind, is_built};
 use egl_names::codes::{EGL_CONDITION_SATISFIED, EGL_SUCCESS, EGL_SYNC_FENCE, EGL_TIMEOUT_EXPIRED};
 use std::alloc::Global;
 use std::process::Abort;
-use std::test::Fail;
 
 const WAITING: u32 = 0;
 
@@ -268,19 +266,9 @@ fn expect_rows(rt: &impl Abort, alloc: Global, driver: &mut Driver)
     }
 }
 
-/// A driver of two threads.
-fn opened(alloc: Global) -> Result<Driver, NoMemory>
-    ensures { IfOk result (λ d. d.made ≡ 2) }
-{
-    let mut driver = Driver::new(alloc, &[], 67_108_864)?;
-    driver.add_thread()?;
-    Ok(driver)
-}
-
 #[test]
-fn a_thread_that_waits_makes_no_call_but_the_end_of_its_wait(rt: HostRuntime) -> Result<(), Fail> {
-    let mut driver = opened(rt.alloc())?;
+fn a_thread_that_waits_makes_no_call_but_the_end_of_its_wait(rt: HostRuntime) {
+    let mut driver = opened(&rt, rt.alloc());
     expect_rows(&rt, rt.alloc(), &mut driver);
     assert!(rt; has_nothing(&driver));
-    Ok(())
 }

@@ -1,6 +1,6 @@
 use Rattle.std.proofs.Common.{arith}
-use Rattle.driver_rows.proofs.ApartLaws.{moved_apart}
-use Rattle.driver_rows.proofs.apart.call_of_other.Goals as goal
+use Rattle.driver_check.proofs.ApartLaws.{moved_apart}
+use Rattle.driver_check.proofs.apart.call_of_other.Goals as goal
 
 pub returns : goal.returns
 returns c =

@@ -3,7 +3,7 @@ use Rattle.egl_calls.specs.declared.entries.Entry.{Entry}
 use Rattle.egl_model.specs.Local.{is_local}
 use Rattle.egl_model.specs.Parts.{Private}
 use Rattle.egl_model.specs.Step.{step}
-use Rattle.driver_rows.proofs.apart.local_call.Goals as goal
+use Rattle.driver_check.proofs.apart.local_call.Goals as goal
 
 pub returns : goal.returns
 returns c =

@@ -1,6 +1,6 @@
 use Rattle.std.proofs.Common.{[], refl}
-use Rattle.driver_rows.proofs.ApartLaws.{joined_at_first, some_threads}
-use Rattle.driver_rows.proofs.apart.opened.Goals as goal
+use Rattle.driver_check.proofs.ApartLaws.{joined_at_first, some_threads}
+use Rattle.driver_check.proofs.apart.opened.Goals as goal
 
 pub returns-clause-joined : goal.returns-clause-joined
 returns-clause-joined c =

@@ -2,7 +2,7 @@ use Rattle.std.proofs.Common.{[], ◌∙◌, subst, sym}
 use Rattle.egl_model.specs.Parts.{Private, part_of}
 use Rattle.egl_model.specs.State.{State}
 use Rattle.driver_core.specs.Parts.{FitsThread}
-use Rattle.driver_rows.proofs.apart.put_back.Goals as goal
+use Rattle.driver_check.proofs.apart.put_back.Goals as goal
 
 pub part_in-requires-clause-fits : goal.part_in-requires-clause-fits
 part_in-requires-clause-fits c =

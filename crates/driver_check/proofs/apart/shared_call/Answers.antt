@@ -1,5 +1,5 @@
-use Rattle.driver_rows.proofs.ApartLaws.{moved_joined}
-use Rattle.driver_rows.proofs.apart.shared_call.Goals as goal
+use Rattle.driver_check.proofs.ApartLaws.{moved_joined}
+use Rattle.driver_check.proofs.apart.shared_call.Goals as goal
 
 pub taken-requires : goal.taken-requires
 taken-requires c =

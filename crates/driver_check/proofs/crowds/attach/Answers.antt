@@ -2,7 +2,7 @@ use Rattle.std.proofs.Common.{rules, ◌∷◌, []}
 use Rattle.std.proofs.lemmas.List.Elements.{All-append, All-cons, All-nil, All-same}
 use Rattle.shared_driver.specs.declared.tokens.Thread.{Thread}
 use Rattle.shared_driver.specs.Tokens.{IsOf}
-use Rattle.shared_driver_check.proofs.crowds.attach.Goals as goal
+use Rattle.driver_check.proofs.crowds.attach.Goals as goal
 
 pub attaching-preserved : goal.attaching-preserved
 attaching-preserved g c =

@@ -1,6 +1,6 @@
 use Rattle.std.specs.Prelude.{All, vec_len}
 use Rattle.shared_driver.specs.Tokens.{IsOf}
-use Rattle.shared_driver_check.proofs.crowds.join_all.Given as goal
+use Rattle.driver_check.proofs.crowds.join_all.Given as goal
 
 abbrev pub invariant-joining : goal.invariant-joining
 invariant-joining g l = IsOf l.shared l.thread × All (λ t. IsOf l.shared t) l.tokens.items

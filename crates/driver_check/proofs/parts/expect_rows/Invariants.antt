@@ -1,6 +1,6 @@
 use Rattle.std.proofs.Common.{◌≡◌}
-use Rattle.driver_rows.specs.Apart.{IsApart}
-use Rattle.driver_rows.proofs.parts.expect_rows.Given as goal
+use Rattle.driver_check.specs.Apart.{IsApart}
+use Rattle.driver_check.proofs.parts.expect_rows.Given as goal
 
 abbrev pub invariant-each : goal.invariant-each
 invariant-each g l = record {
