@@ -1,7 +1,7 @@
 //! A driver of two threads, of which the first has its private part beside the driver.
-ghost use Rattle.std.specs.Prelude.{◌≡◌, ◌<◌, true, false, slice_index_or, OnOk};
+ghost use Rattle.std.specs.Prelude.{◌≡◌, ◌<◌, true, false, [], ◌∷◌, slice_index_or, OnOk};
 ghost use Rattle.egl_calls.specs.Kinds.{is_built};
-ghost use Rattle.egl_model.specs.State.{State};
+ghost use Rattle.egl_model.specs.State.{State, opening};
 ghost use Rattle.egl_model.specs.Sound.{IsSound};
 ghost use Rattle.egl_model.specs.Hidden.{hide};
 ghost use Rattle.egl_model.specs.Local.{is_local};
@@ -31,18 +31,33 @@ pub struct Apart {
     pub part: ThreadPart,
 }
 
+/// How many bytes of pixels there may be.
+const VIDEO: u64 = 67_108_864;
+
+// Makes the second thread.
+fn add_other(driver: &mut Driver) -> Result<(), NoMemory>
+    requires state { driver.old.state ≡ opening [] 67108864 }
+    requires made { driver.old.made ≡ 1 }
+    requires away { driver.old.away ≡ false ∷ [] }
+    ensures made { OnOk result (driver.new.made ≡ 2) }
+    ensures joined { OnOk result (IsJoined driver.new) }
+{
+    histories_are_ready();
+    driver.add_thread()?;
+    Ok(())
+}
+
 /// A driver of two threads.
 pub fn opened(rt: &impl Abort, alloc: Global) -> Driver
     ensures made { result.made ≡ 2 }
     ensures joined { IsJoined result }
 {
-    let Ok(mut driver) = Driver::new(alloc, &[], 67_108_864) else {
+    let Ok(mut driver) = Driver::new(alloc, &[], VIDEO) else {
         panic!(rt; "no memory");
     };
-    let Ok(_) = driver.add_thread() else {
+    let Ok(_) = add_other(&mut driver) else {
         panic!(rt; "no memory");
     };
-    histories_are_ready();
     driver
 }
 
@@ -88,41 +103,48 @@ fn uncounted<L: Ledger>(
 }
 
 /// A call that the driver plays.
-fn step(rt: &impl Abort, driver: &mut Driver, alloc: Global, thread: u32, call: &Call) -> Reply
+fn step(driver: &mut Driver, alloc: Global, thread: u32, call: &Call) -> Result<Reply, NoMemory>
     requires made { thread < driver.old.made }
     requires built { is_built call.now.kind ≡ true }
-    ensures outside { (s : State) → IsSound s → slice_index_or driver.old.away thread false ≡ false → driver.old.state ≡ hide (outs driver.old.away) s → driver.new ≡ record driver.old { state = hide (outs driver.old.away) (step s thread call.now).state } }
+    ensures outside { (s : State) → IsSound s → slice_index_or driver.old.away thread false ≡ false → driver.old.state ≡ hide (outs driver.old.away) s → OnOk result (driver.new ≡ record driver.old { state = hide (outs driver.old.away) (step s thread call.now).state }) }
 {
-    let Ok(reply) = uncounted::<Brand>(driver, alloc, thread, call, Blank::new(1)) else {
-        panic!(rt; "no memory");
-    };
-    reply
+    uncounted::<Brand>(driver, alloc, thread, call, Blank::new(1))
 }
 
 /// A call of the other thread, while the part is out.
-pub fn call_of_other(rt: &impl Abort, alloc: Global, apart: &mut Apart, call: &Call) -> Reply
+pub fn call_of_other(alloc: Global, apart: &mut Apart, call: &Call) -> Result<Reply, NoMemory>
     requires apart { IsApart apart.old.driver apart.old.part }
     requires built { is_built call.now.kind ≡ true }
-    ensures { IsApart apart.new.driver apart.new.part }
+    ensures { OnOk result (IsApart apart.new.driver apart.new.part) }
 {
     histories_are_ready();
     a_step_keeps_other_parts();
-    step(rt, &mut apart.driver, alloc, OTHER, call)
+    let reply = step(&mut apart.driver, alloc, OTHER, call)?;
+    Ok(reply)
 }
 
 /// A local call of the thread whose part is out, on the part alone.
-pub fn local_call(rt: &impl Abort, alloc: Global, apart: &mut Apart, call: &Call) -> Reply
+pub fn local_call(alloc: Global, apart: &mut Apart, call: &Call) -> Result<Reply, NoMemory>
     requires apart { IsApart apart.old.driver apart.old.part }
     requires local { is_local apart.old.part call.now ≡ true }
     requires built { is_built call.now.kind ≡ true }
-    ensures { IsApart apart.new.driver apart.new.part }
+    ensures { OnOk result (IsApart apart.new.driver apart.new.part) }
 {
     histories_are_ready();
     a_part_fits_after_local_calls();
-    let Ok(ReplyPair { reply, copy: _ }) = apart.part.local(alloc, call) else {
-        panic!(rt; "no memory");
-    };
-    reply
+    let ReplyPair { reply, copy: _ } = apart.part.local(alloc, call)?;
+    Ok(reply)
+}
+
+// A call of the first thread, with its part in.
+fn call_joined(alloc: Global, driver: &mut Driver, call: &Call) -> Result<Reply, NoMemory>
+    requires joined { IsJoined driver.old }
+    requires built { is_built call.now.kind ≡ true }
+    ensures { OnOk result (IsJoined driver.new) }
+{
+    histories_are_ready();
+    let reply = step(driver, alloc, APART, call)?;
+    Ok(reply)
 }
 
 /// Another call of it: its part is in for as long as the driver plays the call.
@@ -132,7 +154,8 @@ pub fn shared_call(rt: &impl Abort, alloc: Global, apart: Apart, call: &Call) ->
     ensures { IsApart result.0.driver result.0.part }
 {
     let mut driver = put_back(apart);
-    histories_are_ready();
-    let reply = step(rt, &mut driver, alloc, APART, call);
+    let Ok(reply) = call_joined(alloc, &mut driver, call) else {
+        panic!(rt; "no memory");
+    };
     (taken(driver), reply)
 }

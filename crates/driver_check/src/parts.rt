@@ -206,10 +206,10 @@ fn reply_apart(
     ensures { IsApart result.0.driver result.0.part }
 {
     if thread == OTHER {
-        let reply = call_of_other(rt, alloc, &mut apart, call);
+        let reply = call_of_other(alloc, &mut apart, call).expect(rt, "memory");
         (apart, reply)
     } else if apart.part.is_local(call) {
-        let reply = local_call(rt, alloc, &mut apart, call);
+        let reply = local_call(alloc, &mut apart, call).expect(rt, "memory");
         (apart, reply)
     } else {
         shared_call(rt, alloc, apart, call)
