@@ -3,7 +3,9 @@ use crate::examples::Example;
 use anyhow::{Result, anyhow};
 use egl_calls::{Bytes, Numbers, Text};
 use egl_cli::{OpenGate, top};
-use egl_flow::{MemorySink, MemorySource};
+use egl_flow::{MemorySink, MemorySource, StdSink, StdSource};
+use std::alloc::Global;
+use std::rt::{Stdin, Stdout};
 use std::sync::Wait;
 use std::thread::Threads;
 
@@ -29,6 +31,13 @@ impl Player {
     }
 }
 
+/// A word as the program is given it.
+pub fn words_of(alloc: Global, word: &str) -> Result<Vec<Text>> {
+    let mut words = Vec::new(alloc);
+    words.push(Text::from_vec(Vec::from_slice(alloc, word.as_bytes())?))?;
+    Ok(words)
+}
+
 /// The exit status of a command on a trace, and what it wrote.
 fn answer<R: AllocGlobal + Threads + Wait + Sync>(
     rt: &R,
@@ -36,8 +45,7 @@ fn answer<R: AllocGlobal + Threads + Wait + Sync>(
     trace: &[u8],
 ) -> Result<(u8, MemorySink)> {
     let alloc = rt.alloc();
-    let mut words = Vec::new(alloc);
-    words.push(Text::from_vec(Vec::from_slice(alloc, player.word().as_bytes())?))?;
+    let words = words_of(alloc, player.word())?;
     let bytes = Bytes::from_vec(Vec::from_slice(alloc, trace)?);
     let mut source = MemorySource::new(bytes, Numbers::new(alloc));
     let mut sink = MemorySink::new(alloc, ROOM, Numbers::new(alloc)).map_err(|_| anyhow!(
@@ -45,6 +53,19 @@ fn answer<R: AllocGlobal + Threads + Wait + Sync>(
     ))?;
     let status = top(rt, alloc, &words, &mut source, &mut sink, &OpenGate).number();
     Ok((status, sink))
+}
+
+/// Does what the program does with the word `serial`, from standard input to standard output, and answers the exit status.
+pub fn play_stdin<R: AllocGlobal + Threads + Wait + Sync>(
+    rt: &R,
+    input: Stdin,
+    output: Stdout,
+) -> Result<u8> {
+    let alloc = rt.alloc();
+    let words = words_of(alloc, Player::Serial.word())?;
+    let mut source = StdSource::new(input);
+    let mut sink = StdSink::new(output);
+    Ok(top(rt, alloc, &words, &mut source, &mut sink, &OpenGate).number())
 }
 
 /// The first line in which two texts differ, of both. Behind its end a text has empty lines.

@@ -1,6 +1,7 @@
 //! Where threads sleep until another turn has freed them.
 use crate::cores::{Core, is_waiting};
 use crate::tokens::Shared;
+use egl_calls::places::POSTED;
 use egl_calls::{EglKind, Entry, GlKind, Kind, OwnKind, unsigned};
 use std::array;
 use std::sync::Wait;

@@ -1,5 +1,0 @@
-use Rattle.std.proofs.Common.{◌≡◌}
-use Rattle.driver_rows.proofs.waits.expect_rows.Given as goal
-
-abbrev pub invariant-each : goal.invariant-each
-invariant-each g l = l.driver.made ≡ 2

@@ -1,0 +1,43 @@
+//! A long run: a trace of 100,000 lines over every kind of call but those of windows and fences, `post` and `await`.
+//!
+//! It prints the sum of the trace and that of its recording, which `bench/long_run_model` works out apart from the driver.
+use crate::long_lines::trace;
+use crate::playing::words_of;
+use anyhow::{Result, bail};
+use egl_calls::{Bytes, Numbers};
+use egl_cli::plain;
+use egl_flow::{MemorySink, MemorySource};
+
+/// How many bytes the recording may have.
+const ROOM: u64 = 33_554_432;
+
+/// The sum of Fowler, Noll and Vo, 1a, of 64 bits.
+fn sum_of(bytes: &[u8]) -> u64 {
+    let mut sum = 14_695_981_039_346_656_037u64;
+    for byte in bytes {
+        sum = (sum ^ u64::from(*byte)).wrapping_mul(1_099_511_628_211);
+    }
+    sum
+}
+
+fn report<R: Print>(rt: &R, name: &str, text: &[u8]) -> Result<()> {
+    let (length, sum) = (text.len(), sum_of(text));
+    println!(rt; "{name}: {length} bytes, sum {sum}")?;
+    Ok(())
+}
+
+/// Plays the trace by turns, and prints the sums and the exit status.
+pub fn long_run<R: Print + AllocGlobal>(rt: &R) -> Result<()> {
+    let alloc = rt.alloc();
+    let trace = trace(alloc)?;
+    report(rt, "trace", trace.as_bytes())?;
+    let words = words_of(alloc, "serial")?;
+    let bytes = Bytes::from_vec(trace.into_bytes());
+    let mut source = MemorySource::new(bytes, Numbers::new(alloc));
+    let Ok(mut sink) = MemorySink::new(alloc, ROOM, Numbers::new(alloc)) else {
+        bail!("no memory for the recording");
+    };
+    let status = plain(alloc, &words, &mut source, &mut sink).number();
+    println!(rt; "status: {status}")?;
+    report(rt, "recording", sink.taken())
+}

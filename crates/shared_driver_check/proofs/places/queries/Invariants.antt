@@ -1,5 +1,0 @@
-use Rattle.shared_driver.specs.Tokens.{IsOf}
-use Rattle.shared_driver_check.proofs.places.queries.Given as goal
-
-abbrev pub invariant-querying : goal.invariant-querying
-invariant-querying l = IsOf l.shared l.thread
