@@ -3,8 +3,8 @@ ghost use Rattle.std.specs.Prelude.{◌≡◌, ◌<◌, true, IfOk};
 ghost use Rattle.call_rules.specs.Kinds.{is_built};
 ghost use Rattle.egl_calls.specs.declared.kinds.Kind.TheVariants.{Egl};
 
-use driver_core::Driver;
 use call_rules::is_built;
+use driver_core::Driver;
 use egl_calls::{Call, EglKind, Kind, NoMemory, Numbers, Outcome, Reply};
 use egl_names::codes::EGL_SUCCESS;
 use std::alloc::Global;

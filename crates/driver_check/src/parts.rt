@@ -6,8 +6,8 @@ ghost use Rattle.driver_check.specs.Apart.{IsApart};
 
 use crate::apart::{APART, Apart, OTHER, call_of_other, local_call, opened, shared_call, taken};
 use crate::replays::is_same;
-use driver_core::Driver;
 use call_rules::is_built;
+use driver_core::Driver;
 use egl_calls::{Call, EglKind, GlKind, Kind, Numbers, OwnKind, Reply};
 use egl_names::codes::{
     EGL_DRAW, EGL_HEIGHT, EGL_OPENGL_ES_API, EGL_READ, EGL_WIDTH, GL_COLOR_BUFFER_BIT, GL_RGBA,

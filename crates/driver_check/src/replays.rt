@@ -1,8 +1,8 @@
 //! A journal, played again by a driver of one thread.
 ghost use Rattle.std.specs.Prelude.{◌≤◌};
 
-use driver_core::Driver;
 use call_rules::is_built;
+use driver_core::Driver;
 use egl_calls::{Entry, Journal, Reply};
 use std::alloc::Global;
 use std::process::Abort;

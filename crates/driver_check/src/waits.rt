@@ -3,8 +3,8 @@ ghost use Rattle.std.specs.Prelude.{◌≡◌, ◌<◌, true};
 ghost use Rattle.call_rules.specs.Kinds.{is_built};
 
 use crate::apart::opened;
-use driver_core::Driver;
 use call_rules::is_built;
+use driver_core::Driver;
 use egl_calls::{Call, EglError, EglKind, GlKind, Kind, Numbers, Outcome, OwnKind};
 use egl_names::codes::{EGL_CONDITION_SATISFIED, EGL_SUCCESS, EGL_SYNC_FENCE, EGL_TIMEOUT_EXPIRED};
 use std::alloc::Global;
