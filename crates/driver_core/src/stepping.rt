@@ -91,7 +91,7 @@ impl Driver {
             }
             EglKind::BindApi => Ok(valued(alloc, 1)),
             EglKind::QueryApi => Ok(valued(alloc, api_code(self.record(thread).api))),
-            EglKind::CreateContext => Ok(valued(alloc, self.create_context(call)?)),
+            EglKind::CreateContext => Ok(valued(alloc, self.create_context(alloc, call)?)),
             EglKind::GetCurrentContext => Ok(valued(alloc, self.current_number(thread))),
             EglKind::GetCurrentSurface => Ok(valued(alloc, self.surface_number(thread, call))),
             EglKind::GetCurrentDisplay => Ok(valued(alloc, self.current_display(thread))),
@@ -343,6 +343,7 @@ impl Driver {
         ensures bare { is_bare self.old.state thread call.now.kind call.now ≡ true → IsOk result }
     {
         self.apart();
+        self.names_apart();
         let ReplyPair { reply, copy: _ } = self.step_in(alloc, thread, call, steps)?;
         Ok(reply)
     }
@@ -367,6 +368,7 @@ impl Driver {
         ensures bare { is_bare self.old.state thread call.now.kind call.now ≡ true → IsOk result }
     {
         self.apart();
+        self.names_apart();
         self.step_in(alloc, thread, call, steps)
     }
 }

@@ -35,6 +35,7 @@ pub mod Setters
 pub mod GlCalls
 pub mod Named
 pub mod NewObjects
+pub mod LinkSetters
 pub mod EglCalls
 pub mod WindowCalls
 pub mod StepKeeps

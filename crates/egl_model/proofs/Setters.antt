@@ -155,7 +155,7 @@ suits-surface t sh s n f = record { leads = leads; pixels = λ o k h. inl (ap (i
 -- ---- The image of a storage.
 -- an image of a format and sides becomes one of the same
 pub record KeepsForm (h : ImageValue → ImageValue) : Type 0 where
-  pub each : (f : Format) (w k : ℕ) (i : ImageValue) → IsImageOf f w k i → IsImageOf f w k (h i)
+  pub each : (f : Format) (w k : ℕ) (z : Bool) (i : ImageValue) → IsImageOf f w k z i → IsImageOf f w k z (h i)
 
 pub setter-image : (h : ImageValue → ImageValue) → KeepsForm h → Setter (with_image h)
 setter-image h e = record { body = body; full = full }
@@ -164,16 +164,16 @@ setter-image h e = record { body = body; full = full }
     body (Some (Storage x)) = refl
     body o = refl
 
-    fits : (f : Format) (w k : ℕ) (i : Option ImageValue) → AreImageOf f w k i → AreImageOf f w k (option_map h i)
-    fits f w k None a = tt
-    fits f w k (Some i) a = e.each f w k i a
+    fits : (f : Format) (w k : ℕ) (z : Bool) (i : Option ImageValue) → AreImageOf f w k z i → AreImageOf f w k z (option_map h i)
+    fits f w k z None a = tt
+    fits f w k z (Some i) a = e.each f w k z i a
 
     still : (i : Option ImageValue) → is_some i ≡ true → is_some (option_map h i) ≡ true
     still None h = h
     still (Some i) h = refl
 
     full : (o : Option Object) → Full o → Full (with_image h o)
-    full (Some (Storage v)) g = (record { wide = g.0.wide; high = g.0.high; image = fits v.format v.width v.height v.image g.0.image }, still v.image g.1)
+    full (Some (Storage v)) g = (record { wide = g.0.wide; high = g.0.high; image = fits v.format v.width v.height v.frozen v.image g.0.image }, still v.image g.1)
     full o g = g
 
 pub suits-image : (t : ℕ) (sh : List (Option Shape)) (s : State) (n : ℕ) (h : ImageValue → ImageValue) → NoneElse (draws s.objects n) s.threads t → Suits t sh s n (with_image h)
@@ -200,10 +200,11 @@ length-painted w covers becomes ps = length-map-range_with_len (painted_at w cov
 pub form-cleared : (colour : List ℤ) → KeepsForm (cleared_image colour)
 unfolding painted
 form-cleared colour = record {
-  each = λ f w k i a. record {
+  each = λ f w k z i a. record {
     image = record { wide = a.image.wide; high = a.image.high; area = length-painted i.width _ _ i.pixels ∙ a.image.area };
     format = a.format;
     width = a.width;
     height = a.height;
+    owned = a.owned;
   };
 }

@@ -5,7 +5,7 @@ use Rattle.std.specs.Prelude.{replicate}
 use Rattle.std.proofs.lemmas.List.Elements.{All-nil}
 use Rattle.egl_calls.specs.Calls.{CallValue}
 use Rattle.egl_calls.specs.declared.entries.Entry.{Entry}
-use Rattle.egl_calls.specs.declared.kinds.Kind.TheVariants.{Egl}
+use Rattle.egl_calls.specs.declared.kinds.Kind.TheVariants.{Egl, Gl}
 use Rattle.egl_calls.specs.declared.kinds.EglKind.{EglKind}
 use Rattle.egl_calls.specs.declared.kinds.EglKind.TheVariants.{Initialize, Terminate, CreateWindowSurface, CreatePbufferSurface, CreateContext, MakeCurrent, DestroySurface, SurfaceAttrib, DestroyContext, SwapBuffers, WaitClient, ReleaseThread, CreateSync, DestroySync, ClientWaitSync, WaitSync}
 use Rattle.egl_calls.specs.declared.kinds.GlKind.{GlKind}
@@ -34,6 +34,7 @@ use Rattle.egl_model.specs.Currents.{current_context, has_context, has_surface}
 use Rattle.egl_model.specs.EglEffects.{egl_effect}
 use Rattle.egl_model.specs.EglFacts.{egl_refusal}
 use Rattle.egl_model.specs.GlEffects.{gl_effect}
+use Rattle.egl_model.specs.GlFacts.{gl_refusal}
 use Rattle.egl_model.specs.History.{replay_from}
 use Rattle.egl_model.specs.Step.{note_error, step}
 use Rattle.egl_model.proofs.EglCalls.{acts-context, acts-error, acts-initialize, acts-make_current, acts-pbuffer, acts-terminate, acts-wait_end, acts-attribute, acts-destroyed, acts-released}
@@ -72,13 +73,13 @@ egl_acts s t c WaitSync h r = acts-serve s t c
 egl_acts s t c ReleaseThread h r = acts-released s t
 egl_acts s t c k h r = acts_self t s
 
-gl_acts : (s : State) (t n : ℕ) (c : CallValue) (k : GlKind) → current_context s t ≡ Some n → Acts quiet t s (λ a. (gl_effect a t n k c).state)
-gl_acts s t n c GetError i = acts-own_part s t n (λ p. (apply c p).part) i
-gl_acts s t n c Flush i = acts-flushed s t (Some n)
-gl_acts s t n c Finish i = acts-flushed s t (Some n)
-gl_acts s t n c ClearColorx i = acts-own_part s t n (λ p. (apply c p).part) i
-gl_acts s t n c Clear i = acts-clear s t n c i
-gl_acts s t n c k i = acts_self t s
+gl_acts : (s : State) (t n : ℕ) (c : CallValue) (k : GlKind) → c.kind ≡ Gl k → gl_refusal s t n k c ≡ None → current_context s t ≡ Some n → Acts quiet t s (λ a. (gl_effect a t n k c).state)
+gl_acts s t n c GetError h r i = acts-own_part s t n (λ p. (apply c p).part) i
+gl_acts s t n c Flush h r i = acts-flushed s t (Some n)
+gl_acts s t n c Finish h r i = acts-flushed s t (Some n)
+gl_acts s t n c ClearColorx h r i = acts-own_part s t n (λ p. (apply c p).part) i
+gl_acts s t n c Clear h r i = acts-clear s t n c i
+gl_acts s t n c k h r i = acts_self t s
 
 -- ---- Steps.
 by_kind : (s : State) (t : ℕ) (c : CallValue) (k : EglKind) (a : State) → c.kind ≡ Egl k → Keeps (egl_extent k) t s a → Keeps (extent_of_kind c.kind) t s a
@@ -89,8 +90,8 @@ pub acts-egl_done : (s : State) (t : ℕ) (c : CallValue) (k : EglKind) → c.ki
 acts-egl_done s t c k h r = acts_swept (egl_extent k) t s (λ a. set_error (egl_effect a t k c).state t Success)
     (acts_then (egl_extent k) t s (λ a. (egl_effect a t k c).state) (λ a. set_error a t Success) (egl_acts s t c k h r) (acts-error (egl_effect s t k c).state t Success))
 
-pub acts-gl_done : (s : State) (t n : ℕ) (c : CallValue) (k : GlKind) → current_context s t ≡ Some n → Acts quiet t s (λ a. sweep (gl_effect a t n k c).state)
-acts-gl_done s t n c k i = acts_swept quiet t s (λ a. (gl_effect a t n k c).state) (gl_acts s t n c k i)
+pub acts-gl_done : (s : State) (t n : ℕ) (c : CallValue) (k : GlKind) → c.kind ≡ Gl k → gl_refusal s t n k c ≡ None → current_context s t ≡ Some n → Acts quiet t s (λ a. sweep (gl_effect a t n k c).state)
+acts-gl_done s t n c k h r i = acts_swept quiet t s (λ a. (gl_effect a t n k c).state) (gl_acts s t n c k h r i)
 
 -- readBuffer changes nothing, and the end of a wait is one move
 pub acts-swept_self : (s : State) (t : ℕ) → Acts quiet t s sweep
@@ -105,7 +106,7 @@ keeps-step s t c = each_way (Keeps (extent_of_kind c.kind) t s) s t c (record {
   egl_error = λ e. (acts_within (extent_of_kind c.kind) t s (λ a. set_error a t e) (acts-error s t e)).moved.keeps;
   gl_error = λ n e i. (acts_within (extent_of_kind c.kind) t s (λ a. note_error a n e) (acts-own_part s t n (noted e) i)).moved.keeps;
   egl_done = λ k h r. by_kind s t c k _ h (acts-egl_done s t c k h r).moved.keeps;
-  gl_done = λ n k i. (acts_within (extent_of_kind c.kind) t s (λ a. sweep (gl_effect a t n k c).state) (acts-gl_done s t n c k i)).moved.keeps;
+  gl_done = λ n k h r i. (acts_within (extent_of_kind c.kind) t s (λ a. sweep (gl_effect a t n k c).state) (acts-gl_done s t n c k h r i)).moved.keeps;
   swept = (acts_within (extent_of_kind c.kind) t s sweep (acts-swept_self s t)).moved.keeps;
   wait_done = (acts_within (extent_of_kind c.kind) t s (λ a. sweep (waiting a t None)) (acts-wait_done s t)).moved.keeps;
 })
@@ -116,7 +117,7 @@ full-step s t c f = each_way IsFull s t c (record {
   egl_error = λ e. (acts-error s t e).full f;
   gl_error = λ n e i. (acts-own_part s t n (noted e) i).full f;
   egl_done = λ k h r. (acts-egl_done s t c k h r).full f;
-  gl_done = λ n k i. (acts-gl_done s t n c k i).full f;
+  gl_done = λ n k h r i. (acts-gl_done s t n c k h r i).full f;
   swept = (acts-swept_self s t).full f;
   wait_done = (acts-wait_done s t).full f;
 })

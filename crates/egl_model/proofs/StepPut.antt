@@ -151,16 +151,16 @@ by_egl_rules : (t v : ℕ) (x : Own) (s : State) (c : CallValue) (k : EglKind) (
 by_egl_rules t v x s c k (Some e) ne w h r = answered _ _ _ ((acts-error s t e).moved.put w v x ne)
 by_egl_rules t v x s c k None ne w h r = both_same _ _ _ _ (blind-egl_reply t c s k w v x ne) ((acts-egl_done s t c k h r).moved.put w v x ne)
 
-by_gl_rules : (t v n : ℕ) (x : Own) (s : State) (c : CallValue) (k : GlKind) (o : Option GlError) → v ≢ t → IsWhole (shapes s.objects) s → current_context s t ≡ Some n → gl_refusal s t n k c ≡ o →
+by_gl_rules : (t v n : ℕ) (x : Own) (s : State) (c : CallValue) (k : GlKind) (o : Option GlError) → v ≢ t → IsWhole (shapes s.objects) s → c.kind ≡ Gl k → current_context s t ≡ Some n → gl_refusal s t n k c ≡ o →
     after_gl_rules (put_own s v x) n o (gl_effect (put_own s v x) t n k c) ≡ moved_step (put_at (places s v) v x) (after_gl_rules s n o (gl_effect s t n k c))
-by_gl_rules t v n x s c k (Some e) ne w h r = answered _ _ _ ((acts-own_part s t n (noted e) h).moved.put w v x ne)
-by_gl_rules t v n x s c k None ne w h r = both_same _ _ _ _ (blind-gl_reply t n c s k h w v x ne) ((acts-gl_done s t n c k h).moved.put w v x ne)
+by_gl_rules t v n x s c k (Some e) ne w q h r = answered _ _ _ ((acts-own_part s t n (noted e) h).moved.put w v x ne)
+by_gl_rules t v n x s c k None ne w q h r = both_same _ _ _ _ (blind-gl_reply t n c s k h w v x ne) ((acts-gl_done s t n c k q r h).moved.put w v x ne)
 
-by_context : (t v : ℕ) (x : Own) (s : State) (c : CallValue) (k : GlKind) (o : Option ℕ) → v ≢ t → IsWhole (shapes s.objects) s → current_context s t ≡ o → gl_step_on (put_own s v x) t o k c ≡ moved_step (put_at (places s v) v x) (gl_step_on s t o k c)
-by_context t v x s c k None ne w h = refl
-by_context t v x s c k (Some n) ne w h =
+by_context : (t v : ℕ) (x : Own) (s : State) (c : CallValue) (k : GlKind) (o : Option ℕ) → v ≢ t → IsWhole (shapes s.objects) s → c.kind ≡ Gl k → current_context s t ≡ o → gl_step_on (put_own s v x) t o k c ≡ moved_step (put_at (places s v) v x) (gl_step_on s t o k c)
+by_context t v x s c k None ne w q h = refl
+by_context t v x s c k (Some n) ne w q h =
     ap (λ o. after_gl_rules (put_own s v x) n o (gl_effect (put_own s v x) t n k c)) (blind-gl_refusal t n c s k w v x ne)
-    ∙ by_gl_rules t v n x s c k (gl_refusal s t n k c) ne w h refl
+    ∙ by_gl_rules t v n x s c k (gl_refusal s t n k c) ne w q h refl
 
 by_buffer_rules : (t v n : ℕ) (x : Own) (s : State) (c : CallValue) (o : Option GlError) → v ≢ t → IsWhole (shapes s.objects) s → current_context s t ≡ Some n →
     after_gl_rules (put_own s v x) n o (buffer_effect (put_own s v x) t n c) ≡ moved_step (put_at (places s v) v x) (after_gl_rules s n o (buffer_effect s t n c))
@@ -182,7 +182,7 @@ unfolding egl_step gl_step
 by_kind t v x s c (Egl k) ne w h =
     ap (λ o. after_egl_rules (put_own s v x) t o (egl_effect (put_own s v x) t k c)) (blind-refusal t c s k w v x ne)
     ∙ by_egl_rules t v x s c k (egl_refusal s t k c) ne w h refl
-by_kind t v x s c (Gl k) ne w h = ap (λ o. gl_step_on (put_own s v x) t o k c) (blind-current t s w v x ne) ∙ by_context t v x s c k (current_context s t) ne w refl
+by_kind t v x s c (Gl k) ne w h = ap (λ o. gl_step_on (put_own s v x) t o k c) (blind-current t s w v x ne) ∙ by_context t v x s c k (current_context s t) ne w h refl
 by_kind t v x s c (OwnCall k) ne w h = by_own t v x s c k ne w
 
 by_end : (t v : ℕ) (x : Own) (s : State) (is_end signalled : Bool) → v ≢ t → IsWhole (shapes s.objects) s → wait_step (put_own s v x) t is_end signalled ≡ moved_step (put_at (places s v) v x) (wait_step s t is_end signalled)

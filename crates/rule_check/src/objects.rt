@@ -1,11 +1,15 @@
 //! Storages of each format, and objects of each kind.
-use context_state::ContextPart;
-use driver_objects::{BackedSurface, Context, Object, ObjectKind, Storage};
+use context_state::{Bindings, ContextPart};
+use driver_objects::{
+    BackedSurface, BackedTexture, BoundObjects, Context, Object, ObjectKind, Storage,
+};
 use pixel_formats::Format;
 use pixel_rows::{Image, Rect};
+use share_group::{Group, NameKind};
 use std::alloc::Global;
 use std::process::Abort;
 use surface_store::Surface;
+use texture_objects::{LEVELS, Texture};
 
 /// A format, the bytes of three columns and five rows, and what the last pixel of red 1, green 0, blue 0.5 and alpha 1 reads as in GL_RGBA and bytes.
 static FORMATS: [(Format, u64, [u8; 4]); 8] = [
@@ -74,15 +78,57 @@ fn a_row_is_read_in_another_format_and_padded(rt: HostRuntime) {
     assert_eq!(rt; short.as_slice(), [0, 248, 0, 0, 0, 0, 0, 0].as_slice());
 }
 
-fn context() -> Object {
+fn context(bound: BoundObjects) -> Object {
     Object::Context(Context {
         config: 4,
         display: 1,
         part: Some(ContextPart::new()),
         group: 7,
         texture: 8,
+        bound,
+        names: Bindings {
+            texture: 0,
+            array_buffer: 0,
+            element_array_buffer: 0,
+            renderbuffer: 0,
+            framebuffer: 0,
+        },
         flushed: 0,
     })
+}
+
+/// What a context has bound that has bound a texture, or also a framebuffer.
+fn bound(texture: Option<u64>, framebuffer: Option<u64>) -> BoundObjects {
+    BoundObjects {
+        texture,
+        array_buffer: None,
+        element_array_buffer: None,
+        renderbuffer: None,
+        framebuffer,
+    }
+}
+
+/// A texture with a storage at its level 1 and one at its last.
+fn texture() -> Object {
+    let mut levels = [None; LEVELS];
+    levels[1] = Some(5);
+    levels[LEVELS - 1] = Some(6);
+    Object::Texture(BackedTexture {
+        texture: Texture::new(),
+        levels,
+    })
+}
+
+/// A group with a texture that has the name 3, and a name that was generated and has no object.
+fn group(rt: &impl Abort, alloc: Global) -> Object {
+    let mut group = Group::new(alloc);
+    group
+        .generate(NameKind::Texture, 1)
+        .expect(rt, "memory is ample");
+    group
+        .bind_name(NameKind::Texture, 3, 8)
+        .expect(rt, "memory is ample");
+    Object::Group(group)
 }
 
 fn surface(rt: &impl Abort, alloc: Global) -> Object {
@@ -117,7 +163,13 @@ fn expect_object(
 #[test]
 fn contexts_and_surfaces_have_references(rt: HostRuntime) {
     let alloc = rt.alloc();
-    expect_object(&rt, alloc, context(), (ObjectKind::Context, 0), &[7, 8]);
+    for (has, edges) in [
+        (bound(None, None), [7, 8].as_slice()),
+        (bound(Some(4), None), &[7, 8, 4]),
+        (bound(Some(4), Some(2)), &[7, 8, 4, 2]),
+    ] {
+        expect_object(&rt, alloc, context(has), (ObjectKind::Context, 0), edges);
+    }
     expect_object(
         &rt,
         alloc,
@@ -128,10 +180,18 @@ fn contexts_and_surfaces_have_references(rt: HostRuntime) {
 }
 
 #[test]
-fn other_objects_have_none(rt: HostRuntime) {
+fn groups_and_textures_have_those_that_are_set(rt: HostRuntime) {
+    let alloc = rt.alloc();
+    let plain = Object::Group(Group::new(alloc));
+    expect_object(&rt, alloc, plain, (ObjectKind::Group, 0), &[]);
+    let named = group(&rt, alloc);
+    expect_object(&rt, alloc, named, (ObjectKind::Group, 0), &[8]);
+    expect_object(&rt, alloc, texture(), (ObjectKind::Texture, 0), &[5, 6]);
+}
+
+#[test]
+fn storages_have_none(rt: HostRuntime) {
     let alloc = rt.alloc();
     let storage = Object::Storage(storage(&rt, alloc, Format::Rgba8888));
-    expect_object(&rt, alloc, Object::Group, (ObjectKind::Group, 0), &[]);
-    expect_object(&rt, alloc, Object::Texture, (ObjectKind::Texture, 0), &[]);
     expect_object(&rt, alloc, storage, (ObjectKind::Storage, 60), &[]);
 }
