@@ -5,8 +5,8 @@ ghost use Rattle.context_state.specs.Local.{is_local};
 ghost use Rattle.context_state.specs.Parts.{AreClamped, IsBox, IsClamped, clamped};
 
 use crate::parts::ONE;
-use egl_calls::places::{ALPHA, BLUE, GREEN, RED};
 use egl_calls::Call;
+use egl_calls::places::{ALPHA, BLUE, GREEN, RED};
 
 /// Whether the width or the height of a box is negative.
 pub(crate) fn has_negative_side(call: &Call) -> bool

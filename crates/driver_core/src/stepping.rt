@@ -28,10 +28,10 @@ use crate::displays::display_of;
 use crate::machine::Driver;
 use crate::replies::{bare, listed, read, valued};
 use attrib_lists::AttribError;
-use egl_calls::arguments::signed;
-use egl_calls::places::DISPLAY_ID;
 use config_match::Configs;
 use display_table::HandleKind;
+use egl_calls::arguments::signed;
+use egl_calls::places::DISPLAY_ID;
 use egl_calls::{
     Call, EglError, EglKind, GlKind, Kind, NoMemory, Numbers, Outcome, Reply, ReplyPair,
 };

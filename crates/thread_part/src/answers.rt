@@ -12,9 +12,9 @@ ghost use Rattle.egl_model.specs.Drawing.{clears_colour, read_form, read_rect};
 ghost use Rattle.egl_model.specs.GlFacts.{no_framebuffer};
 ghost use Rattle.egl_model.specs.Local.{local_refusal};
 
+use call_rules::{EglFacts, GlFacts};
 use egl_calls::arguments::{number, signed};
 use egl_calls::places::{DISPLAY_ID, HEIGHT, MASK, READDRAW, TYPE, WIDTH, X, Y};
-use call_rules::{EglFacts, GlFacts};
 use egl_calls::{Call, EglError, GlError};
 use egl_model::ClientApi;
 use egl_names::codes::{EGL_DRAW, EGL_OPENGL_ES_API, GL_COLOR_BUFFER_BIT, GL_UNSIGNED_SHORT_5_6_5};
