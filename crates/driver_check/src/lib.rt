@@ -43,5 +43,3 @@ mod traces;
 mod variables;
 #[cfg(test)]
 mod waits;
-#[cfg(test)]
-mod wakings;

@@ -1,5 +1,5 @@
 -- What a worker picks in its turn.
-use Rattle.std.specs.Prelude.{◌≡◌, ◌≢◌, ◌⊎◌, ℕ, ◌<◌, ◌≤◌, Bool, true, false, not, ◌&&◌, ◌==◌, List, length, take, Some}
+use Rattle.std.specs.Prelude.{◌≡◌, ◌≢◌, ◌⊎◌, ℕ, ◌<◌, ◌≤◌, Bool, true, not, ◌&&◌, ◌==◌, List, length, take, Some}
 use Rattle.std.specs.List.{list_any}
 use Rattle.egl_calls.specs.Journals.{is_halt}
 use Rattle.egl_calls.specs.declared.entries.Entry.{Entry}
@@ -49,11 +49,6 @@ IsPickOf t es s thread (Call mark call) = (l : Line) × (next_line t.lines es th
 IsPickOf t es s thread Wait = is_blocked t.lines es s thread ≡ true
 IsPickOf t es s thread Stop = IsOver t es s thread
 
--- a thread waits only where the run hasn't stalled. While threads of the trace have no token yet, it hasn't
-abbrev pub IsAwake : TraceValue → List Entry → Machine → Pick → Type 0
-IsAwake t es d Wait = t.threads ≤ d.made → is_stalled t es d.state ≡ false
-IsAwake t es d k = Unit {0}
-
 -- a picker that has learnt all entries gave the pick of its thread
 pub record Picks (p : LinePicker) (es : List Entry) (d : Machine) (k : Pick) (q : LinePicker) : Type 0 where
   pub thread : q.thread ≡ p.thread
@@ -61,4 +56,3 @@ pub record Picks (p : LinePicker) (es : List Entry) (d : Machine) (k : Pick) (q 
   pub all : q.learnt ≡ length es
   pub learnt : HasLearnt q (of_number p.thread es) es
   pub pick : IsPickOf p.session.trace es d.state p.thread k
-  pub awake : IsAwake p.session.trace es d k

@@ -1,5 +1,5 @@
 //! What a worker picks, by what it knows of the journal.
-ghost use Rattle.std.specs.Prelude.{◌≡◌, ◌<◌, ◌≤◌, ◌+◌, ◌-◌, ◌^◌, ◌||◌, ◌∷◌, ◌++◌, [], true, false, length, slice_get, Some, IfOk, IfSome, OnOk, List};
+ghost use Rattle.std.specs.Prelude.{◌≡◌, ◌<◌, ◌+◌, ◌-◌, ◌^◌, ◌||◌, ◌∷◌, ◌++◌, [], true, length, slice_get, Some, IfOk, IfSome, OnOk, List};
 ghost use Rattle.egl_calls.specs.Journals.{is_halt};
 ghost use Rattle.egl_calls.specs.declared.entries.Entry.{Entry as AnEntry};
 ghost use Rattle.trace_reader.specs.declared.traces.Line.{Line as ALine};
@@ -11,14 +11,14 @@ ghost use Rattle.trace_session.specs.Facts.{HasFacts};
 ghost use Rattle.trace_session.specs.Sessions.{Knows};
 ghost use Rattle.shared_driver.specs.Cores.{entry, of_number};
 ghost use Rattle.shared_driver.specs.Picks.{IsBuiltPick};
-ghost use Rattle.play_threads.specs.Picks.{HasLearnt, IsAwake, IsPickOf, MayLook, Picks, have_others_halted};
+ghost use Rattle.play_threads.specs.Picks.{HasLearnt, IsPickOf, MayLook, Picks, have_others_halted};
 
 use driver_core::Driver;
 use egl_calls::{Entry, Journal, NoMemory, Reply};
-use shared_driver::{Awaited, News, Pick, Picker};
+use shared_driver::{Pick, Picker};
 use std::alloc::Global;
 use trace_reader::{Line, Trace};
-use trace_session::{Need, Session};
+use trace_session::Session;
 
 /// Picks the next call of one thread of a trace. In its look it learns the entries of other threads that were added since the last one; its own it is told when they are answered.
 #[derive(Drop)]
@@ -30,18 +30,11 @@ pub struct LinePicker<'a> {
     pub(crate) learnt: u64,
     // another thread gave up
     pub(crate) halted: bool,
-    // where it notes what its thread waits for
-    pub(crate) news: &'a News,
 }
 
 impl<'a> LinePicker<'a> {
     /// A picker for a thread, that has learnt nothing.
-    pub fn new(
-        alloc: Global,
-        trace: &'a Trace,
-        thread: u32,
-        news: &'a News,
-    ) -> Result<LinePicker<'a>, NoMemory>
+    pub fn new(alloc: Global, trace: &'a Trace, thread: u32) -> Result<LinePicker<'a>, NoMemory>
         ensures trace { IfOk result (λ p. p.session.trace ≡ trace.now) }
         ensures thread { IfOk result (λ p. p.thread ≡ thread) }
         ensures learnt { IfOk result (λ p. (es : List AnEntry) → HasLearnt p [] es) }
@@ -52,7 +45,6 @@ impl<'a> LinePicker<'a> {
             session: Session::new(alloc, trace)?,
             learnt: 0,
             halted: false,
-            news,
         })
     }
 
@@ -103,21 +95,9 @@ impl<'a> LinePicker<'a> {
 
     // Whether the run has stalled. While threads of the trace have no token yet, it hasn't.
     fn is_stalled(&self, driver: &Driver) -> bool
-        ensures stalled { (es : List AnEntry) → Knows es self.now.session → result ≡ true → is_stalled self.now.session.trace es driver.now.state ≡ true }
-        ensures goes { (es : List AnEntry) → Knows es self.now.session → result ≡ false → self.now.session.trace.threads ≤ driver.now.made → is_stalled self.now.session.trace es driver.now.state ≡ false }
+        ensures { (es : List AnEntry) → Knows es self.now.session → result ≡ true → is_stalled self.now.session.trace es driver.now.state ≡ true }
     {
         driver.threads() >= self.session.threads() && self.session.stalled(driver)
-    }
-
-    // Notes what its thread waits for. It is called in the thread's turn.
-    fn wait(&self) {
-        let awaited = match self.session.need(self.thread) {
-            Some(Need::WaitEnd) => Awaited::WaitEnd,
-            Some(Need::Answer(line)) => Awaited::Answer(line),
-            Some(Need::Post(number)) => Awaited::Post(number),
-            None => Awaited::Entry,
-        };
-        self.news.wait_for(self.thread, awaited);
     }
 
     // The pick by all that was learnt.
@@ -125,7 +105,6 @@ impl<'a> LinePicker<'a> {
         requires thread { self.now.thread < self.now.session.trace.threads }
         requires made { self.now.thread < driver.now.made }
         ensures built { (es : List AnEntry) → Knows es self.now.session → IfOk result IsBuiltPick }
-        ensures awake { (es : List AnEntry) → Knows es self.now.session → IfOk result (IsAwake self.now.session.trace es driver.now) }
         ensures pick { (es : List AnEntry) → Knows es self.now.session → self.now.halted ≡ have_others_halted self.now.thread es → IfOk result (IsPickOf self.now.session.trace es driver.now.state self.now.thread) }
     {
         self.session.facts();
@@ -141,7 +120,6 @@ impl<'a> LinePicker<'a> {
         if self.is_stalled(driver) {
             Ok(Pick::Stop)
         } else {
-            self.wait();
             Ok(Pick::Wait)
         }
     }

@@ -43,12 +43,12 @@ fn play_lines<R: Wait, G: Gate>(
     trace.lines();
     a_token_keeps_its_own_calls(thread);
     let number = thread.number();
-    let mut picker = LinePicker::new(alloc, trace, number, shared.news())?;
+    let mut picker = LinePicker::new(alloc, trace, number)?;
     let mut told = None;
     'turns: for _ in rt.forever() {
         play_lone(thread, alloc, gate, &mut picker, &mut told)?;
         announce(gate, number, picker.coming(), &mut told);
-        let heard = shared.heard(number);
+        let heard = shared.heard();
         let outcome = shared.call_picked(thread, rt, alloc, &mut picker);
         what_a_token_has_seen_is_legal(shared, thread);
         let picked = outcome?;

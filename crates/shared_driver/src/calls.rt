@@ -16,7 +16,7 @@ ghost use Rattle.shared_driver.specs.Tokens.{AnswersAfterWait, AnswersAtOnce, Go
 use crate::cores::{Core, PLACES, is_waiting};
 use crate::newcomers::own_calls;
 use crate::news::News;
-use crate::picks::{Picked, PickedCall, Picker, is_halt, is_over};
+use crate::picks::{Picked, PickedCall, Picker, is_halt, was_played};
 use crate::tokens::{Closed, Holding, Opened, Shared, Thread};
 use egl_calls::{Call, EglKind, GlKind, Kind, NoMemory, OwnKind, Reply};
 use std::alloc::Global;
@@ -128,6 +128,7 @@ impl Shared {
                 self.end_turn(&mut thread.hold, held);
                 thread.places = PLACES;
                 thread.halted = either(thread.halted, halts);
+                self.news.tell();
                 Ok(reply)
             }
             Err(error) => {
@@ -163,6 +164,7 @@ impl Shared {
         self.end_turn(&mut thread.hold, held);
         thread.places -= 1;
         thread.halted = either(thread.halted, halts);
+        self.news.tell();
         reply
     }
 
@@ -231,6 +233,7 @@ impl Shared {
         let core = held.value();
         core.hand_in(thread.hold.number, &mut thread.hold.tail);
         self.end_turn(&mut thread.hold, held);
+        self.news.tell();
     }
 
     /// How many tokens are not yet joined, as counted in this call's turn. It takes no memory.
@@ -299,6 +302,7 @@ impl Shared {
         core.halt(alloc, thread.hold.number, &mut thread.hold.tail);
         self.end_turn(&mut thread.hold, held);
         thread.halted = true;
+        self.news.tell();
     }
 
     /// Hands in the token's own calls, and adds an entry of the call Halt with mark 0 where it has none yet. It takes no memory.
@@ -341,6 +345,7 @@ impl Shared {
         ensures err_places { OnErr result ((token_of thread.new).places ≡ (token_of thread.old).places) }
     {
         let back = PLACES - thread.places;
+        let had_own = !thread.hold.tail.is_empty();
         let mut held = self.begin_turn(&mut thread.hold, rt);
         let core = held.value();
         core.hand_in(thread.hold.number, &mut thread.hold.tail);
@@ -352,14 +357,15 @@ impl Shared {
             back,
         ) {
             Ok(PickedCall { picked, halts }) => {
-                self.news.call_all_where(is_over(&picked));
                 self.end_turn(&mut thread.hold, held);
                 thread.places = PLACES;
                 thread.halted = either(thread.halted, halts);
+                self.news.tell_where(either(had_own, was_played(&picked)));
                 Ok(picked)
             }
             Err(error) => {
                 self.end_turn(&mut thread.hold, held);
+                self.news.tell_where(had_own);
                 Err(error)
             }
         }

@@ -36,10 +36,10 @@ impl Shared {
                 let pass = self
                     .turns
                     .split_after(&mut from.hold.pass, &held, FIRST_ROOM);
-                self.news.call_all();
                 self.end_turn(&mut from.hold, held);
                 from.places = PLACES;
                 from.sole = false;
+                self.news.tell();
                 Ok(Thread {
                     hold: Holding {
                         pass,
@@ -72,7 +72,6 @@ impl Shared {
         let core = held.value();
         core.hand_in(hold.number, &mut hold.tail);
         core.leave(hold.number);
-        let called = self.news.call(core);
         let Holding {
             mut pass,
             number: _,
@@ -83,7 +82,7 @@ impl Shared {
             unreachable!()
         };
         self.turns.give_back(&mut pass, held);
-        self.news.wake(called);
+        self.news.tell();
         pass
     }
 

@@ -15,7 +15,7 @@ mod turns;
 mod waits;
 
 pub use laws::{a_token_keeps_its_own_calls, what_a_token_has_seen_is_legal};
-pub use news::{Awaited, Heard, News};
+pub use news::Heard;
 pub use picks::{Pick, Picked, Picker};
 pub use threads::finish_all;
 pub use tokens::{AttachError, Closed, Opened, Shared, Thread};

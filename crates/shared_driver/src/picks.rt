@@ -57,9 +57,9 @@ pub struct PickedCall {
     pub halts: bool,
 }
 
-/// Whether nothing is to be played any more.
-pub fn is_over(picked: &Picked) -> bool {
-    matches!(picked, Picked::Stopped)
+/// Whether a picked call was played.
+pub fn was_played(picked: &Picked) -> bool {
+    matches!(picked, Picked::Replied(_))
 }
 
 /// Whether a call of this kind is a thread's giving up.

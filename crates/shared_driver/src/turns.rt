@@ -29,7 +29,7 @@ impl Shared {
         held
     }
 
-    /// Hands out the thread's private part again, passes the turn on, and wakes those whom its entries freed.
+    /// Hands out the thread's private part again, and passes the turn on.
     pub(crate) fn end_turn(&self, hold: &mut Holding, mut held: Held<Core>)
         requires lock { passes.IsOf self.now.turns hold.old.pass × IsHeldOf self.now.turns held }
         requires turn { IsInTurn hold.old.pass }
@@ -40,13 +40,10 @@ impl Shared {
         ensures view { view_of hold.new.pass ≡ went meaning (view_of hold.old.pass) (value_of held) }
         ensures kept { (hold.new.number ≡ hold.old.number) × (hold.new.tail ≡ hold.old.tail) }
     {
-        let core = held.value();
-        let part = core.part_out(hold.number);
-        let called = self.news.call(core);
+        let part = held.value().part_out(hold.number);
         let None = hold.part.replace(part) else {
             unreachable!()
         };
         self.turns.give_back(&mut hold.pass, held);
-        self.news.wake(called);
     }
 }

@@ -3,7 +3,6 @@ ghost use Rattle.std.specs.Prelude.{◌≡◌, ◌∷◌, [], IfSome, IfNone, On
 ghost use Rattle.shared_driver.specs.Cores.{entry, wait_end_call, wait_ended};
 ghost use Rattle.shared_driver.specs.Tokens.{Goes, HasPlace, IsOf, IsSame, Learns, token_of};
 
-use crate::news::Awaited;
 use crate::tokens::{Shared, Thread};
 use egl_calls::Reply;
 use std::alloc::Global;
@@ -33,17 +32,17 @@ impl Shared {
         match core.try_end(alloc, thread.hold.number, mark, &mut thread.hold.tail) {
             Some(reply) => {
                 self.end_turn(&mut thread.hold, held);
+                self.news.tell();
                 Some(reply)
             }
             None => {
-                self.news.wait_for(thread.hold.number, Awaited::WaitEnd);
                 self.end_turn(&mut thread.hold, held);
                 None
             }
         }
     }
 
-    /// Waits until the token's wait can end, and ends it. Between two looks it sleeps until another turn has signalled the sync. It takes no memory.
+    /// Waits until the token's wait can end, and ends it. Between two looks it sleeps until another turn has added an entry. It takes no memory.
     pub(crate) fn end_wait<R: Wait>(
         &self,
         thread: &mut Thread,
@@ -61,11 +60,11 @@ impl Shared {
         ensures places { (token_of thread.new).places ≡ (token_of thread.old).places }
     {
         'waiting: for _ in rt.forever() {
-            let heard = self.news.heard(thread.hold.number);
+            let heard = self.news.heard();
             if let Some(reply) = self.try_end(thread, rt, alloc, mark) {
                 return reply;
             }
-            self.news.sleep(rt, thread.hold.number, heard);
+            self.news.sleep(rt, heard);
         }
         unreachable!()
     }

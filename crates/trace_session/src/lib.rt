@@ -9,4 +9,4 @@ mod runs;
 mod sessions;
 
 pub use runs::{RunError, run_serial};
-pub use sessions::{Need, Session};
+pub use sessions::Session;
