@@ -5,6 +5,7 @@ use denote.Struct.Declared as declared
 use Rattle.std.proofs.Crossing.{crosses}
 use Rattle.std.specs.contracts.option.Option as option
 use Rattle.egl_calls.specs.contracts.lists.List as list
+use Rattle.egl_calls.specs.contracts.payloads.Payload as payload
 use Rattle.egl_calls.specs.contracts.kinds.Kind as kind
 use Rattle.egl_calls.specs.contracts.calls.Call as call
 use Rattle.egl_calls.specs.contracts.calls.Call.TheInside as inside
@@ -14,24 +15,24 @@ use Rattle.trace_reader.specs.contracts.traces.Line as line
 use Rattle.trace_reader.specs.contracts.traces.Trace as trace
 use Rattle.atomic_table.proofs.shared.Seat.TheSendSync as seat
 use Rattle.shared_driver.specs.contracts.tokens.Thread as thread
-use Rattle.shared_driver.proofs.Sending.{core_send, entry_send, part_send}
+use Rattle.shared_driver.proofs.Sending.{bytes_send, bytes_sync, core_send, entry_send, part_send}
 use Rattle.play_threads.specs.contracts.starts.Start as start
 use Rattle.play_threads.specs.contracts.workers.Worker as worker
 
 pub numbers_sync : IsSync (list.the_row i64)
 numbers_sync = search (sendable, crosses) depth 60
 
-pub bytes_sync : IsSync (list.the_row u8)
-bytes_sync = search (sendable, crosses) depth 60
-
 pub kind_sync : IsSync (kind.the_field).row
 kind_sync = search (sendable, crosses) depth 60 fits 20000
 
-pub some_bytes_sync : IsSync (option.the_field (list.the_row u8)).row
-some_bytes_sync = let a = bytes_sync in search (sendable, crosses) depth 60 fits 20000
+pub payload_sync : IsSync payload.the_row
+payload_sync = let a = bytes_send in let b = bytes_sync in search (sendable, crosses) depth 60 fits 20000
+
+pub some_payload_sync : IsSync (option.the_field payload.the_row).row
+some_payload_sync = let a = payload_sync in search (sendable, crosses) depth 60 fits 20000
 
 pub inside_sync : IsSync inside.the_row
-inside_sync = recorded_sync _ inside.the_type.D inside.the_type.to inside.the_type.to_one (struct_sync (declared.shape inside.the_type) (kind_sync, (search sendable depth 20, (numbers_sync, (some_bytes_sync, tt)))))
+inside_sync = recorded_sync _ inside.the_type.D inside.the_type.to inside.the_type.to_one (struct_sync (declared.shape inside.the_type) (kind_sync, (search sendable depth 20, (numbers_sync, (some_payload_sync, tt)))))
 
 pub call_sync : IsSync call.the_row
 call_sync = view_sync _ _ _ _ _ inside_sync

@@ -9,6 +9,7 @@ use Rattle.atomic_table.proofs.shared.Seat.TheSendSync as seat
 use Rattle.atomic_table.proofs.shared.Shared.TheSendSync as table
 use Rattle.turn_lock.specs.contracts.bells.Bells as bells
 use Rattle.egl_calls.specs.contracts.lists.List as list
+use Rattle.egl_calls.specs.contracts.payloads.Payload as payload
 use Rattle.std.specs.contracts.option.Option as option
 use Rattle.egl_calls.specs.contracts.kinds.Kind as kind
 use Rattle.egl_calls.specs.contracts.calls.Call as call
@@ -44,11 +45,17 @@ bytes_send = search (sendable, crosses) depth 60
 pub kind_send : IsSend (kind.the_field).row
 kind_send = search (sendable, crosses) depth 60 fits 20000
 
-pub some_bytes_send : IsSend (option.the_field (list.the_row u8)).row
-some_bytes_send = let a = bytes_send in search (sendable, crosses) depth 60 fits 20000
+pub bytes_sync : IsSync (list.the_row u8)
+bytes_sync = search (sendable, crosses) depth 60
+
+pub payload_send : IsSend payload.the_row
+payload_send = let a = bytes_send in let b = bytes_sync in search (sendable, crosses) depth 60 fits 20000
+
+pub some_payload_send : IsSend (option.the_field payload.the_row).row
+some_payload_send = let a = payload_send in search (sendable, crosses) depth 60 fits 20000
 
 pub inside_send : IsSend inside.the_row
-inside_send = recorded_send _ inside.the_type.D inside.the_type.to inside.the_type.to_one (struct_send (declared.shape inside.the_type) (kind_send, (search sendable depth 20, (numbers_send, (some_bytes_send, tt)))))
+inside_send = recorded_send _ inside.the_type.D inside.the_type.to inside.the_type.to_one (struct_send (declared.shape inside.the_type) (kind_send, (search sendable depth 20, (numbers_send, (some_payload_send, tt)))))
 
 pub call_send : IsSend call.the_row
 call_send = view_send _ _ _ _ _ inside_send
