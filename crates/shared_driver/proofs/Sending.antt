@@ -17,11 +17,13 @@ use Rattle.egl_calls.specs.contracts.replies.Reply as reply
 use Rattle.egl_calls.specs.contracts.entries.Entry as entry
 use Rattle.egl_calls.specs.contracts.entries.Journal as journal
 use Rattle.display_table.specs.contracts.displays.Displays as displays
+use Rattle.share_group.proofs.Sending.{group_send}
 use Rattle.driver_objects.specs.contracts.contexts.Context as context
 use Rattle.driver_objects.specs.contracts.fences.Fence as fence
 use Rattle.driver_objects.specs.contracts.objects.Object as object
 use Rattle.driver_objects.specs.contracts.storages.Storage as storage
 use Rattle.driver_objects.specs.contracts.surfaces.BackedSurface as surface
+use Rattle.driver_objects.specs.contracts.textures.BackedTexture as texture
 use Rattle.object_table.specs.contracts.stored.Stored as stored
 use Rattle.object_table.specs.contracts.table.ObjectTable as objects
 use Rattle.surface_store.specs.contracts.window_tables.WindowTable as windows
@@ -69,6 +71,9 @@ context_send = search (sendable, crosses) depth 60 fits 20000
 pub surface_send : IsSend surface.the_row
 surface_send = search (sendable, crosses) depth 60 fits 20000
 
+pub texture_send : IsSend texture.the_row
+texture_send = search (sendable, crosses) depth 60 fits 20000
+
 pub storage_send : IsSend storage.the_row
 storage_send = search (sendable, crosses) depth 60 fits 20000
 
@@ -76,7 +81,7 @@ pub fence_send : IsSend fence.the_row
 fence_send = search (sendable, crosses) depth 60 fits 20000
 
 pub object_send : IsSend object.the_row
-object_send = let a = context_send in let b = surface_send in let d = storage_send in let e = fence_send in search (sendable, crosses) depth 60 fits 20000
+object_send = let a = context_send in let b = surface_send in let d = storage_send in let e = fence_send in let g = group_send in let h = texture_send in search (sendable, crosses) depth 60 fits 20000
 
 pub stored_send : IsSend stored.the_row
 stored_send = let a = object_send in search (sendable, crosses) depth 60 fits 20000
