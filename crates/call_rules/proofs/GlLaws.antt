@@ -13,7 +13,7 @@ use Rattle.egl_calls.specs.Ranges.{unsigned}
 use Rattle.egl_names.specs.declared.codes.TheConstants.{GL_RGB, GL_RGBA, GL_UNSIGNED_BYTE, GL_UNSIGNED_SHORT_5_6_5}
 use Rattle.call_rules.specs.declared.gl_facts.GlFacts.{GlFacts}
 use Rattle.call_rules.specs.Rows.{AllOff, IsFirst, first_error}
-use Rattle.call_rules.specs.Arguments.{signed}
+use Rattle.egl_calls.specs.Arguments.{signed}
 use Rattle.call_rules.specs.GlRules.{buffer_bits, is_no_side, is_read_format, is_read_type, is_read_pair, read_format, read_type, gl_rows, gl_refusal_by, gl_refusal}
 use Rattle.call_rules.specs.GlAllowed.{ClearAllowed, IsSide, ReadAllowed}
 use Rattle.call_rules.proofs.RowLaws.{all_off, first_is, first_of, none_on}

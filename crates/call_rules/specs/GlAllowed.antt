@@ -3,9 +3,9 @@ use Rattle.std.specs.Prelude.{◌≡◌, ℤ, pos, ◌≤ℤ◌, true, ◌⊎◌
 use Rattle.egl_calls.specs.Calls.{CallValue}
 use Rattle.egl_calls.specs.Ranges.{unsigned}
 use Rattle.egl_names.specs.declared.codes.TheConstants.{GL_RGB, GL_RGBA, GL_UNSIGNED_BYTE, GL_UNSIGNED_SHORT_5_6_5}
-use Rattle.call_rules.specs.declared.places.TheConstants.{HEIGHT, MASK, WIDTH}
+use Rattle.egl_calls.specs.declared.places.TheConstants.{HEIGHT, MASK, WIDTH}
 use Rattle.call_rules.specs.declared.gl_facts.GlFacts.{GlFacts}
-use Rattle.call_rules.specs.Arguments.{signed}
+use Rattle.egl_calls.specs.Arguments.{signed}
 use Rattle.call_rules.specs.GlRules.{buffer_bits, read_format, read_type}
 
 -- glClear (OpenGL ES 1.1, section 4.2.3): the mask adds no bit to those of the buffers

@@ -11,10 +11,10 @@ use Rattle.egl_calls.specs.declared.errors.GlError.{GlError}
 use Rattle.egl_calls.specs.declared.errors.GlError.TheVariants.{InvalidEnum, InvalidValue, InvalidOperation, InvalidFramebufferOperation}
 use Rattle.egl_calls.specs.Ranges.{unsigned}
 use Rattle.egl_names.specs.declared.codes.TheConstants.{GL_RGB, GL_RGBA, GL_UNSIGNED_BYTE, GL_UNSIGNED_SHORT_5_6_5, GL_COLOR_BUFFER_BIT, GL_DEPTH_BUFFER_BIT, GL_STENCIL_BUFFER_BIT}
-use Rattle.call_rules.specs.declared.places.TheConstants.{FORMAT, HEIGHT, MASK, TYPE, WIDTH}
+use Rattle.egl_calls.specs.declared.places.TheConstants.{FORMAT, HEIGHT, MASK, TYPE, WIDTH}
 use Rattle.call_rules.specs.declared.gl_facts.GlFacts.{GlFacts}
 use Rattle.call_rules.specs.Rows.{Row, ◌⇒◌, first_error, unbuilt}
-use Rattle.call_rules.specs.Arguments.{signed}
+use Rattle.egl_calls.specs.Arguments.{signed}
 
 -- the bits of the buffers that glClear clears (OpenGL ES 1.1, section 4.2.3)
 abbrev pub buffer_bits : ℕ

@@ -1,13 +1,13 @@
 //! When each call of OpenGL ES is refused.
-ghost use Rattle.egl_calls.specs.Kinds.{is_built};
+ghost use Rattle.call_rules.specs.Kinds.{is_built};
 ghost use Rattle.std.specs.Prelude.{◌≡◌, true};
 ghost use Rattle.egl_calls.specs.declared.kinds.GlKind.TheVariants.{ReadPixels};
 ghost use Rattle.call_rules.specs.Rows.{first_error};
 ghost use Rattle.call_rules.specs.GlRules.{gl_refusal, gl_rows, framebuffer_row, is_clear_mask, is_no_side, is_read_format, is_read_type, is_read_pair};
 
 use crate::gl_facts::GlFacts;
-use crate::places::MASK;
 use crate::rows::first_error;
+use egl_calls::places::MASK;
 use egl_calls::{Call, GlError, GlKind, Kind, unsigned};
 use egl_names::codes::{
     GL_COLOR_BUFFER_BIT, GL_DEPTH_BUFFER_BIT, GL_RGB, GL_RGBA, GL_STENCIL_BUFFER_BIT,

@@ -2,9 +2,9 @@
 use Rattle.std.specs.Prelude.{ℕ, ℤ, pos, Bool, not, ◌||◌, ◌&&◌, ◌==◌, List, [], ◌∷◌, if◌then◌else◌, int_lt}
 use Rattle.std.specs.Ordering.{int_eq}
 use Rattle.egl_calls.specs.Calls.{CallValue}
-use Rattle.call_rules.specs.Arguments.{signed}
+use Rattle.egl_calls.specs.Arguments.{signed}
 use Rattle.egl_names.specs.declared.codes.TheConstants.{GL_TEXTURE_2D, GL_SCISSOR_TEST, GL_DITHER, GL_BLEND, GL_DEPTH_TEST, GL_ALPHA_TEST, GL_STENCIL_TEST, GL_CULL_FACE, GL_LIGHTING, GL_FOG, GL_TEXTURE_ENV, GL_TEXTURE_ENV_MODE, GL_MODULATE, GL_REPLACE, GL_UNPACK_ALIGNMENT, GL_PACK_ALIGNMENT, GL_VIEWPORT, GL_SCISSOR_BOX, GL_MAX_TEXTURE_SIZE}
-use Rattle.call_rules.specs.declared.places.TheConstants.{ALPHA, BLUE, GREEN, HEIGHT, RED, WIDTH, X, Y}
+use Rattle.egl_calls.specs.declared.places.TheConstants.{ALPHA, BLUE, GREEN, HEIGHT, RED, WIDTH, X, Y}
 use Rattle.context_state.specs.Bindings.{is_binding_code}
 use Rattle.context_state.specs.Parts.{clamped}
 

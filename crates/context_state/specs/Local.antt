@@ -9,10 +9,10 @@ use Rattle.egl_calls.specs.declared.errors.GlError.TheVariants.{NoError}
 use Rattle.egl_calls.specs.declared.errors.Outcome.TheVariants.{Done, Gl}
 use Rattle.egl_calls.specs.declared.kinds.Kind.{Kind}
 use Rattle.egl_names.specs.declared.codes.TheConstants.{GL_TEXTURE_2D, GL_SCISSOR_TEST, GL_REPLACE, GL_UNPACK_ALIGNMENT, GL_PACK_ALIGNMENT, GL_VIEWPORT, GL_SCISSOR_BOX, GL_MAX_TEXTURE_SIZE}
-use Rattle.call_rules.specs.declared.places.TheConstants.{CAP, ENVIRONMENT_PARAM, INDEX, PARAM, PNAME}
+use Rattle.egl_calls.specs.declared.places.TheConstants.{CAP, ENVIRONMENT_PARAM, INDEX, PARAM, PNAME}
 use Rattle.context_state.specs.declared.kinds.LocalKind.{LocalKind}
 use Rattle.context_state.specs.declared.kinds.LocalKind.TheVariants.{GetError, Enable, Disable, Scissor, Viewport, ClearColorx, Color4x, ClearDepthx, ClearStencil, ColorMask, TexEnvx, PixelStorei, GetIntegerv}
-use Rattle.call_rules.specs.Arguments.{number}
+use Rattle.egl_calls.specs.Arguments.{number}
 use Rattle.context_state.specs.Arguments.{box, colour, mask}
 use Rattle.context_state.specs.Bindings.{name_bound}
 use Rattle.context_state.specs.Kinds.{local_kind}

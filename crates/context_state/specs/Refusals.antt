@@ -5,10 +5,10 @@ use Rattle.std.specs.declared.option.Option.TheVariants.{None, Some}
 use Rattle.egl_calls.specs.Calls.{CallValue}
 use Rattle.egl_calls.specs.declared.errors.GlError.{GlError}
 use Rattle.egl_calls.specs.declared.errors.GlError.TheVariants.{InvalidEnum, InvalidValue}
-use Rattle.call_rules.specs.declared.places.TheConstants.{CAP, ENVIRONMENT_PARAM, ENVIRONMENT_PNAME, INDEX, PARAM, PNAME, TARGET}
+use Rattle.egl_calls.specs.declared.places.TheConstants.{CAP, ENVIRONMENT_PARAM, ENVIRONMENT_PNAME, INDEX, PARAM, PNAME, TARGET}
 use Rattle.context_state.specs.declared.kinds.LocalKind.{LocalKind}
 use Rattle.context_state.specs.declared.kinds.LocalKind.TheVariants.{GetError, Enable, Disable, Scissor, Viewport, ClearColorx, Color4x, ClearDepthx, ClearStencil, ColorMask, TexEnvx, PixelStorei, GetIntegerv}
-use Rattle.call_rules.specs.Arguments.{signed, number}
+use Rattle.egl_calls.specs.Arguments.{signed, number}
 use Rattle.context_state.specs.Arguments.{may_enable, may_disable, is_environment, is_store, is_parameter, is_index, has_negative_side}
 use Rattle.context_state.specs.Parts.{is_alignment}
 

@@ -5,7 +5,7 @@ ghost use Rattle.context_state.specs.Local.{is_local};
 ghost use Rattle.context_state.specs.Parts.{AreClamped, IsBox, IsClamped, clamped};
 
 use crate::parts::ONE;
-use call_rules::places::{ALPHA, BLUE, GREEN, RED};
+use egl_calls::places::{ALPHA, BLUE, GREEN, RED};
 use egl_calls::Call;
 
 /// Whether the width or the height of a box is negative.

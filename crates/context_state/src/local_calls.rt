@@ -13,8 +13,8 @@ use crate::bindings::name_bound;
 use crate::kinds::{LocalKind, local_kind};
 use crate::parts::ContextPart;
 use crate::refusals::refusal;
-use call_rules::arguments::number;
-use call_rules::places::{CAP, ENVIRONMENT_PARAM, INDEX, PARAM, PNAME};
+use egl_calls::arguments::number;
+use egl_calls::places::{CAP, ENVIRONMENT_PARAM, INDEX, PARAM, PNAME};
 use egl_calls::{Bytes, Call, GlError, Numbers, Outcome, Reply};
 use egl_names::codes::{
     GL_MAX_TEXTURE_SIZE, GL_PACK_ALIGNMENT, GL_REPLACE, GL_SCISSOR_BOX, GL_SCISSOR_TEST,

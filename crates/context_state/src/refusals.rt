@@ -7,8 +7,8 @@ ghost use Rattle.context_state.specs.Refusals.{refusal};
 use crate::arguments::has_negative_side;
 use crate::bindings::is_binding_code;
 use crate::kinds::LocalKind;
-use call_rules::arguments::{number, signed};
-use call_rules::places::{CAP, ENVIRONMENT_PARAM, ENVIRONMENT_PNAME, INDEX, PARAM, PNAME, TARGET};
+use egl_calls::arguments::{number, signed};
+use egl_calls::places::{CAP, ENVIRONMENT_PARAM, ENVIRONMENT_PNAME, INDEX, PARAM, PNAME, TARGET};
 use egl_calls::{Call, GlError};
 use egl_names::codes::{
     GL_ALPHA_TEST, GL_BLEND, GL_CULL_FACE, GL_DEPTH_TEST, GL_DITHER, GL_FOG, GL_LIGHTING,

@@ -1,6 +1,6 @@
 //! A driver of two threads, of which the first has its private part beside the driver.
 ghost use Rattle.std.specs.Prelude.{◌≡◌, ◌<◌, true, false, slice_index_or, IfOk, OnOk};
-ghost use Rattle.egl_calls.specs.Kinds.{is_built};
+ghost use Rattle.call_rules.specs.Kinds.{is_built};
 ghost use Rattle.egl_model.specs.State.{State};
 ghost use Rattle.egl_model.specs.Sound.{IsSound};
 ghost use Rattle.egl_model.specs.Hidden.{hide};

@@ -1,10 +1,11 @@
 //! The driver's calls that may run out of memory, with ample memory.
 ghost use Rattle.std.specs.Prelude.{◌≡◌, ◌<◌, true, IfOk};
-ghost use Rattle.egl_calls.specs.Kinds.{is_built};
+ghost use Rattle.call_rules.specs.Kinds.{is_built};
 ghost use Rattle.egl_calls.specs.declared.kinds.Kind.TheVariants.{Egl};
 
 use driver_core::Driver;
-use egl_calls::{Call, EglKind, Kind, NoMemory, Numbers, Outcome, Reply, is_built};
+use call_rules::is_built;
+use egl_calls::{Call, EglKind, Kind, NoMemory, Numbers, Outcome, Reply};
 use egl_names::codes::EGL_SUCCESS;
 use std::alloc::Global;
 use std::process::Abort;

@@ -1,13 +1,14 @@
 //! A thread's part goes out and comes back between the calls of another thread, and leaves every reply as without it.
 ghost use Rattle.std.specs.Prelude.{◌≡◌, ◌<◌, true, All, IfOk};
-ghost use Rattle.egl_calls.specs.Kinds.{is_built};
+ghost use Rattle.call_rules.specs.Kinds.{is_built};
 ghost use Rattle.egl_calls.specs.Ranges.{IsNumber};
 ghost use Rattle.egl_model.specs.Local.{is_local};
 ghost use Rattle.driver_rows.specs.Apart.{IsApart};
 
 use crate::apart::{APART, Apart, OTHER, call_of_other, local_call, opened, shared_call, taken};
 use driver_core::Driver;
-use egl_calls::{Call, EglKind, GlKind, Kind, NoMemory, Numbers, OwnKind, Reply, is_built};
+use call_rules::is_built;
+use egl_calls::{Call, EglKind, GlKind, Kind, NoMemory, Numbers, OwnKind, Reply};
 use egl_names::codes::{
     EGL_DRAW, EGL_HEIGHT, EGL_OPENGL_ES_API, EGL_READ, EGL_WIDTH, GL_COLOR_BUFFER_BIT, GL_RGBA,
     GL_UNSIGNED_BYTE,

@@ -1,11 +1,10 @@
 //! Two threads at one driver: what a thread that waits is answered. A trace shows nothing of it, since its threads make no call while they wait.
 ghost use Rattle.std.specs.Prelude.{◌≡◌, ◌<◌, true, IfOk};
-ghost use Rattle.egl_calls.specs.Kinds.{is_built};
+ghost use Rattle.call_rules.specs.Kinds.{is_built};
 
 use driver_core::Driver;
-use egl_calls::{
-    Call, EglError, EglKind, GlKind, Kind, NoMemory, Numbers, Outcome, OwnKind, is_built,
-};
+use call_rules::is_built;
+use egl_calls::{Call, EglError, EglKind, GlKind, Kind, NoMemory, Numbers, Outcome, OwnKind};
 use egl_names::codes::{EGL_CONDITION_SATISFIED, EGL_SUCCESS, EGL_SYNC_FENCE, EGL_TIMEOUT_EXPIRED};
 use std::alloc::Global;
 use std::process::Abort;

@@ -5,7 +5,7 @@ use Rattle.egl_model.specs.Contexts.{context_call_facts, context_value, context_
 use Rattle.egl_model.specs.Handles.{handle_at}
 use Rattle.egl_model.specs.Arguments.{number}
 use Rattle.display_table.specs.declared.handles.HandleKind.TheVariants.{Context as a_context, Surface as a_surface}
-use Rattle.call_rules.specs.Arguments.{signed}
+use Rattle.egl_calls.specs.Arguments.{signed}
 use Rattle.egl_names.specs.declared.codes.TheConstants.{EGL_DRAW}
 use Rattle.egl_calls.specs.declared.errors.Outcome.TheVariants.{Done}
 use Rattle.std.specs.Prelude.{unwrap_or, if◌then◌else◌}

@@ -20,7 +20,7 @@ abbrev no_code : {V : Type 0} → List ℕ × V → Option ℕ
 no_code e = None
 
 -- each name's place is its own: computed over the whole table
-places_are : map (place_of names) names ≡ map Some (range_with_len 0 163)
+places_are : map (place_of names) names ≡ map Some (range_with_len 0 164)
 unfolding names errors config_attributes other_egl_names gl_names
 places_are = refl
 
@@ -33,7 +33,7 @@ bits_are_no_names : map (λ e. place_of names e.0) bit_words ≡ map no_code bit
 unfolding names errors config_attributes other_egl_names gl_names bit_words
 bits_are_no_names = refl
 
-names_count : length names ≡ 163
+names_count : length names ≡ 164
 unfolding names errors config_attributes other_egl_names gl_names
 names_count = refl
 
@@ -41,7 +41,7 @@ constant_names : map (λ c. c.0) name_constants ≡ names
 unfolding names errors config_attributes other_egl_names gl_names name_constants
 constant_names = refl
 
-constant_codes : map (λ c. c.1) name_constants ≡ map (λ k. 3000000000 + k) (range_with_len 0 163)
+constant_codes : map (λ c. c.1) name_constants ≡ map (λ k. 3000000000 + k) (range_with_len 0 164)
 unfolding name_constants
 constant_codes = refl
 
@@ -97,9 +97,9 @@ get_range a n k l =
 -- the place of the name at a place is that place
 place_of_name : (k : ℕ) (w : List ℕ) → slice_get names k ≡ Some w → place_of names w ≡ Some k
 place_of_name k w g =
-    let within : k < 163 = subst (λ (n : ℕ). k < n) names_count (slice_get_within names k w g) in
+    let within : k < 164 = subst (λ (n : ℕ). k < n) names_count (slice_get_within names k w g) in
     let one : slice_get (map (place_of names) names) k ≡ Some (place_of names w) = slice_get-map (place_of names) names k ∙ ap (option_map (place_of names)) g in
-    let other : slice_get (map Some (range_with_len 0 163)) k ≡ Some (Some (0 + k)) = slice_get-map Some (range_with_len 0 163) k ∙ ap (option_map Some) (get_range 0 163 k within) in
+    let other : slice_get (map Some (range_with_len 0 164)) k ≡ Some (Some (0 + k)) = slice_get-map Some (range_with_len 0 164) k ∙ ap (option_map Some) (get_range 0 164 k within) in
     let same : Some (place_of names w) ≡ Some (Some (0 + k)) = sym one ∙ ap (λ (xs : List (Option ℕ)). slice_get xs k) places_are ∙ other in
     let less : place_of names w ≡ Some (0 + k) = cc in
     less ∙ ap Some (omega arith)
@@ -190,9 +190,9 @@ constant_code : (w : List ℕ) (n : ℕ) → Contains name_constants (w, n) → 
 constant_code w n h =
     let at : slice_get name_constants h.0 ≡ Some (w, n) = get_contained name_constants (w, n) h.0 h.1 h.2 in
     let name : slice_get names h.0 ≡ Some w = ap (λ (xs : List (List ℕ)). slice_get xs h.0) (sym constant_names) ∙ slice_get-map (λ (c : List ℕ × ℕ). c.0) name_constants h.0 ∙ ap (option_map (λ (c : List ℕ × ℕ). c.0)) at in
-    let within : h.0 < 163 = subst (λ (n : ℕ). h.0 < n) names_count (slice_get_within names h.0 w name) in
+    let within : h.0 < 164 = subst (λ (n : ℕ). h.0 < n) names_count (slice_get_within names h.0 w name) in
     let one : slice_get (map (λ (c : List ℕ × ℕ). c.1) name_constants) h.0 ≡ Some n = slice_get-map (λ (c : List ℕ × ℕ). c.1) name_constants h.0 ∙ ap (option_map (λ (c : List ℕ × ℕ). c.1)) at in
-    let other : slice_get (map (λ k. 3000000000 + k) (range_with_len 0 163)) h.0 ≡ Some (3000000000 + (0 + h.0)) = slice_get-map (λ k. 3000000000 + k) (range_with_len 0 163) h.0 ∙ ap (option_map (λ k. 3000000000 + k)) (get_range 0 163 h.0 within) in
+    let other : slice_get (map (λ k. 3000000000 + k) (range_with_len 0 164)) h.0 ≡ Some (3000000000 + (0 + h.0)) = slice_get-map (λ k. 3000000000 + k) (range_with_len 0 164) h.0 ∙ ap (option_map (λ k. 3000000000 + k)) (get_range 0 164 h.0 within) in
     let same : Some n ≡ Some (3000000000 + (0 + h.0)) = sym one ∙ ap (λ (xs : List ℕ). slice_get xs h.0) constant_codes ∙ other in
     let number : n ≡ 3000000000 + (0 + h.0) = cc in
     code_at h.0 w name ∙ ap Some (omega arith)

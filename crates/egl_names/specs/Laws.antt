@@ -18,7 +18,7 @@ pub record AreInverse : Type 0 where
 pub record AreOnTheList : Type 0 where
   pub each : (k : ℕ) (w : List ℕ) → slice_get names k ≡ Some w → code_of w ≡ Some (first_code + k)
   pub place : (w : List ℕ) (n : ℕ) → code_of w ≡ Some n → (k : ℕ) × (n ≡ first_code + k) × (slice_get names k ≡ Some w)
-  pub count : length names ≡ 163
+  pub count : length names ≡ 164
 
 -- no name stands twice, no word of the second list does, and none is a name
 pub record AreDistinct : Type 0 where

@@ -185,6 +185,7 @@ gl_names =
     ∷ codes "GL_VIEWPORT"
     ∷ codes "GL_SCISSOR_BOX"
     ∷ codes "GL_MAX_TEXTURE_SIZE"
+    ∷ codes "GL_FRAMEBUFFER_UNDEFINED_OES"
     ∷ []
 
 -- every name, in the order of the codes

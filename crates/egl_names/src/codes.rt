@@ -330,6 +330,8 @@ pub const GL_SCISSOR_BOX: u64 = 3_000_000_161;
 
 pub const GL_MAX_TEXTURE_SIZE: u64 = 3_000_000_162;
 
+pub const GL_FRAMEBUFFER_UNDEFINED_OES: u64 = 3_000_000_163;
+
 // The words that stand for a number and are no bits.
 pub const EGL_FALSE: i64 = 0;
 

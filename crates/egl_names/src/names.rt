@@ -7,7 +7,7 @@ ghost use Rattle.egl_names.specs.Rows.{stands_at, first_at, AreByLength};
 use egl_calls::{Text, unsigned};
 
 /// Every name, in the order of the codes.
-pub static NAMES: [&str; 163] = [
+pub static NAMES: [&str; 164] = [
     // The errors of EGL and of OpenGL ES.
     "EGL_SUCCESS",
     "EGL_NOT_INITIALIZED",
@@ -175,6 +175,7 @@ pub static NAMES: [&str; 163] = [
     "GL_VIEWPORT",
     "GL_SCISSOR_BOX",
     "GL_MAX_TEXTURE_SIZE",
+    "GL_FRAMEBUFFER_UNDEFINED_OES",
 ];
 
 /// The places in `NAMES` of the names of each length.
@@ -209,7 +210,7 @@ static NAMES_BY_LENGTH: [&[u8]; 49] = [
     &[42, 55, 75, 111, 125, 126, 143, 153],
     &[44, 74, 154, 158],
     &[43, 144, 159],
-    &[],
+    &[163],
     &[],
     &[148],
     &[157],

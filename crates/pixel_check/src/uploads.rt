@@ -3,7 +3,7 @@
 ghost use Rattle.texture_objects.specs.Uploads.{IsImageCall, IsPartCall};
 
 use crate::pictures::{Inside, bytes_of, expect_bytes, new_image, payload, seen};
-use egl_calls::{Bytes, Call, GlKind, Kind, Numbers};
+use egl_calls::{Bytes, Call, GlKind, Kind, Numbers, Payload};
 use egl_names::codes;
 use pixel_formats::Format;
 use pixel_rows::Image;
@@ -110,13 +110,18 @@ const FIVES: Data = Data {
     kind: codes::GL_UNSIGNED_SHORT_5_5_5_1 as u32,
 };
 
+/// The bytes of a call.
+fn given<R: Abort>(rt: &R, alloc: Global, bytes: Bytes) -> Payload {
+    Payload::new(alloc, bytes).expect(rt, "memory")
+}
+
 /// A glTexImage2D at level 0.
 fn image_call<R: Abort>(
     rt: &R,
     alloc: Global,
     sides: (u32, u32),
     data: Data,
-    bytes: Option<Bytes>,
+    bytes: Option<Payload>,
 ) -> Call
     ensures { IsImageCall result }
 {
@@ -292,8 +297,8 @@ static UPLOADS: [Upload; 17] = [
 ];
 
 fn expect_upload<R: Abort>(rt: &R, alloc: Global, upload: &Upload) {
-    let given = Some(payload(rt, alloc, upload.given));
-    let call = image_call(rt, alloc, upload.sides, upload.data, given);
+    let bytes = given(rt, alloc, payload(rt, alloc, upload.given));
+    let call = image_call(rt, alloc, upload.sides, upload.data, Some(bytes));
     let image = uploaded(rt, alloc, &call, upload.align);
     assert!(rt; (image.width(), image.height()) == upload.sides);
     assert!(rt; image.format() == upload.form);
@@ -340,7 +345,7 @@ fn part_call<R: Abort>(
     into: &Image,
     part: [u32; 4],
     data: Data,
-    bytes: Option<Bytes>,
+    bytes: Option<Payload>,
 ) -> Call
     ensures { IsPartCall result into.now }
 {
@@ -371,7 +376,7 @@ struct Piece {
 /// Writes a part of an image.
 fn write_part<R: Abort>(rt: &R, alloc: Global, image: &mut Image, piece: &Piece) {
     let bytes = match piece.given {
-        Some(given) => Some(payload(rt, alloc, given)),
+        Some(bytes) => Some(given(rt, alloc, payload(rt, alloc, bytes))),
         None => None,
     };
     let align = piece.align;
@@ -388,7 +393,7 @@ fn square<R: Abort>(rt: &R, alloc: Global, side: u32, data: Data, pixel: &[u8]) 
     uploaded(
         rt,
         alloc,
-        &image_call(rt, alloc, (side, side), data, Some(bytes)),
+        &image_call(rt, alloc, (side, side), data, Some(given(rt, alloc, bytes))),
         4,
     )
 }

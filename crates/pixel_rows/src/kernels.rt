@@ -3,6 +3,7 @@
 
 ghost use Rattle.std.specs.Prelude.{◌≡◌, ℕ, ◌+◌, ◌-◌, ◌<◌, ◌≤◌, [], length, slice_index_or, take};
 ghost use Rattle.pixel_formats.specs.Pixels as pixels;
+ghost use Rattle.pixel_formats.specs.declared.formats.Format.TheVariants.{Rgba8888};
 ghost use Rattle.pixel_rows.specs.Blocks.{in_range, Rewritten};
 ghost use Rattle.pixel_rows.specs.Cells.{blended, converted};
 ghost use Rattle.pixel_rows.specs.Images.{no_pixel};
@@ -64,8 +65,9 @@ pub(crate) fn blend_range<const N: usize>(
     }
 }
 
-/// Writes a row of cells of the format `from` from the place `at` on, in the format `f`.
-pub(crate) fn convert_range<const N: usize, const M: usize>(
+/// Writes a row of cells of the format `from` from the place `at` on, in the format `f`, cell by cell.
+#[inline(always)]
+fn convert_each<const N: usize, const M: usize>(
     cells: &mut [[u8; N]],
     at: usize,
     row: &[[u8; M]],
@@ -78,6 +80,56 @@ pub(crate) fn convert_range<const N: usize, const M: usize>(
 {
     'cells: for k in 0..row.len() {
         cells[at + k] = cell_in(f, pixel_in(from, row[k]));
+    }
+}
+
+/// Writes a row of cells of the format `from` from the place `at` on, at 8 bits a component.
+///
+/// An arm for each format makes both known to its loop, so that what is divided by are constants and
+/// several cells are widened at once.
+fn widen_range<const N: usize, const M: usize>(
+    cells: &mut [[u8; N]],
+    at: usize,
+    row: &[[u8; M]],
+    from: Format,
+)
+    requires range { at + length row.now ≤ length cells.old }
+    requires four { (N ≤ 4) × (M ≤ 4) }
+    ensures { Rewritten [] (in_range at (at + length row.now)) (λ k _. converted N Rgba8888 from (slice_index_or row.now (k - at) [])) cells.old cells.new }
+{
+    match from {
+        Format::Rgb565 => convert_each(cells, at, row, Format::Rgba8888, Format::Rgb565),
+        Format::Rgb888 => convert_each(cells, at, row, Format::Rgba8888, Format::Rgb888),
+        Format::Rgba8888 => convert_each(cells, at, row, Format::Rgba8888, Format::Rgba8888),
+        Format::Rgba4444 => convert_each(cells, at, row, Format::Rgba8888, Format::Rgba4444),
+        Format::Rgba5551 => convert_each(cells, at, row, Format::Rgba8888, Format::Rgba5551),
+        Format::A8 => convert_each(cells, at, row, Format::Rgba8888, Format::A8),
+        Format::L8 => convert_each(cells, at, row, Format::Rgba8888, Format::L8),
+        Format::La88 => convert_each(cells, at, row, Format::Rgba8888, Format::La88),
+    }
+}
+
+/// Writes a row of cells of the format `from` from the place `at` on, in the format `f`.
+pub(crate) fn convert_range<const N: usize, const M: usize>(
+    cells: &mut [[u8; N]],
+    at: usize,
+    row: &[[u8; M]],
+    f: Format,
+    from: Format,
+)
+    requires range { at + length row.now ≤ length cells.old }
+    requires four { (N ≤ 4) × (M ≤ 4) }
+    ensures { Rewritten [] (in_range at (at + length row.now)) (λ k _. converted N f from (slice_index_or row.now (k - at) [])) cells.old cells.new }
+{
+    match f {
+        Format::Rgba8888 => widen_range(cells, at, row, from),
+        Format::Rgb565
+        | Format::Rgb888
+        | Format::Rgba4444
+        | Format::Rgba5551
+        | Format::A8
+        | Format::L8
+        | Format::La88 => convert_each(cells, at, row, f, from),
     }
 }
 

@@ -35,7 +35,7 @@ use Rattle.shared_driver.specs.Tokens.{AreOthers, Goes, Halts, Owns, Token, mine
 use Rattle.driver_core.specs.Machine.{Machine, outs}
 use Rattle.egl_model.specs.Frame.{AreOf}
 use Rattle.egl_model.specs.Hidden.{hide}
-use Rattle.egl_calls.specs.Kinds.{is_built}
+use Rattle.call_rules.specs.Kinds.{is_built}
 use Rattle.std.specs.Option.{option_map}
 use Rattle.trace_session.specs.Facts.{HasFacts}
 use Rattle.play_threads.proofs.HiddenLaws.{pick_same, ready_hidden}

@@ -1,6 +1,7 @@
 //! Calls of EGL: tables of conditions that hold alone or together, and the error that comes first.
 use call_rules::{EglFacts, egl_refusal};
-use egl_calls::{Call, EglError, EglKind, Kind, Numbers, is_built};
+use call_rules::is_built;
+use egl_calls::{Call, EglError, EglKind, Kind, Numbers};
 use egl_names::codes::EGL_SYNC_FENCE;
 use std::alloc::Global;
 use std::process::Abort;

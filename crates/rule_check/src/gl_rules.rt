@@ -1,7 +1,8 @@
 //! Calls of OpenGL ES: tables of their numbers, and the error that comes first.
 use crate::egl_rules::egl_call;
 use call_rules::{EglFacts, GlFacts, egl_refusal, gl_refusal};
-use egl_calls::{Call, EglKind, GlError, GlKind, Kind, Numbers, is_built};
+use call_rules::is_built;
+use egl_calls::{Call, EglKind, GlError, GlKind, Kind, Numbers};
 use egl_names::codes::{
     GL_ALPHA, GL_RGB, GL_RGBA, GL_UNSIGNED_BYTE, GL_UNSIGNED_SHORT_4_4_4_4, GL_UNSIGNED_SHORT_5_6_5,
 };

@@ -19,7 +19,7 @@ fn expect_name(rt: &impl Abort, code: u32, name: &str) {
 }
 
 /// The first and the last name of each group, with the codes.
-static BORDERS: [(&str, u32); 10] = [
+static BORDERS: [(&str, u32); 11] = [
     ("EGL_SUCCESS", 3_000_000_000),
     ("EGL_CONTEXT_LOST", 3_000_000_014),
     ("GL_NO_ERROR", 3_000_000_015),
@@ -30,6 +30,7 @@ static BORDERS: [(&str, u32); 10] = [
     ("EGL_IMAGE_PRESERVED", 3_000_000_088),
     ("GL_TEXTURE_2D", 3_000_000_089),
     ("GL_MAX_TEXTURE_SIZE", 3_000_000_162),
+    ("GL_FRAMEBUFFER_UNDEFINED_OES", 3_000_000_163),
 ];
 
 #[test]
@@ -50,10 +51,10 @@ fn texts_at_the_borders_of_the_groups(rt: HostRuntime) {
 static NO_CODES: [i64; 9] = [
     0,
     -1,
-    163,
+    164,
     12_288,
     2_999_999_999,
-    3_000_000_163,
+    3_000_000_164,
     4_294_967_295,
     i64::MIN,
     i64::MAX,

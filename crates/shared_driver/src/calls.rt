@@ -1,7 +1,7 @@
 //! What a thread does with its token.
 ghost use Rattle.std.specs.Prelude.{◌≡◌, ◌==◌, ◌≤◌, ◌<◌, ◌+◌, ◌||◌, ◌⊎◌, ◌∷◌, ◌++◌, [], true, false, slice_index_or, OnErr, OnOk, IfOk, IsOk, All, List};
 ghost use Rattle.surface_store.specs.Windows.{windows_ok};
-ghost use Rattle.egl_calls.specs.Kinds.{is_built};
+ghost use Rattle.call_rules.specs.Kinds.{is_built};
 ghost use Rattle.egl_calls.specs.declared.entries.Entry.{Entry};
 ghost use Rattle.egl_model.specs.Hidden.{hide};
 ghost use Rattle.egl_model.specs.State.{opening};

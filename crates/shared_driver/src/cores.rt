@@ -1,7 +1,7 @@
 //! The value under the lock.
 ghost use Rattle.std.specs.Prelude.{◌≡◌, ◌<◌, ◌≤◌, ◌+◌, ◌-◌, [], ◌∷◌, ◌++◌, true, false, length, IfOk, IfSome, IfNone, OnSome, OnOk, OnErr, IsOk, slice_index, slice_index_or, slice_set};
 ghost use Rattle.std.specs.VecDeque.{deque_capacity};
-ghost use Rattle.egl_calls.specs.Kinds.{is_built};
+ghost use Rattle.call_rules.specs.Kinds.{is_built};
 ghost use Rattle.surface_store.specs.Windows.{windows_ok};
 ghost use Rattle.egl_model.specs.Frame.{IsReady};
 ghost use Rattle.egl_model.specs.Hidden.{hide};

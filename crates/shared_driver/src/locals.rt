@@ -1,6 +1,6 @@
 //! Calls that a thread's private part answers, with no turn.
 ghost use Rattle.std.specs.Prelude.{◌≡◌, ◌-◌, ◌∷◌, ◌++◌, [], true, false, IfOk, IsOk, OnErr};
-ghost use Rattle.egl_calls.specs.Kinds.{is_built};
+ghost use Rattle.call_rules.specs.Kinds.{is_built};
 ghost use Rattle.egl_model.specs.Parts.{part_of};
 ghost use Rattle.egl_model.specs.Step.{step};
 ghost use Rattle.thread_part.specs.Memory.{is_bare, takes_pixels};

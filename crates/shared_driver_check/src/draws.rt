@@ -1,6 +1,6 @@
 //! Calls in a random order, by a fixed seed.
 ghost use Rattle.std.specs.Prelude.{◌≡◌, ◌<◌, true, false, All};
-ghost use Rattle.egl_calls.specs.Kinds.{is_built};
+ghost use Rattle.call_rules.specs.Kinds.{is_built};
 ghost use Rattle.egl_calls.specs.Ranges.{IsNumber};
 ghost use Rattle.egl_model.specs.Waits.{is_wait_end};
 

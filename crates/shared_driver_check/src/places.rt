@@ -1,6 +1,6 @@
 //! Calls that a thread's private part answers, and the places that they take.
 ghost use Rattle.std.specs.Prelude.{◌≡◌, true, false};
-ghost use Rattle.egl_calls.specs.Kinds.{is_built};
+ghost use Rattle.call_rules.specs.Kinds.{is_built};
 ghost use Rattle.egl_model.specs.Waits.{is_wait_end};
 ghost use Rattle.shared_driver.specs.Tokens.{IsOf};
 

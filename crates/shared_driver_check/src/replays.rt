@@ -2,7 +2,8 @@
 ghost use Rattle.std.specs.Prelude.{◌≤◌};
 
 use driver_core::Driver;
-use egl_calls::{Journal, Reply, is_built};
+use call_rules::is_built;
+use egl_calls::{Journal, Reply};
 use std::alloc::Global;
 use std::process::Abort;
 

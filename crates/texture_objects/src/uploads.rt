@@ -9,7 +9,7 @@ ghost use Rattle.pixel_rows.specs.Transfers.{IsAlignment};
 ghost use Rattle.texture_objects.specs.Uploads.{IsImageCall, IsPartCall, data_form, given, given_form, part_rect, rewritten, uploaded, whole_rect};
 
 use crate::forms::form_of;
-use egl_calls::{Bytes, Call, NoMemory, unsigned};
+use egl_calls::{Bytes, Call, NoMemory, Payload, unsigned};
 use pixel_formats::Format;
 use pixel_rows::{Image, Rect};
 use std::alloc::Global;
@@ -31,7 +31,7 @@ fn load(
     alloc: Global,
     image: &mut Image,
     rect: Rect,
-    bytes: Option<&Bytes>,
+    bytes: Option<&Payload>,
     form: Format,
     align: u32,
 ) -> Result<(), NoMemory>
@@ -44,7 +44,7 @@ fn load(
     ensures room { image.old.owned ≡ true → IsOk result }
 {
     match bytes {
-        Some(bytes) => image.load_rows(rect, bytes, form, align),
+        Some(payload) => image.load_rows(rect, payload.bytes(), form, align),
         None => image.load_rows(rect, &Bytes::new(alloc), form, align),
     }
 }

@@ -2,9 +2,9 @@
 ghost use Rattle.std.specs.Prelude.{◌≡◌, ◌<◌, ◌==◌, pos, true};
 ghost use Rattle.egl_model.specs.State.{api_code};
 ghost use Rattle.egl_names.specs.declared.codes.TheConstants.{EGL_DRAW as ADraw};
-ghost use Rattle.egl_calls.specs.Kinds.{is_built};
+ghost use Rattle.call_rules.specs.Kinds.{is_built};
 ghost use Rattle.egl_calls.specs.Ranges.{IsNumber};
-ghost use Rattle.call_rules.specs.Arguments.{signed};
+ghost use Rattle.egl_calls.specs.Arguments.{signed};
 ghost use Rattle.call_rules.specs.GlRules as gl_rules;
 ghost use Rattle.egl_model.specs.Arguments.{number};
 ghost use Rattle.egl_model.specs.Displays.{display_of};
@@ -12,8 +12,8 @@ ghost use Rattle.egl_model.specs.Drawing.{clears_colour, read_form, read_rect};
 ghost use Rattle.egl_model.specs.GlFacts.{no_framebuffer};
 ghost use Rattle.egl_model.specs.Local.{local_refusal};
 
-use call_rules::arguments::{number, signed};
-use call_rules::places::{DISPLAY_ID, HEIGHT, MASK, READDRAW, TYPE, WIDTH, X, Y};
+use egl_calls::arguments::{number, signed};
+use egl_calls::places::{DISPLAY_ID, HEIGHT, MASK, READDRAW, TYPE, WIDTH, X, Y};
 use call_rules::{EglFacts, GlFacts};
 use egl_calls::{Call, EglError, GlError};
 use egl_model::ClientApi;

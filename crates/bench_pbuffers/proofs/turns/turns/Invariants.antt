@@ -1,5 +1,0 @@
-use Rattle.std.proofs.Common.{◌≡◌}
-use Rattle.bench_pbuffers.proofs.turns.turns.Given as goal
-
-abbrev pub invariant-each : goal.invariant-each
-invariant-each l = l.driver.made ≡ l.fn.driver.made

@@ -1,5 +1,0 @@
-use Rattle.shared_driver.specs.Tokens.{IsOf}
-use Rattle.bench_threads.proofs.together.closed.Given as goal
-
-abbrev pub invariant-waiting : goal.invariant-waiting
-invariant-waiting g l = IsOf l.shared l.first

@@ -1,0 +1,55 @@
+//! Which calls the driver plays.
+ghost use Rattle.std.specs.Prelude.{◌≡◌};
+ghost use Rattle.call_rules.specs.Kinds.{is_built};
+
+use egl_calls::{EglKind, GlKind, Kind, OwnKind};
+
+/// Whether the driver plays calls of this kind.
+pub fn is_built(kind: Kind) -> bool
+    ensures { result ≡ is_built kind }
+{
+    match kind {
+        Kind::Egl(EglKind::GetError) => true,
+        Kind::Egl(EglKind::GetDisplay) => true,
+        Kind::Egl(EglKind::Initialize) => true,
+        Kind::Egl(EglKind::Terminate) => true,
+        Kind::Egl(EglKind::GetConfigs) => true,
+        Kind::Egl(EglKind::ChooseConfig) => true,
+        Kind::Egl(EglKind::GetConfigAttrib) => true,
+        Kind::Egl(EglKind::CreateWindowSurface) => true,
+        Kind::Egl(EglKind::CreatePbufferSurface) => true,
+        Kind::Egl(EglKind::DestroySurface) => true,
+        Kind::Egl(EglKind::QuerySurface) => true,
+        Kind::Egl(EglKind::SurfaceAttrib) => true,
+        Kind::Egl(EglKind::BindApi) => true,
+        Kind::Egl(EglKind::QueryApi) => true,
+        Kind::Egl(EglKind::CreateContext) => true,
+        Kind::Egl(EglKind::DestroyContext) => true,
+        Kind::Egl(EglKind::MakeCurrent) => true,
+        Kind::Egl(EglKind::GetCurrentContext) => true,
+        Kind::Egl(EglKind::GetCurrentSurface) => true,
+        Kind::Egl(EglKind::GetCurrentDisplay) => true,
+        Kind::Egl(EglKind::QueryContext) => true,
+        Kind::Egl(EglKind::SwapBuffers) => true,
+        Kind::Egl(EglKind::WaitClient) => true,
+        Kind::Egl(EglKind::ReleaseThread) => true,
+        Kind::Egl(EglKind::CreateSync) => true,
+        Kind::Egl(EglKind::DestroySync) => true,
+        Kind::Egl(EglKind::ClientWaitSync) => true,
+        Kind::Egl(EglKind::WaitSync) => true,
+        Kind::Egl(EglKind::GetSyncAttrib) => true,
+        Kind::Gl(GlKind::GetError) => true,
+        Kind::Gl(GlKind::Flush) => true,
+        Kind::Gl(GlKind::Finish) => true,
+        Kind::Gl(GlKind::ClearColorx) => true,
+        Kind::Gl(GlKind::Clear) => true,
+        Kind::Gl(GlKind::ReadPixels) => true,
+        Kind::Own(OwnKind::Post) => true,
+        Kind::Own(OwnKind::Await) => true,
+        Kind::Own(OwnKind::Census) => true,
+        Kind::Own(OwnKind::ReadFront) => true,
+        Kind::Own(OwnKind::WaitEnd) => true,
+        Kind::Own(OwnKind::Halt) => true,
+        _ => false,
+    }
+}
