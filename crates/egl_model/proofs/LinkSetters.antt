@@ -1,14 +1,13 @@
 -- What may be set of what objects refer to: names of a group, what a context has bound, the levels of a texture.
-use Rattle.std.proofs.Common.{◌≡◌, ◌⊎◌, ℕ, zero, suc, ◌+◌, Bool, true, false, cond, not, ◌==◌, eqb, ltb, is_some, inl, inr, List, [], ◌∷◌, ◌++◌, refl, sym, ap, ◌∙◌, set, Option, None, Some}
+use Rattle.std.proofs.Common.{◌≡◌, ◌⊎◌, ℕ, zero, suc, ◌+◌, true, cond, not, eqb, ltb, inl, inr, List, [], ◌∷◌, refl, sym, ap, ◌∙◌, set, Option, None, Some}
 use Rattle.std.specs.Prelude.{option_to_list}
 use Rattle.std.specs.List.{find}
-use Rattle.std.specs.Option.{option_map, option_map_or}
+use Rattle.std.specs.Option.{option_map_or}
 use Rattle.std.proofs.lemmas.Bool.{cond_both}
 use Rattle.context_state.specs.Parts.{PartValue}
 use Rattle.pixel_rows.specs.Images.{ImageValue}
 use Rattle.driver_objects.specs.Links.{linked_names}
 use Rattle.driver_objects.specs.Objects.{filled}
-use Rattle.driver_objects.specs.declared.contexts.Context.{Context as ContextObject}
 use Rattle.driver_objects.specs.declared.kinds.ObjectKind.{ObjectKind}
 use Rattle.driver_objects.specs.declared.kinds.ObjectKind.TheVariants.{Storage as a_storage, Texture as a_texture}
 use Rattle.driver_objects.specs.declared.objects.Object.{Object}
@@ -19,18 +18,17 @@ use Rattle.share_group.specs.Names.{after, fresh, is_of, object_in, object_of, p
 use Rattle.share_group.specs.declared.names.Name.{Name}
 use Rattle.share_group.specs.declared.names.NameKind.{NameKind}
 use Rattle.share_group.specs.declared.names.NameKind.TheVariants.{Texture as textures, Buffer as buffers, Renderbuffer as renderbuffers, Framebuffer as framebuffers}
-use Rattle.egl_model.specs.Currents.{has_context}
 use Rattle.egl_model.specs.Full.{Full}
 use Rattle.egl_model.specs.Graph.{is_in}
 use Rattle.egl_model.specs.Names.{kind_named, with_more, with_name_of}
 use Rattle.egl_model.specs.Objects.{as_group, with_context, with_group, with_texture}
-use Rattle.egl_model.specs.Parts.{is_place, set_image, set_part}
+use Rattle.egl_model.specs.Parts.{set_image, set_part}
 use Rattle.egl_model.specs.Shapes.{Goes, IsFree, Leads, Shape, pixels_in, slots_in}
 use Rattle.egl_model.specs.Slots.{level_slots, name_slots, slots_of}
 use Rattle.egl_model.specs.State.{State}
 use Rattle.egl_model.specs.Textures.{bound_at, with_level}
-use Rattle.egl_model.proofs.Moves.{NoneElse, Setter, Suits, body_in}
-use Rattle.egl_model.proofs.Slots.{GroupLeads, group_parts, group_whole, in_cases, in_left, in_right}
+use Rattle.egl_model.proofs.Moves.{Setter, Suits, body_in}
+use Rattle.egl_model.proofs.Slots.{group_parts, group_whole, in_cases, in_left, in_right}
 
 -- ---- A group.
 pub setter-group : (h : GroupValue → GroupValue) → Setter (with_group h)

@@ -10,7 +10,7 @@ use Rattle.share_group.specs.declared.names.NameKind.{NameKind}
 use Rattle.share_group.specs.Groups.{GroupValue, names_of, with_names}
 use Rattle.share_group.specs.Names.{after, object_of}
 use Rattle.egl_model.specs.State.{State}
-use Rattle.egl_model.specs.Objects.{change_group, context_in, group_in}
+use Rattle.egl_model.specs.Objects.{context_in, group_in}
 
 -- the kind of the objects that names of a kind have
 abbrev pub kind_named : NameKind → ObjectKind

@@ -4,3 +4,4 @@ pub mod NodeLaws
 pub mod GenLaws
 pub mod FreeLaws
 pub mod GivenLaws
+pub mod Sending
