@@ -5,10 +5,10 @@ use std::alloc::Global;
 use std::test::Fail;
 
 const EACH_FORM: &str =
-    "# all forms\n\nopening first\nH\n0 a => ok\nend\n\n# a run\nuse first\n\n1 b\\x20\\ => no\ncensus 1\nfront 1\n\n# stalls\nH\nrecording\ncensus 0\nend\nstalled 0 2\n\n# defects\nH\\r\n0 c => malformed 2 Name\n\\ => malformed 1 Header\n";
+    "# all forms\n\nopening first\nH\n0 a => ok\nend\n\n# a run\nuse first\n\n1 b\\x20\\ => no\ncensus 1\nfront 1\n\n# stalls\nH\nrecording\ncensus 0\nend\nstalled 0 2\n\n# a command\ncommand check it\nuse first\nlong 3 ab\nanswer 9\nno\nend\n\n# defects\nH\\r\n0 c => malformed 2 Name\n\\ => malformed 1 Header\n";
 
-/// The heading, the last line, the trace, the status and the output of each example there.
-static WANTED: [(&str, u64, &str, u8, &str); 4] = [
+/// The heading, the last line, the input, the status and the output of each example there.
+static WANTED: [(&str, u64, &str, u8, &str); 5] = [
     (
         "a run",
         14,
@@ -23,15 +23,16 @@ static WANTED: [(&str, u64, &str, u8, &str); 4] = [
         6,
         "recording\ncensus 0\nend\nstalled 0 2\n",
     ),
-    ("defects", 24, "H\r\n0 c\n", 4, "malformed 2 Name\n"),
-    ("defects", 25, "H\r\n", 4, "malformed 1 Header\n"),
+    ("a command", 29, "H\n0 a\nabbb\n", 9, "no\nend\n"),
+    ("defects", 32, "H\r\n0 c\n", 4, "malformed 2 Name\n"),
+    ("defects", 33, "H\r\n", 4, "malformed 1 Header\n"),
 ];
 
 fn is_like(example: &Example, wanted: &(&str, u64, &str, u8, &str)) -> bool {
-    let (heading, line, trace, status, output) = *wanted;
+    let (heading, line, input, status, output) = *wanted;
     example.heading.as_str() == heading
         && example.line == line
-        && example.trace.as_slice() == trace.as_bytes()
+        && example.input.as_slice() == input.as_bytes()
         && example.status == status
         && example.output.as_str() == output
 }
@@ -42,12 +43,15 @@ fn each_form_is_read(rt: HostRuntime) -> Result<(), Fail> {
     assert_eq!(rt; examples.len(), WANTED.len());
     for (example, wanted) in examples.iter().zip(&WANTED) {
         assert!(rt; is_like(example, wanted), "line {}", example.line);
+        let command = example.command.as_ref().map(|words| words.as_str());
+        assert!(rt; command.is_some() == (example.heading.as_str() == "a command"));
+        assert!(rt; command.unwrap_or("check it") == "check it");
     }
     Ok(())
 }
 
 /// Texts that are refused, and why.
-static REFUSED: [(&str, &str); 12] = [
+static REFUSED: [(&str, &str); 15] = [
     ("\nH\ncensus 0\n", "line 2: an example has no heading"),
     ("# x\n\nH\ncensus 0\n", "line 3: an example has no heading"),
     ("# x\nuse y\n", "line 2: no opening is called y"),
@@ -77,6 +81,12 @@ static REFUSED: [(&str, &str); 12] = [
     (
         "# x\nrepeat H\n",
         "line 2: `repeat` wants a count and a line",
+    ),
+    ("# x\nlong 2\n", "line 2: `long` wants a count and a line"),
+    ("# x\ncommand check\nH\n", "the file ends within an example"),
+    (
+        "# x\ncommand check\nanswer no\n",
+        "line 3: `answer` wants the number of a status: invalid digit found in string",
     ),
 ];
 
