@@ -88,11 +88,15 @@ claimed_at b None = then_lines (trace b) (Err (record { line = length (lines b) 
 unfoldable pub claimed : List ℕ → Result Claim Defect
 claimed b = claimed_at b (cut_recording b)
 
--- differs PLACE, expected TEXT, found TEXT on three lines, or incomplete THREAD LINE
+-- THREAD LINE
+unfoldable pub thread_line : ℕ → ℕ → List ℕ
+thread_line thread line = decimal thread ++ codes " " ++ decimal line ++ codes "\n"
+
+-- differs PLACE, expected TEXT, found TEXT on three lines, or that a thread isn't at its end
 abbrev pub verdict_answer : Verdict → Answer
 verdict_answer Holds = record { status = Fine; text = codes "holds\n" }
 verdict_answer (DiffersAt place expected found) = record { status = Differs; text = codes "differs " ++ decimal place ++ codes "\nexpected " ++ expected ++ codes "\nfound " ++ found ++ codes "\n" }
-verdict_answer (Incomplete thread line) = record { status = Differs; text = codes "incomplete " ++ decimal thread ++ codes " " ++ decimal line ++ codes "\n" }
+verdict_answer (Incomplete thread line) = record { status = Differs; text = codes "incomplete " ++ thread_line thread line }
 
 unfoldable pub claim_answer : Claim → Answer
 claim_answer c = verdict_answer (verdict c.trace c.recording)
