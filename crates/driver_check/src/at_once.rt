@@ -53,7 +53,7 @@ fn two_at_once(rt: HostRuntime) {
     };
     let mut sink = sink(&rt, alloc, 200, &[]);
     let mut source = source(&rt, alloc, THREE_LINES, &[]);
-    let status = play_words(&rt, alloc, &mut source, &mut sink, &gate);
+    let status = play_words(&rt, alloc, false, &mut source, &mut sink, &gate);
     assert_eq!(rt; (status.number(), gate.met.load(SeqCst)), (0, 1));
 }
 

@@ -1,15 +1,18 @@
--- The answer to bytes.
-use Rattle.std.proofs.Common.{◌≡◌, ℕ, List, ap, Ok, Err}
-use Rattle.trace_reader.specs.declared.traces.Reason.{Reason}
-use Rattle.trace_reader.specs.Traces.{TraceValue}
+-- The answer to bytes, by what they spell.
+use Rattle.std.proofs.Common.{◌≡◌, ℕ, Bool, List, refl, Some}
 use Rattle.trace_reader.specs.Grammar.{trace}
-use Rattle.egl_cli.specs.declared.statuses.Status.TheVariants.{Malformed}
-use Rattle.egl_cli.specs.Answers.{trace_answer, run_answer, played_answer, malformed_text}
+use Rattle.egl_cli.specs.declared.commands.Command.TheVariants.{Serial, Play, Check}
+use Rattle.egl_cli.specs.Answers.{serial_answer, check_answer, run_answer, claim_answer, claimed, within_limit, answer_or_defect}
+use Rattle.egl_cli.specs.Says.{answer_of}
 
-pub answer_ok : (b : List ℕ) (t : TraceValue) → trace b ≡ Ok t → trace_answer b ≡ run_answer t
-unfolding trace_answer
-answer_ok b t e = ap played_answer e
+pub serial_is : (b : List ℕ) → answer_of (Some Serial) b ≡ within_limit b (answer_or_defect run_answer (trace b))
+unfolding serial_answer
+serial_is b = refl
 
-pub answer_malformed : (b : List ℕ) (n : ℕ) (r : Reason) → trace b ≡ Err (record { line = n; reason = r }) → trace_answer b ≡ record { status = Malformed; text = malformed_text n r }
-unfolding trace_answer
-answer_malformed b n r e = ap played_answer e
+pub play_is : (how : Bool) (b : List ℕ) → answer_of (Some (Play how)) b ≡ within_limit b (answer_or_defect run_answer (trace b))
+unfolding serial_answer
+play_is how b = refl
+
+pub check_is : (b : List ℕ) → answer_of (Some Check) b ≡ within_limit b (answer_or_defect claim_answer (claimed b))
+unfolding check_answer
+check_is b = refl

@@ -4,3 +4,5 @@ pub mod AnswerLaws
 pub mod SaysLaws
 pub mod SerialLaws
 pub mod PlayLaws
+pub mod CheckLaws
+pub mod HeldLaws

@@ -1,5 +1,6 @@
 -- What the program says: a status and a text, by the bytes of its input.
-use Rattle.std.specs.Prelude.{◌≡◌, ◌⊎◌, ℕ, nat_lt, Bool, true, false, List, ◌++◌, if◌then◌else◌, length, codes, decimal, Result, Ok, Err}
+use Rattle.std.specs.Prelude.{◌≡◌, ◌⊎◌, ℕ, ◌+◌, nat_lt, Bool, true, false, List, ◌++◌, if◌then◌else◌, length, take, drop, codes, decimal, Option, None, Some, Result, Ok, Err}
+use Rattle.std.specs.Str.Lines.{lines}
 use Rattle.trace_reader.specs.declared.traces.Reason.{Reason}
 use Rattle.trace_reader.specs.declared.traces.Reason.TheVariants.{Header, Window, Thread, Name, Argument, Variable, Limit, Entry}
 use Rattle.trace_reader.specs.declared.traces.Defect.{Defect}
@@ -10,9 +11,18 @@ use Rattle.trace_model.specs.Serial.{state_behind, serial}
 use Rattle.trace_model.specs.Follows.{IsPlayOf}
 use Rattle.trace_model.specs.Stalled.{IsComplete, IsStalled, is_stalled}
 use Rattle.trace_model.specs.Recording.{recording}
+use Rattle.journal_text.specs.Cuts.{cut_recording}
+use Rattle.journal_text.specs.Readings.{recorded}
+use Rattle.journal_text.specs.Summaries.{summary}
+use Rattle.journal_text.specs.declared.cuts.Cut.{Cut}
+use Rattle.journal_text.specs.declared.recordings.RecordedLine.{RecordedLine}
+use Rattle.trace_check.specs.Verdicts.{verdict}
+use Rattle.trace_check.specs.declared.verdicts.Verdict.{Verdict}
+use Rattle.trace_check.specs.declared.verdicts.Verdict.TheVariants.{Holds, Differs as DiffersAt, Incomplete}
 use Rattle.egl_cli.specs.StalledLines.{stalled_lines}
-use Rattle.egl_cli.specs.declared.statuses.Status.TheVariants.{Ok as Fine, Malformed, Stalled, TooLong}
+use Rattle.egl_cli.specs.declared.statuses.Status.TheVariants.{Ok as Fine, Malformed, Stalled, TooLong, Differs}
 use Rattle.egl_cli.specs.declared.answers.Answer.{Answer}
+use Rattle.egl_cli.specs.declared.inputs.Claim.{Claim}
 
 unfoldable pub usage_text : List ℕ
 usage_text = codes "usage: egl_cli serial | play [summary] | check | configs | gen N THREADS SEED\n"
@@ -41,27 +51,69 @@ malformed_text line reason = codes "malformed " ++ decimal line ++ codes " " ++ 
 abbrev pub most_input : ℕ
 most_input = 33554432
 
--- the recording of a journal, and where it stalled, the lines at which threads wait
-abbrev pub journal_answer : TraceValue → List AnEntry → Bool → Answer
-journal_answer t journal false = record { status = Fine; text = recording t journal }
-journal_answer t journal true = record { status = Stalled; text = recording t journal ++ stalled_lines t journal }
+-- ---- Of a trace that is played.
+-- what is told of a run: its summary, or its recording
+abbrev pub told : Bool → TraceValue → List AnEntry → List ℕ
+told true t journal = summary t journal
+told false t journal = recording t journal
+
+-- what is told of a run, and where it stalled, the lines at which threads wait
+abbrev pub journal_answer : Bool → TraceValue → List AnEntry → Bool → Answer
+journal_answer how t journal false = record { status = Fine; text = told how t journal }
+journal_answer how t journal true = record { status = Stalled; text = told how t journal ++ stalled_lines t journal }
 
 -- the answer to a trace: that of its serial journal
 unfoldable pub run_answer : TraceValue → Answer
-run_answer t = journal_answer t (serial t) (is_stalled t (serial t) (state_behind t (serial t)))
+run_answer t = journal_answer false t (serial t) (is_stalled t (serial t) (state_behind t (serial t)))
 
 -- an answer of `play` to a trace: that to a journal that plays it to the end of all its threads, or until none can go on
-abbrev pub IsPlayAnswer : TraceValue → Answer → Type 0
-IsPlayAnswer t a = (journal : List AnEntry) × IsPlayOf t journal × ((IsComplete t journal × (a ≡ journal_answer t journal false)) ⊎ (IsStalled t journal × (a ≡ journal_answer t journal true)))
+abbrev pub IsPlayAnswer : Bool → TraceValue → Answer → Type 0
+IsPlayAnswer how t a = (journal : List AnEntry) × IsPlayOf t journal × ((IsComplete t journal × (a ≡ journal_answer how t journal false)) ⊎ (IsStalled t journal × (a ≡ journal_answer how t journal true)))
 
--- the answer to a trace, or its first defect
-abbrev pub played_answer : Result TraceValue Defect → Answer
-played_answer (Ok t) = run_answer t
-played_answer (Err d) = record { status = Malformed; text = malformed_text d.line d.reason }
+-- ---- Of a recording behind its trace.
+abbrev pub with_lines : TraceValue → Result (List RecordedLine) Defect → Result Claim Defect
+with_lines t (Ok lines) = Ok (record { trace = t; recording = lines })
+with_lines t (Err d) = Err d
 
-unfoldable pub trace_answer : List ℕ → Answer
-trace_answer b = played_answer (trace b)
+abbrev pub then_lines : Result TraceValue Defect → Result (List RecordedLine) Defect → Result Claim Defect
+then_lines (Ok t) lines = with_lines t lines
+then_lines (Err d) lines = Err d
 
--- the answer of `serial` to all bytes of the input
+-- the recording begins at the first line `recording`; where there is none, it is missing behind the last line
+abbrev pub claimed_at : List ℕ → Option Cut → Result Claim Defect
+claimed_at b (Some cut) = then_lines (trace (take cut.front b)) (recorded cut.line (drop cut.front b))
+claimed_at b None = then_lines (trace b) (Err (record { line = length (lines b) + 1; reason = Entry }))
+
+-- the trace that the bytes spell and the recording behind it, or the first line that isn't in its form: the trace's before the recording's
+unfoldable pub claimed : List ℕ → Result Claim Defect
+claimed b = claimed_at b (cut_recording b)
+
+-- THREAD LINE
+unfoldable pub thread_line : ℕ → ℕ → List ℕ
+thread_line thread line = decimal thread ++ codes " " ++ decimal line ++ codes "\n"
+
+-- differs PLACE, expected TEXT, found TEXT on three lines, or that a thread isn't at its end
+abbrev pub verdict_answer : Verdict → Answer
+verdict_answer Holds = record { status = Fine; text = codes "holds\n" }
+verdict_answer (DiffersAt place expected found) = record { status = Differs; text = codes "differs " ++ decimal place ++ codes "\nexpected " ++ expected ++ codes "\nfound " ++ found ++ codes "\n" }
+verdict_answer (Incomplete thread line) = record { status = Differs; text = codes "incomplete " ++ thread_line thread line }
+
+unfoldable pub claim_answer : Claim → Answer
+claim_answer c = verdict_answer (verdict c.trace c.recording)
+
+-- ---- Of all bytes of the input.
+-- the answer to what they spell, or their first defect
+abbrev pub answer_or_defect : {A : Type 0} → (A → Answer) → Result A Defect → Answer
+answer_or_defect answer (Ok x) = answer x
+answer_or_defect answer (Err d) = record { status = Malformed; text = malformed_text d.line d.reason }
+
+abbrev pub within_limit : List ℕ → Answer → Answer
+within_limit b a = if nat_lt most_input (length b) then record { status = TooLong; text = too_long_text } else a
+
+-- the answer of `serial`
 unfoldable pub serial_answer : List ℕ → Answer
-serial_answer b = if nat_lt most_input (length b) then record { status = TooLong; text = too_long_text } else trace_answer b
+serial_answer b = within_limit b (answer_or_defect run_answer (trace b))
+
+-- the answer of `check`
+unfoldable pub check_answer : List ℕ → Answer
+check_answer b = within_limit b (answer_or_defect claim_answer (claimed b))

@@ -1,9 +1,8 @@
--- What the program reads: a trace, or why there is none to play.
-use Rattle.std.specs.Prelude.{◌≡◌, ℕ, ◌≤◌, List, length, Option, Ok as Spelt, Err}
+-- What the program reads, or why it isn't what a command asks for.
+use Rattle.std.specs.Prelude.{◌≡◌, ℕ, ◌≤◌, List, length, Option, Result, Ok as Spelt, Err}
 use Rattle.egl_flow.specs.Flow.{AtEnd, Gave, HasRisen}
 use Rattle.egl_flow.specs.Causes.{GavePast, GaveWithin}
-use Rattle.trace_reader.specs.Traces.{TraceValue}
-use Rattle.trace_reader.specs.Grammar.{trace}
+use Rattle.trace_reader.specs.declared.traces.Defect.{Defect}
 use Rattle.egl_cli.specs.declared.inputs.InputError.{InputError}
 use Rattle.egl_cli.specs.declared.inputs.InputError.TheVariants.{ReadFault, TooLong, Malformed, NoMemory}
 use Rattle.egl_cli.specs.Answers.{most_input}
@@ -14,13 +13,24 @@ pub record WasRead (left rest : Option (List ℕ)) (bytes : List ℕ) : Type 0 w
   pub ended : AtEnd rest
   pub within : length bytes ≤ most_input
 
--- what was read spells a trace, and the source didn't fail
-abbrev pub GivesTrace : Option (List ℕ) → Option (List ℕ) → ℕ → ℕ → TraceValue → Type 0
-GivesTrace left rest faults_before faults t = (faults ≡ faults_before) × ((bytes : List ℕ) × WasRead left rest bytes × (trace bytes ≡ Spelt t))
+-- what was read spells this, by what bytes spell, and the source didn't fail
+abbrev pub GivesSpelled : {A : Type 0} → (List ℕ → Result A Defect) → Option (List ℕ) → Option (List ℕ) → ℕ → ℕ → A → Type 0
+GivesSpelled spelled left rest faults_before faults x = (faults ≡ faults_before) × ((bytes : List ℕ) × WasRead left rest bytes × (spelled bytes ≡ Spelt x))
 
--- why there is no trace to play: of what the source had left before and has left now, and of its faults before and now
-abbrev pub GivesNoTrace : Option (List ℕ) → Option (List ℕ) → ℕ → ℕ → InputError → Type 0
-GivesNoTrace left rest faults_before faults ReadFault = HasRisen faults_before faults
-GivesNoTrace left rest faults_before faults TooLong = GavePast left rest most_input 33554433
-GivesNoTrace left rest faults_before faults (Malformed line reason) = (bytes : List ℕ) × WasRead left rest bytes × (trace bytes ≡ Err (record { line = line; reason = reason }))
-GivesNoTrace left rest faults_before faults NoMemory = (faults ≡ faults_before) × GaveWithin left rest most_input
+-- why there is nothing that the bytes spell: of what the source had left before and has left now, and of its faults before and now
+abbrev pub GivesNone : {A : Type 0} → (List ℕ → Result A Defect) → Option (List ℕ) → Option (List ℕ) → ℕ → ℕ → InputError → Type 0
+GivesNone spelled left rest faults_before faults ReadFault = HasRisen faults_before faults
+GivesNone spelled left rest faults_before faults TooLong = GavePast left rest most_input 33554433
+GivesNone spelled left rest faults_before faults (Malformed line reason) = (bytes : List ℕ) × WasRead left rest bytes × (spelled bytes ≡ Err (record { line = line; reason = reason }))
+GivesNone spelled left rest faults_before faults NoMemory = (faults ≡ faults_before) × GaveWithin left rest most_input
+
+-- the bytes themselves
+abbrev pub GivesBytes : Option (List ℕ) → Option (List ℕ) → ℕ → ℕ → List ℕ → Type 0
+GivesBytes left rest faults_before faults bytes = (faults ≡ faults_before) × WasRead left rest bytes
+
+-- why they weren't read, which is never a defect
+abbrev pub GivesNoBytes : Option (List ℕ) → Option (List ℕ) → ℕ → ℕ → InputError → Type 0
+GivesNoBytes left rest faults_before faults ReadFault = HasRisen faults_before faults
+GivesNoBytes left rest faults_before faults TooLong = GavePast left rest most_input 33554433
+GivesNoBytes left rest faults_before faults (Malformed line reason) = ⊥
+GivesNoBytes left rest faults_before faults NoMemory = (faults ≡ faults_before) × GaveWithin left rest most_input

@@ -1,7 +1,7 @@
 //! What the program says to the bytes of its input.
 ghost use Rattle.std.specs.Prelude.{◌≡◌, ◌≤◌, true, false, length, IfOk};
 ghost use Rattle.trace_model.specs.Serial.{state_behind};
-ghost use Rattle.egl_cli.specs.Answers.{reason_name, malformed_text, journal_answer, run_answer};
+ghost use Rattle.egl_cli.specs.Answers.{reason_name, malformed_text, told, journal_answer, run_answer};
 
 use crate::stalled_lines::put_stalled;
 use crate::statuses::Status;
@@ -9,7 +9,7 @@ use arrayvec::ArrayString;
 use driver_core::Run;
 use egl_calls::{Bytes, NoMemory};
 use itoa::Buffer;
-use journal_text::write;
+use journal_text::{summary, write};
 use std::alloc::Global;
 use trace_reader::{Reason, Trace};
 use trace_session::{RunError, run_serial};
@@ -55,23 +55,45 @@ pub fn malformed_text(line: u64, reason: Reason) -> ArrayString<MALFORMED_ROOM>
     out
 }
 
-/// What is said of a run that came to its end: its recording.
-pub fn ended_answer(alloc: Global, trace: &Trace, run: &Run) -> Result<Answer, NoMemory>
+/// What is told of a run: its recording or its summary.
+fn told(alloc: Global, summarized: bool, trace: &Trace, run: &Run) -> Result<Bytes, NoMemory>
     requires { run.now.driver.state ≡ state_behind trace.now run.now.journal.entries }
-    ensures { IfOk result (λ a. a ≡ journal_answer trace.now run.now.journal.entries false) }
+    ensures { IfOk result (λ b. b ≡ told summarized trace.now run.now.journal.entries) }
+{
+    if summarized {
+        summary(alloc, trace, run)
+    } else {
+        write(alloc, trace, run)
+    }
+}
+
+/// What is said of a run that came to its end.
+pub fn ended_answer(
+    alloc: Global,
+    summarized: bool,
+    trace: &Trace,
+    run: &Run,
+) -> Result<Answer, NoMemory>
+    requires { run.now.driver.state ≡ state_behind trace.now run.now.journal.entries }
+    ensures { IfOk result (λ a. a ≡ journal_answer summarized trace.now run.now.journal.entries false) }
 {
     Ok(Answer {
         status: Status::Ok,
-        text: write(alloc, trace, run)?,
+        text: told(alloc, summarized, trace, run)?,
     })
 }
 
-/// What is said of a run that stalled: its recording, and the lines at which its threads wait.
-pub fn stalled_answer(alloc: Global, trace: &Trace, run: &Run) -> Result<Answer, NoMemory>
+/// What is said of a run that stalled: the lines at which its threads wait stand behind what is told of it.
+pub fn stalled_answer(
+    alloc: Global,
+    summarized: bool,
+    trace: &Trace,
+    run: &Run,
+) -> Result<Answer, NoMemory>
     requires { run.now.driver.state ≡ state_behind trace.now run.now.journal.entries }
-    ensures { IfOk result (λ a. a ≡ journal_answer trace.now run.now.journal.entries true) }
+    ensures { IfOk result (λ a. a ≡ journal_answer summarized trace.now run.now.journal.entries true) }
 {
-    let mut text = write(alloc, trace, run)?;
+    let mut text = told(alloc, summarized, trace, run)?;
     put_stalled(alloc, &mut text, trace, &run.journal)?;
     Ok(Answer {
         status: Status::Stalled,
@@ -84,8 +106,8 @@ pub fn run_answer(alloc: Global, trace: &Trace) -> Result<Answer, NoMemory>
     ensures { IfOk result (λ a. a ≡ run_answer trace.now) }
 {
     match run_serial(alloc, trace) {
-        Ok(run) => ended_answer(alloc, trace, &run),
-        Err(RunError::Stalled(run)) => stalled_answer(alloc, trace, &run),
+        Ok(run) => ended_answer(alloc, false, trace, &run),
+        Err(RunError::Stalled(run)) => stalled_answer(alloc, false, trace, &run),
         Err(RunError::NoMemory) => Err(NoMemory),
     }
 }

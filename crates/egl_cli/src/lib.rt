@@ -12,6 +12,7 @@ mod respond;
 mod stalled_lines;
 mod statuses;
 mod telling;
+mod verdict_lines;
 
 pub use play_threads::{Gate, OpenGate};
 pub use playing::{play_words, top};

@@ -24,14 +24,15 @@ use trace_session::RunError;
 fn play_answer<R: Threads + Wait + Sync, G: Gate + Sync>(
     rt: &R,
     alloc: Global,
+    summary: bool,
     trace: &Trace,
     gate: &G,
 ) -> Result<Answer, NoMemory>
-    ensures { IfOk result (IsPlayAnswer trace.now) }
+    ensures { IfOk result (IsPlayAnswer summary trace.now) }
 {
     match play(rt, alloc, trace, gate) {
-        Ok(run) => ended_answer(alloc, trace, &run),
-        Err(RunError::Stalled(run)) => stalled_answer(alloc, trace, &run),
+        Ok(run) => ended_answer(alloc, summary, trace, &run),
+        Err(RunError::Stalled(run)) => stalled_answer(alloc, summary, trace, &run),
         Err(RunError::NoMemory) => Err(NoMemory),
     }
 }
@@ -40,36 +41,38 @@ fn play_answer<R: Threads + Wait + Sync, G: Gate + Sync>(
 fn tell_play<R: Threads + Wait + Sync, K: Sink, G: Gate + Sync>(
     rt: &R,
     alloc: Global,
+    summary: bool,
     sink: &mut K,
     trace: &Trace,
     gate: &G,
 ) -> Status
-    ensures wrote { WrotePlay trace.now (K.taken sink.old) (K.taken sink.new) (HasRisen (K.faults sink.old) (K.faults sink.new)) result }
+    ensures wrote { WrotePlay summary trace.now (K.taken sink.old) (K.taken sink.new) (HasRisen (K.faults sink.old) (K.faults sink.new)) result }
 {
-    match play_answer(rt, alloc, trace, gate) {
+    match play_answer(rt, alloc, summary, trace, gate) {
         Ok(answer) => finish(sink, answer.status, answer.text.as_slice()),
         Err(_) => Status::NoMemory,
     }
 }
 
-/// Reads a trace from the source, plays it by as many threads at once as it has, and writes the recording of one legal history of its calls to the sink, and where that stalls, the lines at which threads wait. Which of the legal histories it is, differs from run to run.
+/// Reads a trace from the source, plays it by as many threads at once as it has, and writes the recording of one legal history of its calls to the sink, or its summary, and where that stalls, the lines at which threads wait. Which of the legal histories it is, differs from run to run.
 ///
 /// All output is made before the first write. A write that fails gives `WriteFault` in place of every other status. Memory is wanted only to read an input within the limit and to play it. It may never return, as `play` may not.
 pub fn play_words<R: Threads + Wait + Sync, S: Source, K: Sink, G: Gate + Sync>(
     rt: &R,
     alloc: Global,
+    summary: bool,
     source: &mut S,
     sink: &mut K,
     gate: &G,
 ) -> Status
-    ensures says { Says (Some Command.Play) (S.left source.old) (S.left source.new) (HasRisen (S.faults source.old) (S.faults source.new)) (K.taken sink.old) (K.taken sink.new) (HasRisen (K.faults sink.old) (K.faults sink.new)) result }
-    ensures memory { result ≡ Status.NoMemory → WantsMemory (Some Command.Play) (S.left source.old) (S.left source.new) (S.faults source.old) (S.faults source.new) }
-    ensures headline { result ≡ Status.Ok → IsHeadline (Some Command.Play) (S.left source.old) (S.left source.new) (K.taken sink.old) (K.taken sink.new) }
-    ensures stalled { result ≡ Status.Stalled → IsStalledHeadline (Some Command.Play) (S.left source.old) (S.left source.new) (K.taken sink.old) (K.taken sink.new) }
-    ensures whole { IsWhole (Some Command.Play) (S.left source.old) (HasRisen (S.faults source.old) (S.faults source.new)) (HasRisen (K.faults sink.old) (K.faults sink.new)) result }
+    ensures says { Says (Some (Command.Play summary)) (S.left source.old) (S.left source.new) (HasRisen (S.faults source.old) (S.faults source.new)) (K.taken sink.old) (K.taken sink.new) (HasRisen (K.faults sink.old) (K.faults sink.new)) result }
+    ensures memory { result ≡ Status.NoMemory → WantsMemory (Some (Command.Play summary)) (S.left source.old) (S.left source.new) (S.faults source.old) (S.faults source.new) }
+    ensures headline { result ≡ Status.Ok → IsHeadline (Some (Command.Play summary)) (S.left source.old) (S.left source.new) (K.taken sink.old) (K.taken sink.new) }
+    ensures stalled { result ≡ Status.Stalled → IsStalledHeadline (Some (Command.Play summary)) (S.left source.old) (S.left source.new) (K.taken sink.old) (K.taken sink.new) }
+    ensures whole { IsWhole (Some (Command.Play summary)) (S.left source.old) (HasRisen (S.faults source.old) (S.faults source.new)) (HasRisen (K.faults sink.old) (K.faults sink.new)) result }
 {
     match read_trace(alloc, source) {
-        Ok(trace) => tell_play(rt, alloc, sink, &trace, gate),
+        Ok(trace) => tell_play(rt, alloc, summary, sink, &trace, gate),
         Err(error) => refuse(sink, &error),
     }
 }
@@ -91,7 +94,8 @@ pub fn top<R: Threads + Wait + Sync, S: Source, K: Sink, G: Gate + Sync>(
     ensures whole { IsWhole (command_of words.now) (S.left source.old) (HasRisen (S.faults source.old) (S.faults source.new)) (HasRisen (K.faults sink.old) (K.faults sink.new)) result }
 {
     match command_of(words) {
-        Some(Command::Play) => play_words(rt, alloc, source, sink, gate),
-        Some(Command::Serial | Command::Configs) | None => plain(alloc, words, source, sink),
+        Some(Command::Play { summary }) => play_words(rt, alloc, summary, source, sink, gate),
+        Some(Command::Serial | Command::Check | Command::Configs | Command::Generate { .. })
+        | None => plain(alloc, words, source, sink),
     }
 }

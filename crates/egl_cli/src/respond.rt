@@ -1,8 +1,9 @@
 //! The top call without threads: words and a source in, a status and a sink's bytes out.
-ghost use Rattle.std.specs.Prelude.{◌≡◌, Some};
+ghost use Rattle.std.specs.Prelude.{◌≡◌, ◌<◌, ◌≤◌, Some};
 ghost use Rattle.egl_flow.specs.Flow.{HasRisen};
+ghost use Rattle.trace_gen.specs.Generated.{generated};
 ghost use Rattle.trace_reader.specs.Order.{IsTrace};
-ghost use Rattle.egl_cli.specs.Answers.{run_answer};
+ghost use Rattle.egl_cli.specs.Answers.{run_answer, claim_answer};
 ghost use Rattle.egl_cli.specs.Says.{Says, WroteIfMade, WantsMemory, IsUnread, IsHeadline, IsStalledHeadline, IsWhole};
 ghost use Rattle.egl_cli.specs.Commands.{plain_command_of};
 ghost use Rattle.egl_cli.specs.ConfigLines.{configs_text};
@@ -10,12 +11,14 @@ ghost use Rattle.egl_cli.specs.ConfigLines.{configs_text};
 use crate::answers::run_answer;
 use crate::commands::{Command, command_of};
 use crate::config_lines::configs_text;
-use crate::inputs::read_trace;
+use crate::inputs::{Claim, read_claim, read_trace};
 use crate::statuses::Status;
 use crate::telling::{finish, refuse};
+use crate::verdict_lines::claim_answer;
 use egl_calls::Text;
 use egl_flow::{Sink, Source};
 use std::alloc::Global;
+use trace_gen::generate;
 use trace_reader::Trace;
 
 const USAGE: &[u8] =
@@ -26,6 +29,25 @@ fn tell_configs<K: Sink>(alloc: Global, sink: &mut K) -> Status
     ensures wrote { WroteIfMade (K.taken sink.old) configs_text (K.taken sink.new) (HasRisen (K.faults sink.old) (K.faults sink.new)) Status.Ok result }
 {
     match configs_text(alloc) {
+        Ok(text) => finish(sink, Status::Ok, text.as_slice()),
+        Err(_) => Status::NoMemory,
+    }
+}
+
+/// Writes the trace that a number of lines, a number of threads and a seed generate.
+fn tell_generated<K: Sink>(
+    alloc: Global,
+    sink: &mut K,
+    lines: u64,
+    threads: u32,
+    seed: u64,
+) -> Status
+    requires lines { lines ≤ 90000 }
+    requires some { 0 < threads }
+    requires few { threads ≤ 16 }
+    ensures wrote { WroteIfMade (K.taken sink.old) (generated lines threads seed) (K.taken sink.new) (HasRisen (K.faults sink.old) (K.faults sink.new)) Status.Ok result }
+{
+    match generate(alloc, lines, threads, seed) {
         Ok(text) => finish(sink, Status::Ok, text.as_slice()),
         Err(_) => Status::NoMemory,
     }
@@ -57,9 +79,33 @@ fn respond<S: Source, K: Sink>(alloc: Global, source: &mut S, sink: &mut K) -> S
     }
 }
 
-/// Does the command that the words name: `serial` reads a trace from the source and writes the recording of its run by turns to the sink, and where that stalls, the lines at which threads wait; `configs` reads nothing and writes the eight configs, a line for each. `play` is no command here, since it starts threads: `top` knows it.
+/// Holds a recording against its trace, and writes what is said to it.
+fn tell_claim<K: Sink>(alloc: Global, sink: &mut K, claim: &Claim) -> Status
+    ensures trace { IsTrace claim.now.trace }
+    ensures wrote { WroteIfMade (K.taken sink.old) (claim_answer claim.now).text (K.taken sink.new) (HasRisen (K.faults sink.old) (K.faults sink.new)) (claim_answer claim.now).status result }
+{
+    claim.trace.lines();
+    match claim_answer(alloc, claim) {
+        Ok(answer) => finish(sink, answer.status, answer.text.as_slice()),
+        Err(_) => Status::NoMemory,
+    }
+}
+
+/// Reads a source, and answers the recording that stands there behind its trace.
+fn respond_claim<S: Source, K: Sink>(alloc: Global, source: &mut S, sink: &mut K) -> Status
+    ensures says { Says (Some Command.Check) (S.left source.old) (S.left source.new) (HasRisen (S.faults source.old) (S.faults source.new)) (K.taken sink.old) (K.taken sink.new) (HasRisen (K.faults sink.old) (K.faults sink.new)) result }
+    ensures memory { result ≡ Status.NoMemory → WantsMemory (Some Command.Check) (S.left source.old) (S.left source.new) (S.faults source.old) (S.faults source.new) }
+    ensures headline { result ≡ Status.Ok → IsHeadline (Some Command.Check) (S.left source.old) (S.left source.new) (K.taken sink.old) (K.taken sink.new) }
+{
+    match read_claim(alloc, source) {
+        Ok(claim) => tell_claim(alloc, sink, &claim),
+        Err(error) => refuse(sink, &error),
+    }
+}
+
+/// Does the command that the words name: `serial` reads a trace from the source and writes the recording of its run by turns to the sink, and where that stalls, the lines at which threads wait; `check` reads a trace and a recording behind it, and writes whether that is the recording of one of the trace's runs to its end, or where it first differs; `configs` reads nothing and writes the eight configs, a line for each, and `gen` the trace that its numbers generate. `play` is no command here, since it starts threads: `top` knows it.
 ///
-/// All output is made before the first write. A write that fails gives `WriteFault` in place of every other status. Memory is wanted only to read an input within the limit and to play it, and for the configs.
+/// All output is made before the first write. A write that fails gives `WriteFault` in place of every other status. Memory is wanted only to read an input within the limit and to play it, and for the texts of commands that read nothing.
 pub fn plain<S: Source, K: Sink>(
     alloc: Global,
     words: &[Text],
@@ -75,7 +121,15 @@ pub fn plain<S: Source, K: Sink>(
 {
     match command_of(words) {
         Some(Command::Serial) => respond(alloc, source, sink),
+        Some(Command::Check) => respond_claim(alloc, source, sink),
         Some(Command::Configs) => tell_configs(alloc, sink),
-        Some(Command::Play) | None => finish(sink, Status::Usage, USAGE),
+        Some(
+            Command::Generate {
+                lines,
+                threads,
+                seed,
+            },
+        ) => tell_generated(alloc, sink, lines, threads, seed),
+        Some(Command::Play { .. }) | None => finish(sink, Status::Usage, USAGE),
     }
 }

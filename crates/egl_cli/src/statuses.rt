@@ -11,7 +11,7 @@ pub enum Status {
     Usage,
     /// The input could not be read.
     ReadFault,
-    /// The input is no trace.
+    /// The input is no trace, or no recording behind one.
     Malformed,
     /// The output could not be written.
     WriteFault,

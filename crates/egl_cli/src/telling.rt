@@ -17,7 +17,7 @@ pub fn finish<K: Sink>(sink: &mut K, status: Status, text: &[u8]) -> Status
     }
 }
 
-/// Writes why there is no trace to play. It takes no memory.
+/// Writes why there is nothing to answer. It takes no memory.
 #[tactic(auto, unfolding(crate::specs::Answers::read_fault_text, crate::specs::Answers::too_long_text))]
 pub fn refuse<K: Sink>(sink: &mut K, error: &InputError) -> Status
     ensures wrote { WroteRefusal error.now (K.taken sink.old) (K.taken sink.new) (HasRisen (K.faults sink.old) (K.faults sink.new)) result }

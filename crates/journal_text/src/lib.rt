@@ -1,9 +1,19 @@
-//! The text of a journal: the recording of a run.
+//! The text of a journal: the recording of a run, written and read.
 #![tactic(auto)]
 
+mod cuts;
 mod entries;
 mod fronts;
+pub mod laws;
+mod recorded_words;
+mod recordings;
+mod stages;
+mod summaries;
 pub mod texts;
 mod writing;
 
-pub use writing::write;
+pub use cuts::{Cut, cut_recording, line_behind};
+pub use entries::entry_line;
+pub use recordings::{RecordedLine, Recording, read, read_slice};
+pub use summaries::summary;
+pub use writing::{rest, write};

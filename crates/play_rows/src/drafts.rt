@@ -13,9 +13,13 @@ const MALFORMED: u8 = 4;
 
 const STALLED: u8 = 6;
 
-/// A trace and its recording, as far as they are read.
+/// The most bytes of a line whose last is repeated.
+const MOST_BYTES: u64 = 33_554_432;
+
+/// An input and what is answered to it, as far as they are read.
 #[derive(Drop)]
 pub struct Draft {
+    command: Option<String>,
     trace: Vec<u8>,
     /// How many line feeds the trace has.
     line_feeds: u64,
@@ -56,6 +60,7 @@ fn push_line(trace: &mut Vec<u8>, line: &str) -> Result<bool> {
 impl Draft {
     pub fn new(alloc: Global) -> Result<Draft> {
         Ok(Draft {
+            command: None,
             trace: Vec::new(alloc),
             line_feeds: 0,
             recording: String::from_str(alloc, "recording\n")?,
@@ -97,16 +102,65 @@ impl Draft {
         Ok(())
     }
 
+    /// Adds a line with its last byte so many times.
+    fn add_long(&mut self, text: &str) -> Result<()> {
+        let (count, call) = text
+            .split_once(' ')
+            .context("`long` wants a count and a line")?;
+        let count = count.parse::<u64>().context("`long` wants a count")?;
+        ensure!(
+            count <= MOST_BYTES,
+            "a long line has more bytes than an input may have"
+        );
+        let last = *call
+            .as_bytes()
+            .last()
+            .context("`long` wants a count and a line")?;
+        push_unescaped(&mut self.trace, call)?;
+        for _ in 1..count {
+            self.trace.push(last)?;
+        }
+        self.trace.push(b'\n')?;
+        self.line_feeds = self.line_feeds.saturating_add(1);
+        Ok(())
+    }
+
     /// Adds a line of the trace, with its answer where it has one.
     pub fn add_line(&mut self, alloc: Global, line: &str) -> Result<()> {
         if let Some(text) = line.strip_prefix("repeat ") {
             return self.add_repeated(text);
+        }
+        if let Some(text) = line.strip_prefix("long ") {
+            return self.add_long(text);
         }
         let (call, answer) = parted(line);
         if let Some(answer) = answer {
             self.add_answer(alloc, call, answer)?;
         }
         self.add_call(call)
+    }
+
+    /// The example has a command of its own.
+    pub fn set_command(&mut self, alloc: Global, words: &str) -> Result<()> {
+        self.command = Some(String::from_str(alloc, words)?);
+        Ok(())
+    }
+
+    /// The input ends here, and what is written with this status follows.
+    pub fn begin_answer(&mut self, status: &str) -> Result<()> {
+        self.status = status
+            .parse::<u8>()
+            .context("`answer` wants the number of a status")?;
+        self.recording.clear();
+        self.is_open = false;
+        Ok(())
+    }
+
+    /// Adds a line of what is written.
+    pub fn add_output(&mut self, line: &str) -> Result<()> {
+        self.recording.push_str(line)?;
+        self.recording.push_str("\n")?;
+        Ok(())
     }
 
     /// The recording is written out from here on.
@@ -127,9 +181,7 @@ impl Draft {
             self.status = STALLED;
             self.end_recording()?;
         }
-        self.recording.push_str(line)?;
-        self.recording.push_str("\n")?;
-        Ok(())
+        self.add_output(line)
     }
 
     /// Adds the recording's last line, unless it stands there.
@@ -143,7 +195,7 @@ impl Draft {
         Ok(())
     }
 
-    /// The example of this trace and its recording.
+    /// The example of this input and its answer.
     pub fn into_example(mut self, alloc: Global, heading: &str, line: u64) -> Result<Example>
         ensures line { IfOk result (λ e. e.line ≡ line) }
         ensures status { IfOk result (λ e. e.status ≡ self.status) }
@@ -152,7 +204,8 @@ impl Draft {
         Ok(Example {
             heading: String::from_str(alloc, heading)?,
             line,
-            trace: self.trace,
+            command: self.command,
+            input: self.trace,
             status: self.status,
             output: self.recording,
         })
@@ -176,7 +229,8 @@ impl Draft {
         Ok(Example {
             heading: String::from_str(alloc, heading)?,
             line,
-            trace,
+            command: None,
+            input: trace,
             status: MALFORMED,
             output: format!(in alloc; "{text}\n")?,
         })

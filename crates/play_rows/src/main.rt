@@ -90,8 +90,11 @@ fn print_file<R: Print + AllocGlobal>(rt: &R, name: &str, text: &str) -> Result<
     for example in &some_examples(rt.alloc(), name, text)? {
         let (heading, line, status) = (example.heading.as_str(), example.line, example.status);
         println!(rt; "read {name}:{line}: {heading}, status {status}")?;
-        let trace = str::from_utf8(example.trace.as_slice())?;
-        println!(rt; "  trace {trace:?}")?;
+        if let Some(command) = &example.command {
+            println!(rt; "  command {command:?}")?;
+        }
+        let input = str::from_utf8(example.input.as_slice())?;
+        println!(rt; "  input {input:?}")?;
         let output = example.output.as_str();
         println!(rt; "  output {output:?}")?;
     }

@@ -31,22 +31,24 @@ impl Player {
     }
 }
 
-/// A word as the program is given it.
-pub fn words_of(alloc: Global, word: &str) -> Result<Vec<Text>> {
+/// The words of a command as the program is given them.
+pub fn words_of(alloc: Global, command: &str) -> Result<Vec<Text>> {
     let mut words = Vec::new(alloc);
-    words.push(Text::from_vec(Vec::from_slice(alloc, word.as_bytes())?))?;
+    for word in command.split(' ') {
+        words.push(Text::from_vec(Vec::from_slice(alloc, word.as_bytes())?))?;
+    }
     Ok(words)
 }
 
-/// The exit status of a command on a trace, and what it wrote.
+/// The exit status of a command on an input, and what it wrote.
 fn answer<R: AllocGlobal + Threads + Wait + Sync>(
     rt: &R,
-    player: Player,
-    trace: &[u8],
+    command: &str,
+    input: &[u8],
 ) -> Result<(u8, MemorySink)> {
     let alloc = rt.alloc();
-    let words = words_of(alloc, player.word())?;
-    let bytes = Bytes::from_vec(Vec::from_slice(alloc, trace)?);
+    let words = words_of(alloc, command)?;
+    let bytes = Bytes::from_vec(Vec::from_slice(alloc, input)?);
     let mut source = MemorySource::new(bytes, Numbers::new(alloc));
     let mut sink = MemorySink::new(alloc, ROOM, Numbers::new(alloc)).map_err(|_| anyhow!(
         "no memory for a sink"
@@ -80,19 +82,23 @@ fn first_difference<'a>(wanted: &'a str, found: &'a str) -> (&'a str, &'a str) {
     ("", found.next().unwrap_or(""))
 }
 
-/// Plays an example of a file by a command, and prints how the answer differs from the one that is wanted.
+/// Plays an example of a file by its own command, or else by the one that is named, and prints how the answer differs from the one that is wanted.
 pub fn is_as_wanted<R: Print + AllocGlobal + Threads + Wait + Sync>(
     rt: &R,
     player: Player,
     file: &str,
     example: &Example,
 ) -> Result<bool> {
-    let (status, sink) = answer(rt, player, example.trace.as_slice())?;
+    let word = match &example.command {
+        Some(command) => command.as_str(),
+        None => player.word(),
+    };
+    let (status, sink) = answer(rt, word, example.input.as_slice())?;
     let found = str::from_utf8(sink.taken())?;
     if status == example.status && found == example.output.as_str() {
         return Ok(true);
     }
-    let (word, line, heading) = (player.word(), example.line, example.heading.as_str());
+    let (line, heading) = (example.line, example.heading.as_str());
     println!(rt; "{word} {file}:{line}: {heading}")?;
     let wanted_status = example.status;
     let (wanted_line, found_line) = first_difference(example.output.as_str(), found);

@@ -14,6 +14,10 @@ enum Place {
     Opening,
     /// In a trace whose outcome is still to come.
     Trace,
+    /// In the input of a command.
+    Input,
+    /// In what the command answers.
+    Answer,
     /// Among the last lines of malformed traces.
     Defects,
     /// Among the lines of a recording behind its entries.
@@ -67,9 +71,50 @@ impl Reader {
             self.place = Place::Opening;
         } else {
             ensure!(!self.heading.is_empty(), "an example has no heading");
-            self.place = Place::Trace;
-            self.read_trace(line)?;
+            self.begin(line)?;
         }
+        Ok(())
+    }
+
+    /// Reads the first line of an example: its command, or the first of a trace.
+    fn begin(&mut self, line: &str) -> Result<()> {
+        if let Some(words) = line.strip_prefix("command ") {
+            self.place = Place::Input;
+            self.draft.set_command(self.alloc, words)
+        } else {
+            self.place = Place::Trace;
+            self.read_trace(line)
+        }
+    }
+
+    /// Reads a line of a command's input, or the one behind it.
+    fn read_input(&mut self, line: &str) -> Result<()> {
+        if let Some(name) = line.strip_prefix("use ") {
+            self.open(name)
+        } else if let Some(status) = line.strip_prefix("answer ") {
+            self.place = Place::Answer;
+            self.draft.begin_answer(status)
+        } else {
+            self.draft.add_line(self.alloc, line)
+        }
+    }
+
+    /// Reads a line of what a command answers.
+    fn read_answer(&mut self, line: &str) -> Result<()> {
+        if line.is_empty() {
+            self.end_example()
+        } else {
+            self.draft.add_output(line)
+        }
+    }
+
+    /// Keeps the example that was read.
+    fn end_example(&mut self) -> Result<()> {
+        let draft = mem::replace(&mut self.draft, Draft::new(self.alloc)?);
+        let example = draft.into_example(self.alloc, self.heading.as_str(), self.line)?;
+        self.examples.push(example)?;
+        self.place = Place::Between;
+        self.heading.clear();
         Ok(())
     }
 
@@ -141,15 +186,11 @@ impl Reader {
 
     /// Reads a line behind the first one of an outcome.
     fn read_outcome(&mut self, line: &str) -> Result<()> {
-        if !line.is_empty() {
-            return self.draft.add_outcome(line);
+        if line.is_empty() {
+            self.end_example()
+        } else {
+            self.draft.add_outcome(line)
         }
-        let draft = mem::replace(&mut self.draft, Draft::new(self.alloc)?);
-        let example = draft.into_example(self.alloc, self.heading.as_str(), self.line)?;
-        self.examples.push(example)?;
-        self.place = Place::Between;
-        self.heading.clear();
-        Ok(())
     }
 
     fn read(&mut self, line: &str) -> Result<()> {
@@ -163,6 +204,8 @@ impl Reader {
             Place::Between => self.read_between(line),
             Place::Opening => self.read_opening(line),
             Place::Trace => self.read_trace(line),
+            Place::Input => self.read_input(line),
+            Place::Answer => self.read_answer(line),
             Place::Defects => self.read_defect(line),
             Place::Outcome => self.read_outcome(line),
         }

@@ -1,5 +1,8 @@
 use Rattle.std.proofs.Common.{Some}
 use Rattle.egl_cli.specs.declared.commands.Command.TheVariants.{Serial}
+use Rattle.trace_reader.specs.Grammar.{trace}
+use Rattle.egl_cli.specs.Answers.{run_answer}
+use Rattle.egl_cli.proofs.AnswerLaws.{serial_is}
 use Rattle.egl_cli.proofs.SaysLaws.{says_refused}
 use Rattle.egl_cli.proofs.SerialLaws.{says_serial, headline_serial, stalled_serial}
 use Rattle.egl_cli.proofs.respond.respond.Goals as goal
@@ -21,4 +24,4 @@ returns-in-Ok-clause-stalled g c e =
 
 pub returns-in-Err-clause-says : goal.returns-in-Err-clause-says
 returns-in-Err-clause-says g c =
-    says_refused _ _ _ _ _ _ _ (Some Serial) tt c.in-Err.error c.refuse.result c.in-Err.ensures.cause c.refuse.ensures.wrote
+    says_refused _ _ _ _ _ _ _ trace run_answer (Some Serial) tt serial_is c.in-Err.error c.refuse.result c.in-Err.ensures.cause c.refuse.ensures.wrote
