@@ -10,7 +10,7 @@ returns-in-Ok c =
     let t = c.args.trace.now in
     let run = c.in-Ok.run' in
     let complete = c.in-Ok.ensures.complete in
-    let P : Answer → Type 0 = λ a. a ≡ journal_answer t run.journal.entries false in
+    let P : Answer → Type 0 = λ a. a ≡ journal_answer false t run.journal.entries false in
     let Q : Answer → Type 0 = λ a. a ≡ run_answer t in
     IfOk-weaker c.ended_answer.result P Q (λ a p. p ∙ run_ended t run.journal.entries run.driver.state complete.0 complete.1) c.ended_answer.ensures
 
@@ -19,6 +19,6 @@ returns-in-Err-Stalled c =
     let t = c.args.trace.now in
     let run = c.in-Err-Stalled.run' in
     let stalled = rw c.in-Err-Stalled.field-0-is at c.in-Err-Stalled.ensures.stalled in
-    let P : Answer → Type 0 = λ a. a ≡ journal_answer t run.journal.entries true in
+    let P : Answer → Type 0 = λ a. a ≡ journal_answer false t run.journal.entries true in
     let Q : Answer → Type 0 = λ a. a ≡ run_answer t in
     IfOk-weaker c.stalled_answer.result P Q (λ a p. p ∙ run_stalled t run.journal.entries run.driver.state stalled.0 stalled.1) c.stalled_answer.ensures
