@@ -87,11 +87,11 @@ storage_send = search (sendable, crosses) depth 60 fits 20000
 pub fence_send : IsSend fence.the_row
 fence_send = search (sendable, crosses) depth 60 fits 20000
 
-pub object_send : IsSend object.the_row
+pub object_send : IsSend (object.the_field).row
 object_send = let a = context_send in let b = surface_send in let d = storage_send in let e = fence_send in let g = group_send in let h = texture_send in search (sendable, crosses) depth 60 fits 20000
 
 pub stored_send : IsSend stored.the_row
-stored_send = let a = object_send in search (sendable, crosses) depth 60 fits 20000
+stored_send = recorded_send _ stored.the_type.D stored.the_type.to stored.the_type.to_one (struct_send (declared.shape stored.the_type) (object_send, tt))
 
 pub objects_send : IsSend objects.the_row
 objects_send = let a = stored_send in search (sendable, crosses) depth 60 fits 20000

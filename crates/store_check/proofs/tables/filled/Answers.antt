@@ -14,7 +14,7 @@ pub make_two-requires-clause-refers : goal.make_two-requires-clause-refers
 make_two-requires-clause-refers c = rw (c.new_context-2.ensures, c.reserve-2.ensures.objects ∙ (c.make_three.ensures.objects ∙ ap (λ (os : List (Option Object)). os ++ Some c.new_context.result ∷ Some c.new_group.result ∷ Some c.new_texture.result ∷ []) (c.reserve.ensures.objects ∙ ap (λ t. t.objects) c.new-table.ensures))) shared_refers
 
 pub make_two-requires-clause-leads : goal.make_two-requires-clause-leads
-make_two-requires-clause-leads c = rw (c.new_context-2.ensures, c.new_group.ensures.value, c.reserve-2.ensures.objects ∙ (c.make_three.ensures.objects ∙ ap (λ (os : List (Option Object)). os ++ Some c.new_context.result ∷ Some c.new_group.result ∷ Some c.new_texture.result ∷ []) (c.reserve.ensures.objects ∙ ap (λ t. t.objects) c.new-table.ensures))) (λ n ne h. rw (shared_leads n ne h) (search rules))
+make_two-requires-clause-leads c = rw (c.new_context-2.ensures, c.reserve-2.ensures.objects ∙ (c.make_three.ensures.objects ∙ ap (λ (os : List (Option Object)). os ++ Some c.new_context.result ∷ Some c.new_group.result ∷ Some c.new_texture.result ∷ []) (c.reserve.ensures.objects ∙ ap (λ t. t.objects) c.new-table.ensures))) (λ n ne h. rw (shared_leads n ne h, c.new_group.ensures.value) (search rules))
 
 pub returns : goal.returns
 returns c =
