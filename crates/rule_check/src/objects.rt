@@ -125,6 +125,7 @@ fn group(rt: &impl Abort, alloc: Global) -> Object {
     group
         .generate(NameKind::Texture, 1)
         .expect(rt, "memory is ample");
+    assert!(rt; group.object(NameKind::Texture, 3).is_none());
     group
         .bind_name(NameKind::Texture, 3, 8)
         .expect(rt, "memory is ample");
