@@ -5,8 +5,13 @@ use Rattle.trace_reader.specs.Grammar.{trace}
 use Rattle.egl_cli.specs.Answers.{run_answer}
 use Rattle.egl_cli.proofs.AnswerLaws.{play_is}
 use Rattle.egl_cli.proofs.SaysLaws.{says_refused}
-use Rattle.egl_cli.proofs.PlayLaws.{whole_play}
+use Rattle.egl_cli.proofs.PlayLaws.{says_play, whole_play}
 use Rattle.egl_cli.proofs.playing.play_words.Goals as goal
+
+pub returns-in-Ok-clause-says : goal.returns-in-Ok-clause-says
+returns-in-Ok-clause-says g c =
+    let read = c.in-Ok.ensures.trace in
+    says_play _ _ _ _ _ _ c.args.summary c.in-Ok.trace c.tell_play.result read.1.0 read.1.1 read.1.2 c.tell_play.ensures.wrote
 
 pub returns-in-Err-clause-says : goal.returns-in-Err-clause-says
 returns-in-Err-clause-says g c =
