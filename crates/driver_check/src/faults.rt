@@ -20,14 +20,18 @@ const USAGE: &[u8] =
 const PLAYERS: [&str; 2] = ["serial", "play"];
 
 /// Words that are no command.
-static OTHER_WORDS: [&[&str]; 9] = [
+static OTHER_WORDS: [&[&str]; 13] = [
     &[],
     &["frob"],
     &["--help"],
     &["serial", "serial"],
     &["play", "play"],
     &["play", "x"],
-    &["play", "summary"],
+    &["play", "summary", "summary"],
+    &["check", "check"],
+    &["gen", "1", "1"],
+    &["gen", "90001", "1", "0"],
+    &["gen", "1", "17", "0"],
     &["configs", "1"],
     &["Serial"],
 ];
