@@ -17,6 +17,7 @@ use crate::masks::Mask;
 use crate::rects::Rect;
 use crate::rows::{
     Rows, copy_rows, fill_rows, gather_row, load_rows, own, owns, pixel_in_rows, put_row,
+    reload_rows,
 };
 use crate::{rows, transfers};
 use egl_calls::{Bytes, NoMemory};
@@ -29,7 +30,8 @@ use thiserror::Error;
 /// A format and rows of pixels, row 0 the lowest. Sides are at most 2,048 pixels.
 ///
 /// A pixel is kept in the bytes of the format, one to four of them. The bytes are the image's own, or
-/// they are frozen: then other images may share them, and the first write gives the image its own.
+/// they are frozen: then other images may share them, and the first write gives the image its own, but
+/// for `reload_rows`.
 #[derive(Drop)]
 pub struct Image {
     pub(crate) format: Format,
@@ -290,6 +292,36 @@ impl Image {
             from,
         );
         Ok(())
+    }
+
+    /// Writes a rectangle of pixels from bytes as `load_rows`, but a frozen image stays frozen: it is
+    /// written in place where no other image shares its bytes, and else in a copy. Want of memory leaves
+    /// the image as it was, and it comes only where the bytes aren't the image's own.
+    pub fn reload_rows(
+        &mut self,
+        rect: Rect,
+        bytes: &Bytes,
+        from: Format,
+        align: u32,
+    ) -> Result<(), NoMemory>
+        requires rect { IsInside rect self.old.width self.old.height }
+        requires alignment { IsAlignment align }
+        ensures ok { OnOk result (self.new ≡ record (loaded self.old rect bytes.now from align) { owned = self.old.owned }) }
+        ensures shape { IsSameShape self.old self.new }
+        ensures whole { IsImage self.new }
+        ensures err { OnErr result (self.new ≡ self.old) }
+        ensures room { self.old.owned ≡ true → IsOk result }
+    {
+        let target = block_of(rect, self.width, self.height);
+        reload_rows(
+            &mut self.rows,
+            self.width as usize,
+            target,
+            bytes.as_slice(),
+            align,
+            self.format,
+            from,
+        )
     }
 
     /// Writes each pixel of an image of the same sides, at 8 bits a component in `Rgba8888`. Want of memory leaves the image as it was, and it

@@ -5,7 +5,7 @@ ghost use Rattle.std.specs.Arc.{arc_value};
 ghost use Rattle.pixel_formats.specs.Formats as formats;
 ghost use Rattle.pixel_formats.specs.Pixels.{quantize};
 ghost use Rattle.pixel_rows.specs.Blocks.{in_block, in_range, Rewritten};
-ghost use Rattle.pixel_rows.specs.Cells.{HasForm, SameCells, seen};
+ghost use Rattle.pixel_rows.specs.Cells.{HasForm, SameCells, cells_in, seen};
 ghost use Rattle.pixel_rows.specs.Images.{no_pixel};
 ghost use Rattle.pixel_rows.specs.Masks as masks;
 ghost use Rattle.pixel_rows.specs.Payloads.{payload_pixel};
@@ -27,7 +27,8 @@ use pixel_formats::{Format, Pixel, bytes_of};
 use std::mem;
 use std::sync::Arc;
 
-/// Packed pixels: one image's own, or those of each image that shares them. Those are never written.
+/// Packed pixels: one image's own, or those of each image that shares them. Those are written only
+/// while one image alone has them.
 #[derive(Drop)]
 pub(crate) enum Rows {
     Owned(Cells),
@@ -171,6 +172,72 @@ pub(crate) fn load_rows(
     match rows {
         Rows::Owned(cells) => load_block(cells, width, block, bytes, long, f, from),
         Rows::Frozen(_) => unreachable!(),
+    }
+}
+
+/// Writes the pixels of a block of frozen cells from a payload whose rows have `long` bytes: in place
+/// where no other image shares them, and else in a copy, which replaces them once it is frozen. Want of
+/// memory leaves them as they were.
+fn load_frozen(
+    shared: &mut Arc<Cells>,
+    width: usize,
+    block: Block,
+    bytes: &[u8],
+    long: usize,
+    f: Format,
+    from: Format,
+) -> Result<(), NoMemory>
+    requires columns { (block.left ≤ block.right) × (block.right ≤ width) × (width ≤ 2048) }
+    requires rows { (block.bottom ≤ block.top) × (block.top ≤ 2048) × (block.top * width ≤ length (cells_in (arc_value shared.old))) }
+    requires long { long ≤ 8200 }
+    requires form { HasForm f (arc_value shared.old) }
+    ensures pixels { OnOk result (Rewritten no_pixel (in_block width block) (λ k _. quantize f (payload_pixel bytes.now from long (k % width - block.left) (k / width - block.bottom))) (seen f (cells_in (arc_value shared.old))) (seen f (cells_in (arc_value shared.new)))) }
+    ensures form { HasForm f (arc_value shared.new) }
+    ensures err { OnErr result (arc_value shared.new ≡ arc_value shared.old) }
+{
+    if let Some(cells) = Arc::get_mut(shared) {
+        load_block(cells, width, block, bytes, long, f, from);
+        return Ok(());
+    }
+    let mut copy = shared.copy()?;
+    load_block(&mut copy, width, block, bytes, long, f, from);
+    match Arc::new(copy.allocator(), copy) {
+        Ok(frozen) => {
+            *shared = frozen;
+            Ok(())
+        }
+        Err(_) => Err(NoMemory),
+    }
+}
+
+/// Writes the pixels of a block from a payload, as `load_rows`, and leaves frozen rows frozen: they take
+/// memory only where other images share them.
+pub(crate) fn reload_rows(
+    rows: &mut Rows,
+    width: usize,
+    block: Block,
+    bytes: &[u8],
+    align: u32,
+    f: Format,
+    from: Format,
+) -> Result<(), NoMemory>
+    requires columns { (block.left ≤ block.right) × (block.right ≤ width) × (width ≤ 2048) }
+    requires rows { (block.bottom ≤ block.top) × (block.top ≤ 2048) × (block.top * width ≤ length (cells_in_rows rows.old)) }
+    requires alignment { IsAlignment align }
+    requires form { HasForm f (values.cells_of rows.old) }
+    ensures pixels { OnOk result (Rewritten no_pixel (in_block width block) (λ k _. quantize f (payload_pixel bytes.now from (transfers.stride ((block.right - block.left) * formats.bytes_of from) align) (k % width - block.left) (k / width - block.bottom))) (seen f (cells_in_rows rows.old)) (seen f (cells_in_rows rows.new))) }
+    ensures form { HasForm f (values.cells_of rows.new) }
+    ensures owned { is_owned rows.new ≡ is_owned rows.old }
+    ensures err { OnErr result (values.cells_of rows.new ≡ values.cells_of rows.old) }
+    ensures room { is_owned rows.old ≡ true → IsOk result }
+{
+    let long = stride((block.right - block.left) * bytes_of(from) as usize, align);
+    match rows {
+        Rows::Owned(cells) => {
+            load_block(cells, width, block, bytes, long, f, from);
+            Ok(())
+        }
+        Rows::Frozen(shared) => load_frozen(shared, width, block, bytes, long, f, from),
     }
 }
 
