@@ -1,23 +1,27 @@
 -- What no refusal of a call of OpenGL ES says.
-use Rattle.std.proofs.Common.{◌≡◌, ℕ, ℤ, pos, Bool, true, false, not, ◌||◌, ◌&&◌, None, Some, refl, sym, ap, ◌∙◌, ◌⊎◌, inl, inr, bit_or}
-use Rattle.std.specs.Prelude.{int_lt, ◌==◌}
+use Rattle.std.proofs.Common.{◌≡◌, ℕ, ◌+◌, ◌≤◌, ◌<◌, arith, [], ◌∷◌, ℤ, pos, Bool, true, false, not, ◌||◌, ◌&&◌, None, Some, refl, sym, ap, ◌∙◌, ◌⊎◌, inl, inr, bit_or}
+use Rattle.std.specs.Prelude.{int_lt, nat_lt, ◌≤ℤ◌, ◌+ℤ◌, ◌==◌}
+use Rattle.std.proofs.lemmas.Int.{ints}
 use Rattle.std.proofs.lemmas.Bool.{not-false, or_parts, or_from, or_cases, and_parts, and_from}
 use Rattle.std.proofs.lemmas.Bool.Decides.{Decides-eqb}
 use Rattle.egl_calls.specs.Calls.{CallValue}
 use Rattle.egl_calls.specs.declared.kinds.Kind.{Kind}
 use Rattle.egl_calls.specs.declared.kinds.Kind.TheVariants.{Gl}
 use Rattle.egl_calls.specs.declared.kinds.GlKind.{GlKind}
-use Rattle.egl_calls.specs.declared.kinds.GlKind.TheVariants.{Clear, ReadPixels}
+use Rattle.egl_calls.specs.declared.kinds.GlKind.TheVariants.{Clear, ReadPixels, TexImage2d, TexSubImage2d}
 use Rattle.egl_calls.specs.declared.errors.GlError.{GlError}
+use Rattle.egl_calls.specs.declared.errors.GlError.TheVariants.{OutOfMemory}
 use Rattle.egl_calls.specs.Ranges.{unsigned}
 use Rattle.egl_names.specs.declared.codes.TheConstants.{GL_RGB, GL_RGBA, GL_UNSIGNED_BYTE, GL_UNSIGNED_SHORT_5_6_5}
 use Rattle.call_rules.specs.declared.gl_facts.GlFacts.{GlFacts}
-use Rattle.call_rules.specs.Rows.{AllOff, IsFirst, first_error}
-use Rattle.egl_calls.specs.Arguments.{signed}
+use Rattle.call_rules.specs.Rows.{AllOff, IsFirst, ◌⇒◌, first_error}
+use Rattle.egl_calls.specs.Arguments.{number, signed}
+use Rattle.pixel_rows.specs.Rects.{IsInSide}
 use Rattle.call_rules.specs.GlRules.{buffer_bits, is_no_side, is_read_format, is_read_type, is_read_pair, read_format, read_type, gl_rows, gl_refusal_by, gl_refusal}
-use Rattle.call_rules.specs.GlAllowed.{ClearAllowed, IsSide, ReadAllowed}
-use Rattle.call_rules.proofs.RowLaws.{all_off, first_is, first_of, none_on}
-use Rattle.call_rules.proofs.TestLaws.{not_below, is_not_below}
+use Rattle.call_rules.specs.TextureRules.{asked_image_rows, is_no_level_side, is_no_part, memory_row}
+use Rattle.call_rules.specs.GlAllowed.{ClearAllowed, ImageAllowed, ImageAsked, IsSide, PartAllowed, ReadAllowed}
+use Rattle.call_rules.proofs.RowLaws.{all_off, first_is, first_of, from_others, none_on, past_off}
+use Rattle.call_rules.proofs.TestLaws.{not_below, is_not_below, within, past, is_past}
 
 of_kind : (c : CallValue) (f : GlFacts) (k : GlKind) → c.kind ≡ Gl k → gl_refusal c f ≡ first_error (gl_rows k c f)
 unfolding gl_refusal
@@ -94,6 +98,59 @@ read_passes c f h a = refused_not c f ReadPixels h (
     ),
   ),
 )
+
+-- ---- Pixels that are given.
+pub image_allowed : (c : CallValue) (f : GlFacts) → c.kind ≡ Gl TexImage2d → gl_refusal c f ≡ None → ImageAllowed c f
+image_allowed c f h n =
+    let a = rows_off c f TexImage2d h n in
+    let sides = or_parts (is_no_level_side (number c 1) (signed c 3)) (is_no_level_side (number c 1) (signed c 4)) a.1.1.1.1.0 in
+    record {
+      level = a.1.1.1.0;
+      width = sides.0;
+      height = sides.1;
+      form = not-false _ a.1.1.1.1.1.1.1.0;
+      room = within f.video_limit (f.live_bytes + f.new_bytes) a.1.1.1.1.1.1.1.1.0;
+    }
+
+-- where there are no more bytes
+abbrev is_out_of_memory : GlError → Bool
+is_out_of_memory OutOfMemory = true
+is_out_of_memory e = false
+
+last : (b : Bool) (e : GlError) → first_error ((b ⇒ e) ∷ []) ≡ Some e → b ≡ true
+last true e h = refl
+last false e h = absurd (let g : Some e ≡ None = sym h in cc)
+
+pub image_wants : (c : CallValue) (f : GlFacts) → c.kind ≡ Gl TexImage2d → gl_refusal c f ≡ Some OutOfMemory → ImageAsked c × (f.video_limit < f.live_bytes + f.new_bytes)
+image_wants c f h n =
+    let o = from_others is_out_of_memory OutOfMemory (asked_image_rows c) (memory_row f ∷ []) refl (refl, (refl, (refl, (refl, (refl, (refl, (refl, (refl, tt)))))))) (sym (of_kind c f TexImage2d h) ∙ n) in
+    (o.0, past f.video_limit (f.live_bytes + f.new_bytes) (last (nat_lt f.video_limit (f.live_bytes + f.new_bytes)) OutOfMemory o.1))
+
+pub wanting_image : (c : CallValue) (f : GlFacts) → c.kind ≡ Gl TexImage2d → ImageAsked c × (f.video_limit < f.live_bytes + f.new_bytes) → gl_refusal c f ≡ Some OutOfMemory
+wanting_image c f h w =
+    of_kind c f TexImage2d h ∙ past_off (asked_image_rows c) (memory_row f ∷ []) w.0
+    ∙ ap (λ b. first_error ((b ⇒ OutOfMemory) ∷ [])) (is_past f.video_limit (f.live_bytes + f.new_bytes) w.1)
+
+ends_inside : (side : ℕ) (a b : ℤ) → pos 0 ≤ℤ a → pos 0 ≤ℤ b → unsigned a + unsigned b ≤ side → (a +ℤ b) ≤ℤ pos side
+ends_inside side a b h k l = grind (arith, ints)
+
+part_inside : (side : ℕ) (first size : ℤ) → is_no_part side first size ≡ false → IsInSide first size side
+part_inside side first size h =
+    let o = or_parts (int_lt first (pos 0) || int_lt size (pos 0)) (nat_lt side (unsigned first + unsigned size)) h in
+    let p = or_parts (int_lt first (pos 0)) (int_lt size (pos 0)) o.0 in
+    let low = not_below first (pos 0) p.0 in let some = not_below size (pos 0) p.1 in
+    record { first = low; some = some; last = ends_inside side first size low some (within side (unsigned first + unsigned size) o.1) }
+
+pub part_allowed : (c : CallValue) (f : GlFacts) → c.kind ≡ Gl TexSubImage2d → gl_refusal c f ≡ None → PartAllowed c f
+part_allowed c f h n =
+    let a = rows_off c f TexSubImage2d h n in
+    let sides = or_parts (is_no_part f.stored_width (signed c 2) (signed c 4)) (is_no_part f.stored_height (signed c 3) (signed c 5)) a.1.1.1.1.0 in
+    record {
+      level = a.1.1.0;
+      stored = not-false _ a.1.1.1.0;
+      inside = record { columns = part_inside f.stored_width (signed c 2) (signed c 4) sides.0; rows = part_inside f.stored_height (signed c 3) (signed c 5) sides.1 };
+      form = not-false _ a.1.1.1.1.1.1.0;
+    }
 
 -- ---- Any call, by its rows.
 pub refused_first : (c : CallValue) (f : GlFacts) (k : GlKind) (e : GlError) → c.kind ≡ Gl k → gl_refusal c f ≡ Some e → IsFirst e (gl_rows k c f)

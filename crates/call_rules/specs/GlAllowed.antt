@@ -1,12 +1,16 @@
 -- What is known where a call of OpenGL ES isn't refused.
-use Rattle.std.specs.Prelude.{◌≡◌, ℤ, pos, ◌≤ℤ◌, true, ◌⊎◌, bit_or}
+use Rattle.std.specs.Prelude.{◌≡◌, ◌+◌, ◌≤◌, ℤ, pos, ◌≤ℤ◌, true, false, ◌⊎◌, bit_or, IsSome}
 use Rattle.egl_calls.specs.Calls.{CallValue}
 use Rattle.egl_calls.specs.Ranges.{unsigned}
 use Rattle.egl_names.specs.declared.codes.TheConstants.{GL_RGB, GL_RGBA, GL_UNSIGNED_BYTE, GL_UNSIGNED_SHORT_5_6_5}
-use Rattle.egl_calls.specs.declared.places.TheConstants.{HEIGHT, MASK, WIDTH}
+use Rattle.egl_calls.specs.declared.places.TheConstants.{HEIGHT, IMAGE_HEIGHT, IMAGE_WIDTH, LEVEL, MASK, WIDTH}
+use Rattle.pixel_rows.specs.Rects.{IsInside}
+use Rattle.texture_objects.specs.Uploads.{given_form, part_rect}
 use Rattle.call_rules.specs.declared.gl_facts.GlFacts.{GlFacts}
-use Rattle.egl_calls.specs.Arguments.{signed}
+use Rattle.egl_calls.specs.Arguments.{number, signed}
 use Rattle.call_rules.specs.GlRules.{buffer_bits, read_format, read_type}
+use Rattle.call_rules.specs.Rows.{AllOff}
+use Rattle.call_rules.specs.TextureRules.{asked_image_rows, is_no_level, is_no_level_side}
 
 -- glClear (OpenGL ES 1.1, section 4.2.3): the mask adds no bit to those of the buffers
 pub record ClearAllowed (c : CallValue) (f : GlFacts) : Type 0 where
@@ -31,3 +35,22 @@ pub record ReadAllowed (c : CallValue) (f : GlFacts) : Type 0 where
   pub height : IsSide (signed c HEIGHT)
   pub pair : IsReadPair c
   pub complete : f.is_framebuffer_complete ≡ true
+
+-- glTexImage2D (section 3.7.1): nothing is wrong with the call's own numbers
+abbrev pub ImageAsked : CallValue → Type 0
+ImageAsked c = AllOff (asked_image_rows c)
+
+-- a level and sides that it may have, a format and a type that go together, and bytes for the pixels
+pub record ImageAllowed (c : CallValue) (f : GlFacts) : Type 0 where
+  pub level : is_no_level (signed c LEVEL) ≡ false
+  pub width : is_no_level_side (number c LEVEL) (signed c IMAGE_WIDTH) ≡ false
+  pub height : is_no_level_side (number c LEVEL) (signed c IMAGE_HEIGHT) ≡ false
+  pub form : IsSome (given_form c)
+  pub room : f.live_bytes + f.new_bytes ≤ f.video_limit
+
+-- glTexSubImage2D (section 3.7.2): a level, a part of its storage, and a format and a type that go together
+pub record PartAllowed (c : CallValue) (f : GlFacts) : Type 0 where
+  pub level : is_no_level (signed c LEVEL) ≡ false
+  pub stored : f.is_stored ≡ true
+  pub inside : IsInside (part_rect c) f.stored_width f.stored_height
+  pub form : IsSome (given_form c)

@@ -1,20 +1,36 @@
 -- When each call of OpenGL ES is refused, and with which error: the first row that holds.
-use Rattle.std.specs.Prelude.{ℕ, ℤ, pos, Bool, not, ◌&&◌, ◌||◌, ◌==◌, List, [], ◌∷◌, bit_or, int_lt}
+use Rattle.std.specs.Prelude.{ℕ, ℤ, pos, Bool, false, not, ◌&&◌, ◌||◌, ◌==◌, List, [], ◌∷◌, bit_or, int_lt}
 use Rattle.std.specs.declared.option.Option.{Option}
 use Rattle.std.specs.declared.option.Option.TheVariants.{None}
 use Rattle.egl_calls.specs.Calls.{CallValue}
 use Rattle.egl_calls.specs.declared.kinds.Kind.{Kind}
 use Rattle.egl_calls.specs.declared.kinds.Kind.TheVariants.{Gl}
 use Rattle.egl_calls.specs.declared.kinds.GlKind.{GlKind}
-use Rattle.egl_calls.specs.declared.kinds.GlKind.TheVariants.{GetError, Flush, Finish, ClearColorx, Clear, ReadPixels}
+use Rattle.egl_calls.specs.declared.kinds.GlKind.TheVariants.{GetError, Flush, Finish, ClearColorx, Clear, ReadPixels, PixelStorei, GetIntegerv, GenTextures, DeleteTextures, IsTexture, BindTexture, TexParameterx, TexParameteriv, TexImage2d, TexSubImage2d}
 use Rattle.egl_calls.specs.declared.errors.GlError.{GlError}
 use Rattle.egl_calls.specs.declared.errors.GlError.TheVariants.{InvalidEnum, InvalidValue, InvalidOperation, InvalidFramebufferOperation}
 use Rattle.egl_calls.specs.Ranges.{unsigned}
 use Rattle.egl_names.specs.declared.codes.TheConstants.{GL_RGB, GL_RGBA, GL_UNSIGNED_BYTE, GL_UNSIGNED_SHORT_5_6_5, GL_COLOR_BUFFER_BIT, GL_DEPTH_BUFFER_BIT, GL_STENCIL_BUFFER_BIT}
-use Rattle.egl_calls.specs.declared.places.TheConstants.{FORMAT, HEIGHT, MASK, TYPE, WIDTH}
+use Rattle.egl_calls.specs.declared.places.TheConstants.{FORMAT, HEIGHT, INDEX, MASK, PARAM, PNAME, TYPE, WIDTH}
 use Rattle.call_rules.specs.declared.gl_facts.GlFacts.{GlFacts}
 use Rattle.call_rules.specs.Rows.{Row, ◌⇒◌, first_error, unbuilt}
-use Rattle.egl_calls.specs.Arguments.{signed}
+use Rattle.call_rules.specs.TextureRules.{count_row, crop_length_row, crop_row, image_rows, name_row, parameter_row, part_rows, texture_row}
+use Rattle.context_state.specs.Arguments.{is_index, is_parameter, is_store}
+use Rattle.context_state.specs.Parts.{is_alignment}
+use Rattle.egl_calls.specs.Arguments.{number, signed}
+
+-- no fact holds, and each number is 0
+abbrev pub no_gl_facts : GlFacts
+no_gl_facts = record {
+  live_bytes = 0;
+  new_bytes = 0;
+  video_limit = 0;
+  is_framebuffer_complete = false;
+  is_stored = false;
+  stored_width = 0;
+  stored_height = 0;
+  stored_base = 0;
+}
 
 -- the bits of the buffers that glClear clears (OpenGL ES 1.1, section 4.2.3)
 abbrev pub buffer_bits : ℕ
@@ -73,6 +89,40 @@ gl_rows ReadPixels c f =
     (not (is_read_pair (read_format c) (read_type c)) ⇒ InvalidOperation) ∷
     framebuffer_row f ∷
     []
+-- section 3.6.1
+gl_rows PixelStorei c f =
+    (not (is_store (number c PNAME)) ⇒ InvalidEnum) ∷
+    (not (is_alignment (number c PARAM)) ⇒ InvalidValue) ∷
+    []
+-- section 6.2
+gl_rows GetIntegerv c f =
+    (not (is_parameter (number c PNAME)) ⇒ InvalidEnum) ∷
+    (not (is_index (number c PNAME) (signed c INDEX)) ⇒ InvalidValue) ∷
+    []
+-- section 3.7.11
+gl_rows GenTextures c f =
+    count_row c ∷
+    []
+gl_rows DeleteTextures c f = []
+gl_rows IsTexture c f = []
+gl_rows BindTexture c f =
+    texture_row c ∷
+    name_row c ∷
+    []
+-- section 3.7.4
+gl_rows TexParameterx c f =
+    texture_row c ∷
+    parameter_row c ∷
+    []
+-- OES_draw_texture
+gl_rows TexParameteriv c f =
+    texture_row c ∷
+    crop_row c ∷
+    crop_length_row c ∷
+    []
+-- sections 3.7.1 and 3.7.2
+gl_rows TexImage2d c f = image_rows c f
+gl_rows TexSubImage2d c f = part_rows c f
 -- a call that isn't built
 gl_rows k c f = unbuilt InvalidOperation
 

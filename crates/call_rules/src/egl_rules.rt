@@ -23,8 +23,8 @@ fn is_long(side: i64) -> bool
     side > 2_048
 }
 
-/// Whether so many bytes in all are more than the limit.
-fn exceeds(limit: u64, live: u64, new: u64) -> bool
+/// Whether so many in all are more than the limit.
+pub(crate) fn exceeds(limit: u64, live: u64, new: u64) -> bool
     ensures { result ≡ nat_lt limit (live + new) }
 {
     u128::from(live) + u128::from(new) > u128::from(limit)

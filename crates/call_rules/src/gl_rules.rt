@@ -7,7 +7,13 @@ ghost use Rattle.call_rules.specs.GlRules.{gl_refusal, gl_rows, framebuffer_row,
 
 use crate::gl_facts::GlFacts;
 use crate::rows::first_error;
-use egl_calls::places::MASK;
+use crate::texture_rules::{
+    tex_image, tex_parameteriv, tex_sub_image, wrong_count, wrong_name, wrong_parameter,
+    wrong_target,
+};
+use context_state::{is_alignment, is_index, is_parameter, is_store};
+use egl_calls::arguments::{number, signed};
+use egl_calls::places::{INDEX, MASK, PARAM, PNAME};
 use egl_calls::{Call, GlError, GlKind, Kind, unsigned};
 use egl_names::codes::{
     GL_COLOR_BUFFER_BIT, GL_DEPTH_BUFFER_BIT, GL_RGB, GL_RGBA, GL_STENCIL_BUFFER_BIT,
@@ -91,6 +97,27 @@ pub fn gl_refusal(call: &Call, facts: &GlFacts) -> Option<GlError>
             incomplete(facts),
         ]),
         Kind::Gl(GlKind::ReadPixels) => read_pixels(call, facts),
+        Kind::Gl(GlKind::PixelStorei) => first_error(&[
+            (!is_store(number(call, PNAME)), GlError::InvalidEnum),
+            (!is_alignment(number(call, PARAM)), GlError::InvalidValue),
+        ]),
+        Kind::Gl(GlKind::GetIntegerv) => first_error(&[
+            (!is_parameter(number(call, PNAME)), GlError::InvalidEnum),
+            (
+                !is_index(number(call, PNAME), signed(call, INDEX)),
+                GlError::InvalidValue,
+            ),
+        ]),
+        Kind::Gl(GlKind::GenTextures) => first_error(&[wrong_count(call)]),
+        Kind::Gl(GlKind::DeleteTextures) => None,
+        Kind::Gl(GlKind::IsTexture) => None,
+        Kind::Gl(GlKind::BindTexture) => first_error(&[wrong_target(call), wrong_name(call)]),
+        Kind::Gl(GlKind::TexParameterx) => {
+            first_error(&[wrong_target(call), wrong_parameter(call)])
+        }
+        Kind::Gl(GlKind::TexParameteriv) => tex_parameteriv(call, facts),
+        Kind::Gl(GlKind::TexImage2d) => tex_image(call, facts),
+        Kind::Gl(GlKind::TexSubImage2d) => tex_sub_image(call, facts),
         Kind::Gl(_) => unreachable!(),
         Kind::Egl(_) | Kind::Own(_) => None,
     }

@@ -30,6 +30,27 @@ impl Bindings {
             framebuffer: 0,
         }
     }
+
+    /// Sets the name that is bound there, by the code of a binding's name: GL_TEXTURE_BINDING_2D, GL_ARRAY_BUFFER_BINDING, GL_ELEMENT_ARRAY_BUFFER_BINDING, GL_RENDERBUFFER_BINDING_OES or GL_FRAMEBUFFER_BINDING_OES. For another number nothing changes.
+    pub fn set(&mut self, which: u64, name: u32)
+        ensures { self.new ≡ with_name which name self.old }
+    {
+        if which == GL_TEXTURE_BINDING_2D {
+            self.texture = name;
+        }
+        if which == GL_ARRAY_BUFFER_BINDING {
+            self.array_buffer = name;
+        }
+        if which == GL_ELEMENT_ARRAY_BUFFER_BINDING {
+            self.element_array_buffer = name;
+        }
+        if which == GL_RENDERBUFFER_BINDING_OES {
+            self.renderbuffer = name;
+        }
+        if which == GL_FRAMEBUFFER_BINDING_OES {
+            self.framebuffer = name;
+        }
+    }
 }
 
 /// Whether a code is that of a binding's name.
@@ -63,25 +84,4 @@ pub(crate) fn name_bound(which: u64, bound: &Bindings) -> u32
         return bound.framebuffer;
     }
     0
-}
-
-/// Binds a name there, by the code of a binding's name.
-pub(crate) fn bind(bound: &mut Bindings, which: u64, name: u32)
-    ensures { bound.new ≡ with_name which name bound.old }
-{
-    if which == GL_TEXTURE_BINDING_2D {
-        bound.texture = name;
-    }
-    if which == GL_ARRAY_BUFFER_BINDING {
-        bound.array_buffer = name;
-    }
-    if which == GL_ELEMENT_ARRAY_BUFFER_BINDING {
-        bound.element_array_buffer = name;
-    }
-    if which == GL_RENDERBUFFER_BINDING_OES {
-        bound.renderbuffer = name;
-    }
-    if which == GL_FRAMEBUFFER_BINDING_OES {
-        bound.framebuffer = name;
-    }
 }

@@ -11,3 +11,4 @@ mod refusals;
 pub use bindings::Bindings;
 pub use kinds::{LocalKind, is_local, local_kind};
 pub use parts::ContextPart;
+pub use refusals::{is_alignment, is_index, is_parameter, is_store};

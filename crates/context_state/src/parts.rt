@@ -4,7 +4,7 @@ ghost use Rattle.egl_calls.specs.Ranges.{unsigned};
 ghost use Rattle.context_state.specs.Bindings.{is_binding, name_bound, with_name};
 ghost use Rattle.context_state.specs.Parts.{AreClamped, IsAlignment, IsBox, fresh, first_current, noted};
 
-use crate::bindings::{Bindings, bind, name_bound};
+use crate::bindings::{Bindings, name_bound};
 use egl_calls::{GlError, unsigned};
 use std::marker::Model;
 
@@ -104,7 +104,14 @@ impl ContextPart {
         requires { is_binding which ≡ true }
         ensures { self.new ≡ record self.old { bound = with_name (unsigned which) name self.old.bound } }
     {
-        bind(&mut self.bound, unsigned(which), name);
+        self.bind(unsigned(which), name);
+    }
+
+    /// The same for any number: only the code of a binding's name changes anything.
+    pub fn bind(&mut self, which: u64, name: u32)
+        ensures { self.new ≡ record self.old { bound = with_name which name self.old.bound } }
+    {
+        self.bound.set(which, name);
     }
 
     /// The name that is bound, as glGetIntegerv answers it for `which`, the code of one of the five names of bindings.

@@ -46,13 +46,15 @@ fn is_environment(target: u64, pname: u64, param: u64) -> bool
         && (param == GL_MODULATE || param == GL_REPLACE)
 }
 
-fn is_store(pname: u64) -> bool
+/// Whether a code is that of a parameter of glPixelStorei (OpenGL ES 1.1, section 3.6.1).
+pub fn is_store(pname: u64) -> bool
     ensures { result ≡ is_store pname }
 {
     pname == GL_UNPACK_ALIGNMENT || pname == GL_PACK_ALIGNMENT
 }
 
-fn is_alignment(n: u64) -> bool
+/// Whether rows of pixels may be aligned to so many bytes: 1, 2, 4 or 8.
+pub fn is_alignment(n: u64) -> bool
     ensures { result ≡ is_alignment n }
 {
     n == 1 || n == 2 || n == 4 || n == 8
@@ -64,13 +66,15 @@ fn is_box_name(pname: u64) -> bool
     pname == GL_VIEWPORT || pname == GL_SCISSOR_BOX
 }
 
-fn is_parameter(pname: u64) -> bool
+/// Whether a code is that of a parameter of glGetIntegerv (section 6.2).
+pub fn is_parameter(pname: u64) -> bool
     ensures { result ≡ is_parameter pname }
 {
     is_binding_code(pname) || is_box_name(pname) || pname == GL_MAX_TEXTURE_SIZE || is_store(pname)
 }
 
-fn is_index(pname: u64, index: i64) -> bool
+/// Whether a parameter of glGetIntegerv has a value at a place: the boxes have four, each other parameter one.
+pub fn is_index(pname: u64, index: i64) -> bool
     ensures { result ≡ is_index pname index }
 {
     let last = if is_box_name(pname) { 3 } else { 0 };

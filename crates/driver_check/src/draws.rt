@@ -5,7 +5,10 @@ ghost use Rattle.egl_calls.specs.Ranges.{IsNumber};
 ghost use Rattle.egl_model.specs.Waits.{is_wait_end};
 
 use egl_calls::{Call, EglKind, GlKind, Kind, Numbers, Outcome, OwnKind, Reply, set_argument};
-use egl_names::codes::{EGL_HEIGHT, EGL_SYNC_FENCE, EGL_WIDTH, GL_RGBA, GL_UNSIGNED_BYTE};
+use egl_names::codes::{
+    EGL_HEIGHT, EGL_SYNC_FENCE, EGL_WIDTH, GL_NEAREST, GL_PACK_ALIGNMENT, GL_RGBA, GL_TEXTURE_2D,
+    GL_TEXTURE_BINDING_2D, GL_TEXTURE_CROP_RECT_OES, GL_TEXTURE_MIN_FILTER, GL_UNSIGNED_BYTE,
+};
 use std::alloc::Global;
 
 /// Numbers from 0 up to below a bound, one after another by the seed, and the handles that its thread made last.
@@ -100,6 +103,16 @@ fn kind_of(place: u32) -> Kind
         36 => Kind::Own(OwnKind::Census),
         37 => Kind::Own(OwnKind::ReadFront),
         38 => Kind::Own(OwnKind::Halt),
+        39 => Kind::Gl(GlKind::GenTextures),
+        40 => Kind::Gl(GlKind::DeleteTextures),
+        41 => Kind::Gl(GlKind::IsTexture),
+        42 => Kind::Gl(GlKind::BindTexture),
+        43 => Kind::Gl(GlKind::TexParameterx),
+        44 => Kind::Gl(GlKind::TexParameteriv),
+        45 => Kind::Gl(GlKind::TexImage2d),
+        46 => Kind::Gl(GlKind::TexSubImage2d),
+        47 => Kind::Gl(GlKind::PixelStorei),
+        48 => Kind::Gl(GlKind::GetIntegerv),
         _ => Kind::Egl(EglKind::GetDisplay),
     }
 }
@@ -107,14 +120,14 @@ fn kind_of(place: u32) -> Kind
 const TERMINATE: u32 = 2;
 
 // Half of the calls are of the kinds that make something, draw, or make current.
-const FREQUENT: [u32; 8] = [1, 7, 13, 15, 15, 23, 32, 33];
+const FREQUENT: [u32; 10] = [1, 7, 13, 15, 15, 23, 32, 33, 42, 45];
 
 fn drawn_kind(draws: &mut Draws) -> Kind
     ensures built { is_built result ≡ true }
     ensures kind { is_wait_end result ≡ false }
 {
-    let any = draws.next(40);
-    let frequent = FREQUENT[draws.next(8) as usize];
+    let any = draws.next(50);
+    let frequent = FREQUENT[draws.next(10) as usize];
     // A display is terminated seldom, so that objects live for a while.
     if draws.next(2) == 0 && (any != TERMINATE || draws.next(16) == 0) {
         kind_of(any)
@@ -124,7 +137,7 @@ fn drawn_kind(draws: &mut Draws) -> Kind
 }
 
 /// A call with these numbers and this list.
-pub fn call_with(kind: Kind, numbers: [u32; 6], list: Numbers) -> Call
+pub fn call_with(kind: Kind, numbers: [u32; 8], list: Numbers) -> Call
     requires { All IsNumber list }
     ensures { result.kind ≡ kind }
 {
@@ -135,6 +148,8 @@ pub fn call_with(kind: Kind, numbers: [u32; 6], list: Numbers) -> Call
     set_argument(&mut args, 3, i64::from(numbers[3]));
     set_argument(&mut args, 4, i64::from(numbers[4]));
     set_argument(&mut args, 5, i64::from(numbers[5]));
+    set_argument(&mut args, 6, i64::from(numbers[6]));
+    set_argument(&mut args, 7, i64::from(numbers[7]));
     Call {
         kind,
         args,
@@ -143,20 +158,27 @@ pub fn call_with(kind: Kind, numbers: [u32; 6], list: Numbers) -> Call
     }
 }
 
+// A list of four numbers. Where memory runs out it is empty.
+fn four_numbers(alloc: Global, numbers: [u32; 4]) -> Numbers
+    ensures { All IsNumber result }
+{
+    let items = [
+        i64::from(numbers[0]),
+        i64::from(numbers[1]),
+        i64::from(numbers[2]),
+        i64::from(numbers[3]),
+    ];
+    match Vec::from_slice(alloc, &items) {
+        Ok(items) => Numbers::from_vec(items),
+        Err(_) => Numbers::new(alloc),
+    }
+}
+
 /// The list of a surface of so many pixels. Where memory runs out it is empty.
 pub fn surface_list(alloc: Global, width: u32, height: u32) -> Numbers
     ensures { All IsNumber result }
 {
-    let pairs = [
-        EGL_WIDTH as i64,
-        i64::from(width),
-        EGL_HEIGHT as i64,
-        i64::from(height),
-    ];
-    match Vec::from_slice(alloc, &pairs) {
-        Ok(items) => Numbers::from_vec(items),
-        Err(_) => Numbers::new(alloc),
-    }
+    four_numbers(alloc, [EGL_WIDTH as u32, width, EGL_HEIGHT as u32, height])
 }
 
 /// eglGetDisplay of the default display.
@@ -172,8 +194,34 @@ pub fn display_call(alloc: Global) -> Call
     }
 }
 
-// The numbers of a call: on what its thread made last, where it asks for such a thing, or small ones.
-fn numbers_of(draws: &mut Draws, kind: Kind) -> [u32; 6] {
+// Sides of a level of a texture, and alignments, of which 0 is none.
+const SMALL: [u32; 4] = [0, 1, 2, 4];
+
+// The numbers of a call on names and on textures: names are few, so that threads that share meet at them.
+fn texture_numbers(draws: &mut Draws, kind: GlKind) -> [u32; 8] {
+    let target = GL_TEXTURE_2D as u32;
+    let form = [GL_RGBA as u32, GL_UNSIGNED_BYTE as u32];
+    let [width, height] = [SMALL[draws.next(4) as usize], SMALL[draws.next(4) as usize]];
+    let name = draws.next(8);
+    match kind {
+        GlKind::GenTextures => [width, 0, 0, 0, 0, 0, 0, 0],
+        GlKind::IsTexture => [name, 0, 0, 0, 0, 0, 0, 0],
+        GlKind::BindTexture => [target, name, 0, 0, 0, 0, 0, 0],
+        GlKind::TexParameterx => {
+            let pair = [GL_TEXTURE_MIN_FILTER as u32, GL_NEAREST as u32];
+            [target, pair[0], pair[1], 0, 0, 0, 0, 0]
+        }
+        GlKind::TexParameteriv => [target, GL_TEXTURE_CROP_RECT_OES as u32, 0, 0, 0, 0, 0, 0],
+        GlKind::TexImage2d => [target, 0, form[0], width, height, 0, form[0], form[1]],
+        GlKind::TexSubImage2d => [target, 0, 0, 0, width, height, form[0], form[1]],
+        GlKind::PixelStorei => [GL_PACK_ALIGNMENT as u32, width, 0, 0, 0, 0, 0, 0],
+        GlKind::GetIntegerv => [GL_TEXTURE_BINDING_2D as u32, 0, 0, 0, 0, 0, 0, 0],
+        _ => [0; 8],
+    }
+}
+
+// Those of the other calls of OpenGL ES.
+fn gl_numbers(draws: &mut Draws, kind: GlKind) -> [u32; 8] {
     let [one, two, three, four] = [
         draws.next(64),
         draws.next(64),
@@ -181,25 +229,44 @@ fn numbers_of(draws: &mut Draws, kind: Kind) -> [u32; 6] {
         draws.next(16),
     ];
     match kind {
-        Kind::Egl(EglKind::CreatePbufferSurface) => [1, 4, 0, 0, 0, 0],
-        Kind::Egl(EglKind::CreateContext) => [1, 4, 0, 0, 0, 0],
-        Kind::Egl(EglKind::CreateSync) => [1, EGL_SYNC_FENCE as u32, 0, 0, 0, 0],
-        Kind::Egl(EglKind::MakeCurrent) => {
-            [1, draws.surface, draws.surface, draws.context, 0, 0]
+        GlKind::ClearColorx => [65_536, one, two, three, 0, 0, 0, 0],
+        GlKind::Clear => [1, 0, 0, 0, 0, 0, 0, 0],
+        GlKind::ReadPixels => {
+            let form = [GL_RGBA as u32, GL_UNSIGNED_BYTE as u32];
+            [0, 0, three, four, form[0], form[1], 0, 0]
         }
-        Kind::Egl(EglKind::QuerySurface) => [1, draws.surface, one, 0, 0, 0],
-        Kind::Egl(EglKind::QueryContext) => [1, draws.context, one, 0, 0, 0],
-        Kind::Egl(EglKind::ClientWaitSync) => [1, draws.sync, 0, 0, 0, 0],
-        Kind::Egl(EglKind::WaitSync) => [1, draws.sync, 0, 0, 0, 0],
-        Kind::Gl(GlKind::ClearColorx) => [65_536, one, two, three, 0, 0],
-        Kind::Gl(GlKind::ReadPixels) => {
-            [0, 0, three, four, GL_RGBA as u32, GL_UNSIGNED_BYTE as u32]
-        }
-        _ => [1, one, two, three, 0, 0],
+        _ => texture_numbers(draws, kind),
     }
 }
 
-// A surface has its sides for a list, and every other call none.
+// A context to share with: none, what its thread made last, or any that a thread may have made.
+fn share_of(draws: &mut Draws) -> u32 {
+    match draws.next(3) {
+        0 => 0,
+        1 => draws.context,
+        _ => draws.next(64),
+    }
+}
+
+// The numbers of a call: on what its thread made last, where it asks for such a thing, or small ones.
+fn numbers_of(draws: &mut Draws, kind: Kind) -> [u32; 8] {
+    let [one, two, three] = [draws.next(64), draws.next(64), draws.next(16)];
+    let [surface, context, sync] = [draws.surface, draws.context, draws.sync];
+    match kind {
+        Kind::Egl(EglKind::CreatePbufferSurface) => [1, 4, 0, 0, 0, 0, 0, 0],
+        Kind::Egl(EglKind::CreateContext) => [1, 4, share_of(draws), 0, 0, 0, 0, 0],
+        Kind::Egl(EglKind::CreateSync) => [1, EGL_SYNC_FENCE as u32, 0, 0, 0, 0, 0, 0],
+        Kind::Egl(EglKind::MakeCurrent) => [1, surface, surface, context, 0, 0, 0, 0],
+        Kind::Egl(EglKind::QuerySurface) => [1, surface, one, 0, 0, 0, 0, 0],
+        Kind::Egl(EglKind::QueryContext) => [1, context, one, 0, 0, 0, 0, 0],
+        Kind::Egl(EglKind::ClientWaitSync) => [1, sync, 0, 0, 0, 0, 0, 0],
+        Kind::Egl(EglKind::WaitSync) => [1, sync, 0, 0, 0, 0, 0, 0],
+        Kind::Gl(kind) => gl_numbers(draws, kind),
+        _ => [1, one, two, three, 0, 0, 0, 0],
+    }
+}
+
+// A surface has its sides for a list, a deletion names, a texture parameter its crop rectangle, and every other call none.
 fn list_of(alloc: Global, draws: &mut Draws, kind: Kind) -> Numbers
     ensures { All IsNumber result }
 {
@@ -209,19 +276,23 @@ fn list_of(alloc: Global, draws: &mut Draws, kind: Kind) -> Numbers
             draws.next(16),
             draws.next(16),
         ),
+        Kind::Gl(GlKind::DeleteTextures) => {
+            four_numbers(alloc, [draws.next(8), draws.next(8), 0, 0])
+        }
+        Kind::Gl(GlKind::TexParameteriv) => four_numbers(alloc, [0, 0, 4, 4]),
         _ => Numbers::new(alloc),
     }
 }
 
 // The kinds that a thread's private part may answer.
-const OWN: [u32; 11] = [0, 11, 12, 16, 17, 18, 28, 31, 32, 33, 39];
+const OWN: [u32; 13] = [0, 11, 12, 16, 17, 18, 28, 31, 32, 33, 47, 48, 49];
 
 /// A call that a thread's private part may answer, with numbers and sizes that are small.
 pub fn own_call(alloc: Global, draws: &mut Draws) -> Call
     ensures built { is_built result.kind ≡ true }
     ensures kind { is_wait_end result.kind ≡ false }
 {
-    let kind = kind_of(OWN[draws.next(11) as usize]);
+    let kind = kind_of(OWN[draws.next(13) as usize]);
     let numbers = numbers_of(draws, kind);
     call_with(kind, numbers, Numbers::new(alloc))
 }

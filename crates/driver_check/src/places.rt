@@ -29,7 +29,7 @@ fn call_of(alloc: Global, step: Step) -> Call
         Step::Flush => Kind::Gl(GlKind::Flush),
         Step::Census => Kind::Own(OwnKind::Census),
     };
-    call_with(kind, [0; 6], Numbers::new(alloc))
+    call_with(kind, [0; 8], Numbers::new(alloc))
 }
 
 /// So many local calls and a shared one, if there is one: then there is no place. After the last call there is.

@@ -33,7 +33,7 @@ fn egl(alloc: Global, kind: EglKind, numbers: [u32; 4]) -> Call
     let [first, second, third, fourth] = numbers;
     call_with(
         Kind::Egl(kind),
-        [first, second, third, fourth, 0, 0],
+        [first, second, third, fourth, 0, 0, 0, 0],
         Numbers::new(alloc),
     )
 }
@@ -68,7 +68,7 @@ pub fn set_scene<R: Abort + Wait>(rt: &R, alloc: Global, shared: &Shared, thread
     played(rt, alloc, shared, thread, 3, call);
     let call = call_with(
         Kind::Egl(EglKind::CreatePbufferSurface),
-        [DISPLAY, 4, 0, 0, 0, 0],
+        [DISPLAY, 4, 0, 0, 0, 0, 0, 0],
         surface_list(alloc, 1, 1),
     );
     played(rt, alloc, shared, thread, 4, call);
@@ -109,7 +109,7 @@ fn waits<R: Abort + Wait>(
     if reply.outcome == Outcome::Done && reply.value == EGL_CONDITION_SATISFIED as i64 {
         answered.fetch_add(1, SeqCst);
     }
-    let call = call_with(Kind::Own(OwnKind::Census), [0; 6], Numbers::new(alloc));
+    let call = call_with(Kind::Own(OwnKind::Census), [0; 8], Numbers::new(alloc));
     played(rt, alloc, shared, thread, 12, call);
 }
 
@@ -147,9 +147,9 @@ fn frees<R: Abort + Wait>(rt: &R, alloc: Global, shared: &Shared, thread: &mut T
             Err(_) => panic!(rt; "memory"),
         }
     }
-    let call = call_with(Kind::Own(OwnKind::Census), [0; 6], Numbers::new(alloc));
+    let call = call_with(Kind::Own(OwnKind::Census), [0; 8], Numbers::new(alloc));
     played(rt, alloc, shared, thread, 10, call);
-    let call = call_with(Kind::Gl(GlKind::Flush), [0; 6], Numbers::new(alloc));
+    let call = call_with(Kind::Gl(GlKind::Flush), [0; 8], Numbers::new(alloc));
     played(rt, alloc, shared, thread, 11, call);
 }
 

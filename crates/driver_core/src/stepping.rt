@@ -1,7 +1,7 @@
 //! One call of one thread.
 ghost use Rattle.std.specs.Prelude.{◌≡◌, ◌<◌, true, None, is_some, IfOk, IsOk, OnOk, OnErr, false, All, slice_index_or};
 ghost use Rattle.driver_core.specs.Costs.{IsCheap, IsBounded};
-ghost use Rattle.driver_core.specs.Releases.{releases};
+ghost use Rattle.driver_core.specs.Releases.{links, releases};
 ghost use Rattle.egl_model.specs.Sweep.{sweep};
 ghost use Rattle.thread_part.specs.Memory.{clears_nothing};
 ghost use Rattle.driver_core.specs.Memory.{egl_takes_no_memory, gl_takes_no_memory, takes_no_memory, is_bare, is_bare_on};
@@ -26,16 +26,18 @@ use crate::configs::attribute_value;
 use crate::currents::api_code;
 use crate::displays::display_of;
 use crate::machine::Driver;
+use crate::names::name_of;
 use crate::replies::{bare, listed, read, valued};
 use attrib_lists::AttribError;
 use config_match::Configs;
 use display_table::HandleKind;
 use egl_calls::arguments::signed;
-use egl_calls::places::DISPLAY_ID;
+use egl_calls::places::{ASKED_NAME, DISPLAY_ID};
 use egl_calls::{
     Call, EglError, EglKind, GlKind, Kind, NoMemory, Numbers, Outcome, Reply, ReplyPair,
 };
 use ref_store::Steps;
+use share_group::NameKind;
 use std::alloc::Global;
 use std::sync::ledger::Ledger;
 
@@ -202,8 +204,8 @@ impl Driver {
         }
     }
 
-    /// Does a call of OpenGL ES that no rule refuses.
-    fn gl_effect(
+    /// Does a call of OpenGL ES that no rule refuses and that sets no references.
+    fn kept_gl_effect(
         &mut self,
         alloc: Global,
         thread: u32,
@@ -215,6 +217,7 @@ impl Driver {
         requires kind { call.now.kind ≡ GlCall kind }
         requires built { is_built (GlCall kind) ≡ true }
         requires allowed { gl_refusal self.old.state thread context kind call.now ≡ None }
+        requires keeps { links kind ≡ false }
         ensures reply { IfOk result (λ r. r.reply ≡ done (gl_effect self.old.state thread context kind call.now)) }
         ensures state { OnOk result (self.new ≡ record self.old { state = (gl_effect self.old.state thread context kind call.now).state }) }
         ensures err { OnErr result (self.new ≡ self.old) }
@@ -222,7 +225,7 @@ impl Driver {
         ensures nothing { clears_nothing kind call.now ≡ true → IsOk result }
     {
         match kind {
-            GlKind::GetError | GlKind::ClearColorx => {
+            GlKind::GetError | GlKind::ClearColorx | GlKind::PixelStorei | GlKind::GetIntegerv => {
                 let value = self.apply(alloc, context, call);
                 Ok(valued(alloc, value))
             }
@@ -235,23 +238,84 @@ impl Driver {
                 Ok(valued(alloc, 0))
             }
             GlKind::ReadPixels => read(alloc, self.read_pixels(alloc, thread, context, call)?),
+            GlKind::GenTextures => self.generate(alloc, context, NameKind::Texture, call),
+            GlKind::IsTexture => {
+                let name = name_of(call, ASKED_NAME);
+                Ok(valued(alloc, self.is_name(context, NameKind::Texture, name)))
+            }
+            GlKind::TexParameterx => {
+                self.set_parameter(context, call);
+                Ok(valued(alloc, 0))
+            }
+            GlKind::TexParameteriv => {
+                self.set_crop(thread, context, call);
+                Ok(valued(alloc, 0))
+            }
+            GlKind::TexSubImage2d => {
+                self.rewrite_part(alloc, thread, context, call)?;
+                Ok(valued(alloc, 0))
+            }
             _ => unreachable!(),
         }
     }
 
-    #[tactic(auto, using(egl_model::proofs::StepLaws::gl_refused, crate::proofs::StepLaws::gl_done_as, egl_model::proofs::StepLaws::gl_without_context))]
-    fn gl_step(
+    /// Does a call of OpenGL ES that no rule refuses. What nothing reaches any more is gone then.
+    fn gl_effect<L: Ledger>(
+        &mut self,
+        alloc: Global,
+        thread: u32,
+        context: u64,
+        kind: GlKind,
+        call: &Call,
+        steps: &mut Steps<L>,
+    ) -> Result<ReplyPair, NoMemory>
+        requires made { thread < self.old.made }
+        requires kind { call.now.kind ≡ GlCall kind }
+        requires built { is_built (GlCall kind) ≡ true }
+        requires allowed { gl_refusal self.old.state thread context kind call.now ≡ None }
+        ensures reply { IfOk result (λ r. r.reply ≡ done (gl_effect self.old.state thread context kind call.now)) }
+        ensures state { OnOk result (self.new ≡ record self.old { state = sweep (gl_effect self.old.state thread context kind call.now).state }) }
+        ensures steps { IsCheap self.old.state self.new.state steps.old steps.new }
+        ensures err { OnErr result (self.new ≡ self.old) }
+        ensures memory { gl_takes_no_memory kind ≡ true → IsOk result }
+        ensures nothing { clears_nothing kind call.now ≡ true → IsOk result }
+    {
+        match kind {
+            GlKind::BindTexture => {
+                self.bind_texture(context, call, steps)?;
+                Ok(valued(alloc, 0))
+            }
+            GlKind::DeleteTextures => {
+                self.delete_textures(context, call, steps);
+                Ok(valued(alloc, 0))
+            }
+            GlKind::TexImage2d => {
+                self.set_level(alloc, thread, context, call, steps)?;
+                Ok(valued(alloc, 0))
+            }
+            _ => {
+                let reply = self.kept_gl_effect(alloc, thread, context, kind, call)?;
+                self.settled();
+                Ok(reply)
+            }
+        }
+    }
+
+    #[tactic(auto, using(egl_model::proofs::StepLaws::gl_refused, egl_model::proofs::StepLaws::gl_done, egl_model::proofs::StepLaws::gl_without_context))]
+    fn gl_step<L: Ledger>(
         &mut self,
         alloc: Global,
         thread: u32,
         kind: GlKind,
         call: &Call,
+        steps: &mut Steps<L>,
     ) -> Result<ReplyPair, NoMemory>
         requires made { thread < self.old.made }
         requires kind { call.now.kind ≡ GlCall kind }
         requires built { is_built (GlCall kind) ≡ true }
         ensures reply { IfOk result (λ r. r.reply ≡ (gl_step self.old.state thread kind call.now).reply) }
         ensures state { OnOk result (self.new ≡ record self.old { state = (gl_step self.old.state thread kind call.now).state }) }
+        ensures steps { IsCheap self.old.state self.new.state steps.old steps.new }
         ensures err { OnErr result (self.new ≡ self.old) }
         ensures memory { gl_takes_no_memory kind ≡ true → IsOk result }
         ensures bare { is_bare_on self.old.state thread (current_context self.old.state thread) kind call.now ≡ true → IsOk result }
@@ -264,11 +328,7 @@ impl Driver {
                 self.note_error(context, error);
                 Ok(bare(alloc, Outcome::Gl(error)))
             }
-            None => {
-                let reply = self.gl_effect(alloc, thread, context, kind, call)?;
-                self.settled();
-                Ok(reply)
-            }
+            None => self.gl_effect(alloc, thread, context, kind, call, steps),
         }
     }
 
@@ -292,7 +352,7 @@ impl Driver {
     {
         match call.kind {
             Kind::Egl(kind) => self.egl_step(alloc, thread, kind, call, steps),
-            Kind::Gl(kind) => self.gl_step(alloc, thread, kind, call),
+            Kind::Gl(kind) => self.gl_step(alloc, thread, kind, call, steps),
             Kind::Own(kind) => self.own_step(alloc, thread, kind, call),
         }
     }

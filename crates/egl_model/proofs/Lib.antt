@@ -8,6 +8,7 @@ pub mod LitterLaws
 pub mod FrameLaws
 pub mod RefusalLaws
 pub mod WantLaws
+pub mod TextureLaws
 pub mod PixelLaws
 pub mod LinkLaws
 pub mod LinkedSteps
@@ -36,6 +37,7 @@ pub mod GlCalls
 pub mod Named
 pub mod NewObjects
 pub mod LinkSetters
+pub mod TextureCalls
 pub mod EglCalls
 pub mod WindowCalls
 pub mod StepKeeps

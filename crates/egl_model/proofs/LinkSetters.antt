@@ -1,13 +1,14 @@
 -- What may be set of what objects refer to: names of a group, what a context has bound, the levels of a texture.
-use Rattle.std.proofs.Common.{◌≡◌, ◌⊎◌, ℕ, zero, suc, ◌+◌, true, cond, not, eqb, ltb, inl, inr, List, [], ◌∷◌, refl, sym, ap, ◌∙◌, set, Option, None, Some}
+use Rattle.std.proofs.Common.{◌≡◌, ◌⊎◌, ℕ, ℤ, zero, suc, ◌+◌, true, cond, not, eqb, ltb, is_some, inl, inr, List, [], ◌∷◌, refl, sym, ap, ◌∙◌, set, Option, None, Some}
 use Rattle.std.specs.Prelude.{option_to_list}
 use Rattle.std.specs.List.{find}
-use Rattle.std.specs.Option.{option_map_or}
+use Rattle.std.specs.Option.{option_map, option_map_or}
 use Rattle.std.proofs.lemmas.Bool.{cond_both}
 use Rattle.context_state.specs.Parts.{PartValue}
 use Rattle.pixel_rows.specs.Images.{ImageValue}
 use Rattle.driver_objects.specs.Links.{linked_names}
 use Rattle.driver_objects.specs.Objects.{filled}
+use Rattle.driver_objects.specs.declared.contexts.Context.{Context as ContextObject}
 use Rattle.driver_objects.specs.declared.kinds.ObjectKind.{ObjectKind}
 use Rattle.driver_objects.specs.declared.kinds.ObjectKind.TheVariants.{Storage as a_storage, Texture as a_texture}
 use Rattle.driver_objects.specs.declared.objects.Object.{Object}
@@ -18,16 +19,18 @@ use Rattle.share_group.specs.Names.{after, fresh, is_of, object_in, object_of, p
 use Rattle.share_group.specs.declared.names.Name.{Name}
 use Rattle.share_group.specs.declared.names.NameKind.{NameKind}
 use Rattle.share_group.specs.declared.names.NameKind.TheVariants.{Texture as textures, Buffer as buffers, Renderbuffer as renderbuffers, Framebuffer as framebuffers}
+use Rattle.egl_names.specs.declared.codes.TheConstants.{GL_TEXTURE_BINDING_2D}
+use Rattle.egl_model.specs.Currents.{has_context}
 use Rattle.egl_model.specs.Full.{Full}
 use Rattle.egl_model.specs.Graph.{is_in}
 use Rattle.egl_model.specs.Names.{kind_named, with_more, with_name_of}
 use Rattle.egl_model.specs.Objects.{as_group, with_context, with_group, with_texture}
-use Rattle.egl_model.specs.Parts.{set_image, set_part}
+use Rattle.egl_model.specs.Parts.{is_place, set_image, set_part}
 use Rattle.egl_model.specs.Shapes.{Goes, IsFree, Leads, Shape, pixels_in, slots_in}
 use Rattle.egl_model.specs.Slots.{level_slots, name_slots, slots_of}
 use Rattle.egl_model.specs.State.{State}
-use Rattle.egl_model.specs.Textures.{bound_at, with_level}
-use Rattle.egl_model.proofs.Moves.{Setter, Suits, body_in}
+use Rattle.egl_model.specs.Textures.{bound_at, name_in_part, named_at, unbound_texture, with_crop, with_level, with_value}
+use Rattle.egl_model.proofs.Moves.{NoneElse, Setter, Suits, body_in}
 use Rattle.egl_model.proofs.Slots.{group_parts, group_whole, in_cases, in_left, in_right}
 
 -- ---- A group.
@@ -143,6 +146,60 @@ suits-bound_texture t sh s n b g = record { leads = leads; pixels = λ o k i. in
     leads (Some (Context c)) l = (l.0, (l.1.0, (g, l.1.1.1)))
     leads o l = l
 
+-- ---- The names that a context has bound: its part changes too.
+still_there : (which name : ℕ) (x : Option PartValue) → is_some x ≡ true → is_some (option_map (name_in_part which name) x) ≡ true
+still_there which name None h = h
+still_there which name (Some x) h = refl
+
+-- a change of a context by which neither its display nor its references change, and which takes no part out
+record Renames (h : ContextObject → ContextObject) : Type 0 where
+  home : (c : ContextObject) → (h c).display ≡ c.display
+  part : (c : ContextObject) → is_some c.part ≡ true → is_some (h c).part ≡ true
+
+setter-renamed : (h : ContextObject → ContextObject) → Renames h → Setter (with_context h)
+setter-renamed h r = record { body = body; full = full }
+  where
+    body : (o : Option Object) → body_in (with_context h o) ≡ body_in o
+    body (Some (Context c)) = ap (λ d. body_in (Some (Context (record c { display = d })))) (r.home c)
+    body o = refl
+
+    full : (o : Option Object) → Full o → Full (with_context h o)
+    full (Some (Context c)) f = r.part c f
+    full o f = f
+
+suits-own : (t : ℕ) (sh : List (Option Shape)) (s : State) (n : ℕ) (h : ContextObject → ContextObject) → ((c : ContextObject) → Leads sh (slots_of (Context c)) → Leads sh (slots_of (Context (h c)))) → NoneElse (has_context n) s.threads t → Suits t sh s n (with_context h)
+suits-own t sh s n h l mine = record { leads = leads; pixels = λ o k i. inl (ap (is_in k) (sym (looks o)) ∙ i); part = inr mine; image = inl past_image }
+  where
+    past_image : (y : Option ImageValue) (o : Option Object) → set_image y (with_context h o) ≡ with_context h (set_image y o)
+    past_image y (Some (Context c)) = refl
+    past_image y (Some (Storage v)) = refl
+    past_image y o = refl
+
+    looks : (o : Option Object) → pixels_in (with_context h o) ≡ pixels_in o
+    looks (Some (Context c)) = refl
+    looks o = refl
+
+    leads : (o : Option Object) → Leads sh (slots_in o) → Leads sh (slots_in (with_context h o))
+    leads (Some (Context c)) i = l c i
+    leads o i = i
+
+pub setter-named : (which name : ℕ) → Setter (with_context (named_at which name))
+setter-named which name = setter-renamed (named_at which name) (record { home = λ c. refl; part = λ c f. still_there which name c.part f })
+
+pub suits-named : (t : ℕ) (sh : List (Option Shape)) (s : State) (n which name : ℕ) → NoneElse (has_context n) s.threads t → Suits t sh s n (with_context (named_at which name))
+suits-named t sh s n which name mine = suits-own t sh s n (named_at which name) (λ c l. l) mine
+
+-- a context that lets go of a texture, if it has that bound
+pub setter-unbound : (x : ℕ) → Setter (with_context (unbound_texture x))
+setter-unbound x = setter-renamed (unbound_texture x) (record {
+  home = λ c. cond_both (is_place x c.bound.texture) _ c (λ (d : ContextObject). d.display ≡ c.display) (λ e. refl) (λ e. refl);
+  part = λ c f. cond_both (is_place x c.bound.texture) _ c (λ (d : ContextObject). is_some d.part ≡ true) (λ e. still_there GL_TEXTURE_BINDING_2D 0 c.part f) (λ e. f);
+})
+
+pub suits-unbound : (t : ℕ) (sh : List (Option Shape)) (s : State) (n x : ℕ) → NoneElse (has_context n) s.threads t → Suits t sh s n (with_context (unbound_texture x))
+suits-unbound t sh s n x mine = suits-own t sh s n (unbound_texture x)
+    (λ c l. cond_both (is_place x c.bound.texture) _ c (λ (d : ContextObject). Leads sh (slots_of (Context d))) (λ e. (l.0, (l.1.0, (tt, l.1.1.1)))) (λ e. l)) mine
+
 -- ---- A texture.
 pub setter-texture : (h : BackedTexture → BackedTexture) → Setter (with_texture h)
 setter-texture h = record { body = body; full = full }
@@ -175,6 +232,12 @@ suits-texture t sh s n h l p = record { leads = leads; pixels = pixels; part = i
     leads : (o : Option Object) → Leads sh (slots_in o) → Leads sh (slots_in (with_texture h o))
     leads (Some (Texture x)) i = l x i
     leads o i = i
+
+pub suits-value : (t : ℕ) (sh : List (Option Shape)) (s : State) (n pname value : ℕ) → Suits t sh s n (with_texture (with_value pname value))
+suits-value t sh s n pname value = suits-texture t sh s n (with_value pname value) (λ x l. l) (λ x k i. inl i)
+
+pub suits-crop : (t : ℕ) (sh : List (Option Shape)) (s : State) (n : ℕ) (xs : List ℤ) → Suits t sh s n (with_texture (with_crop xs))
+suits-crop t sh s n xs = suits-texture t sh s n (with_crop xs) (λ x l. l) (λ x k i. inl i)
 
 leads_level : (sh : List (Option Shape)) (o : Option ℕ) → Goes sh a_storage o → (i : ℕ) (xs : List (Option ℕ)) (k : ℕ) → Leads sh (level_slots i xs) → Leads sh (level_slots i (set xs k o))
 leads_level sh o g i [] k l = tt

@@ -9,7 +9,7 @@ use Rattle.egl_calls.specs.declared.kinds.Kind.TheVariants.{Egl, Gl, Own as OwnC
 use Rattle.egl_calls.specs.declared.kinds.EglKind.{EglKind}
 use Rattle.egl_calls.specs.declared.kinds.EglKind.TheVariants.{GetError as EglGetError, GetDisplay, GetCurrentContext, BindApi, QueryApi, GetCurrentSurface, GetCurrentDisplay}
 use Rattle.egl_calls.specs.declared.kinds.GlKind.{GlKind}
-use Rattle.egl_calls.specs.declared.kinds.GlKind.TheVariants.{GetError, ClearColorx, Clear, ReadPixels}
+use Rattle.egl_calls.specs.declared.kinds.GlKind.TheVariants.{GetError, ClearColorx, PixelStorei, GetIntegerv, Clear, ReadPixels, TexImage2d, TexSubImage2d}
 use Rattle.egl_calls.specs.declared.errors.EglError.{EglError}
 use Rattle.egl_calls.specs.declared.errors.EglError.TheVariants.{Success}
 use Rattle.egl_calls.specs.declared.errors.GlError.{GlError}
@@ -19,13 +19,13 @@ use Rattle.pixel_rows.specs.Images.{ImageValue}
 use Rattle.pixel_rows.specs.Transfers.{row_bytes}
 use Rattle.call_rules.specs.EglRules as rules
 use Rattle.call_rules.specs.EglRules.{no_facts}
-use Rattle.driver_objects.specs.Storages.{StorageValue, cleared, cleared_image, read_rows}
+use Rattle.driver_objects.specs.Storages.{StorageValue, cleared, cleared_image}
 use Rattle.driver_objects.specs.declared.objects.Object.{Object}
 use Rattle.driver_objects.specs.declared.objects.Object.TheVariants.{Context, Storage}
 use Rattle.egl_model.specs.State.{State, initial, object_at, record_of, set_error}
 use Rattle.egl_model.specs.Objects.{as_storage, change_part, change_storage, storage_in, with_part, with_storage}
 use Rattle.egl_model.specs.Currents.{current_context, draw_storage, part_of_context, read_storage}
-use Rattle.egl_model.specs.Drawing.{clear_storage, clears_colour, pack_alignment, read_form, read_pixels, read_rect}
+use Rattle.egl_model.specs.Drawing.{clear_storage, clears_colour, read_form, read_pixels, read_rect, rows_of}
 use Rattle.egl_model.specs.Sweep.{is_reached, roots, swept, sweep}
 use Rattle.egl_model.specs.Laws.{HasNoLitter}
 use Rattle.egl_model.specs.EglFacts.{egl_facts, egl_refusal}
@@ -176,13 +176,13 @@ either_put : (s : State) (t : ℕ) (b : Bool) (a : State) (x : Own) → a ≡ pu
 either_put s t true a x e = e
 either_put s t false a x e = sym (put-own_of s t)
 
-rows_there : (os : List (Option Object)) (c : CallValue) (p : Option ℕ) → option_map_or (λ v. read_rows v (read_rect c) (read_form c) pack_alignment) (option_and_then (storage_in os) p) []
-    ≡ option_map_or (λ i. row_bytes i (read_rect c) (read_form c) pack_alignment) (at_place image_in p os) []
+rows_there : (os : List (Option Object)) (c : CallValue) (align : ℕ) (p : Option ℕ) → rows_of c align (option_and_then (storage_in os) p)
+    ≡ option_map_or (λ i. row_bytes i (read_rect c) (read_form c) align) (at_place image_in p os) []
 unfolding at_place
-rows_there os c None = refl
-rows_there os c (Some n) = of_object (get_or os n None)
+rows_there os c align None = refl
+rows_there os c align (Some n) = of_object (get_or os n None)
   where
-    of_object : (o : Option Object) → option_map_or (λ v. read_rows v (read_rect c) (read_form c) pack_alignment) (as_storage o) [] ≡ option_map_or (λ i. row_bytes i (read_rect c) (read_form c) pack_alignment) (image_in o) []
+    of_object : (o : Option Object) → rows_of c align (as_storage o) ≡ option_map_or (λ i. row_bytes i (read_rect c) (read_form c) align) (image_in o) []
     of_object (Some (Storage x)) = refl
     of_object o = refl
 
@@ -195,20 +195,23 @@ image_read : (os : List (Option Object)) (a b : Option ℕ) (same : Bool) → ar
 image_read os a b true h = ap (λ (p : Option ℕ). at_place image_in p os) (same_place a b h)
 image_read os a b false h = refl
 
-read_pixels-local : (s : State) (t : ℕ) (c : CallValue) → read_pixels s t c ≡ read_locally (part_of s t) c
-read_pixels-local s t c =
-    rows_there s.objects c (read_storage s t)
-    ∙ ap (λ i. option_map_or (λ i. row_bytes i (read_rect c) (read_form c) pack_alignment) i []) (image_read s.objects (draw_storage s t) (read_storage s t) (are_same (draw_storage s t) (read_storage s t)) refl)
+read_pixels-local : (s : State) (t n : ℕ) (q : PartValue) (c : CallValue) → part_of_context s n ≡ Some q → read_pixels s t n c ≡ read_locally (part_of s t) q c
+read_pixels-local s t n q c e =
+    ap (λ (p : Option PartValue). rows_of c (option_map_or (λ y. y.pack_alignment) p 4) (option_and_then (storage_in s.objects) (read_storage s t))) e
+    ∙ rows_there s.objects c q.pack_alignment (read_storage s t)
+    ∙ ap (λ i. option_map_or (λ i. row_bytes i (read_rect c) (read_form c) q.pack_alignment) i []) (image_read s.objects (draw_storage s t) (read_storage s t) (are_same (draw_storage s t) (read_storage s t)) refl)
 
 -- a case for each local call of OpenGL ES
 gl_effect-local : (s : State) (t n : ℕ) (q : PartValue) (c : CallValue) (k : GlKind) → current_context s t ≡ Some n → part_of_context s n ≡ Some q → (is_local_gl k || (is_local_unbound k && is_unbound (Some q))) ≡ true →
     gl_effect s t n k c ≡ as_effect s t (gl_locally (part_of s t) q k c)
 gl_effect-local s t n q c GetError h e m = same_valued _ _ _ _ (ap (λ o. local_value o c) e) (part_as_put s t n (λ p. (apply c p).part) q h e)
 gl_effect-local s t n q c ClearColorx h e m = same_valued _ _ _ _ (ap (λ o. local_value o c) e) (part_as_put s t n (λ p. (apply c p).part) q h e)
+gl_effect-local s t n q c PixelStorei h e m = same_valued _ _ _ _ (ap (λ o. local_value o c) e) (part_as_put s t n (λ p. (apply c p).part) q h e)
+gl_effect-local s t n q c GetIntegerv h e m = same_valued _ _ _ _ (ap (λ o. local_value o c) e) (part_as_put s t n (λ p. (apply c p).part) q h e)
 gl_effect-local s t n q c Clear h e m = ap (valued (pos 0))
     (ap (λ o. cond (clears_colour c) (clear_storage o (draw_storage s t) s) s) e
     ∙ either_put s t (clears_colour c) (clear_storage (Some q) (draw_storage s t) s) (record (own_of s t) { draw = option_map (cleared_image q.clear_color) (own_of s t).draw }) (cleared-local s t q (draw_storage s t) refl))
-gl_effect-local s t n q c ReadPixels h e m = read_effect _ _ _ _ (read_pixels-local s t c) (sym (put-own_of s t))
+gl_effect-local s t n q c ReadPixels h e m = read_effect _ _ _ _ (read_pixels-local s t n q c e) (sym (put-own_of s t))
   where
     read_effect : (b d : List ℕ) (x y : State) → b ≡ d → x ≡ y → reads b x ≡ reads d y
     read_effect b d x y e f = ap (λ z. reads z x) e ∙ ap (reads d) f
@@ -219,9 +222,12 @@ by_gl_refusal : (s : State) (t n : ℕ) (q : PartValue) (c : CallValue) (k : GlK
 by_gl_refusal s t n q c k (Some e) l h i m = answered _ _ _ (part_as_put s t n (noted e) q h i)
 by_gl_refusal s t n q c k None l h i m = ap (after_gl_rules s n None) (gl_effect-local s t n q c k h i m) ∙ answered _ _ _ (put_swept s t (gl_locally (part_of s t) q k c).own l)
 
-local_gl_refusal : (s : State) (t n : ℕ) (c : CallValue) (k : GlKind) → gl_refusal s t n k c ≡ gl_rules.gl_refusal c no_framebuffer
+-- a call whose facts look at the state isn't local
+local_gl_refusal : (s : State) (t n : ℕ) (c : CallValue) (k : GlKind) (b : Bool) → (is_local_gl k || (is_local_unbound k && b)) ≡ true → gl_refusal s t n k c ≡ gl_rules.gl_refusal c no_framebuffer
 unfolding gl_refusal
-local_gl_refusal s t n c k = refl
+local_gl_refusal s t n c TexImage2d b m = not_local m
+local_gl_refusal s t n c TexSubImage2d b m = not_local m
+local_gl_refusal s t n c k b m = refl
 
 -- the part of the thread's context is in
 abbrev pub HasPart : State → ℕ → Type 0
@@ -230,7 +236,7 @@ HasPart s t = is_some (own_of s t).context ≡ is_some (current_context s t)
 by_part : (s : State) (t n : ℕ) (c : CallValue) (k : GlKind) (x : Option PartValue) → IsSound s → current_context s t ≡ Some n → part_of_context s n ≡ x → is_some x ≡ true → (is_local_gl k || (is_local_unbound k && is_unbound x)) ≡ true →
     gl_step_on s t (Some n) k c ≡ as_step s t (gl_with (part_of s t) x k c)
 by_part s t n c k None l h i j m = not_local j
-by_part s t n c k (Some q) l h i j m = ap (λ o. after_gl_rules s n o (gl_effect s t n k c)) (local_gl_refusal s t n c k)
+by_part s t n c k (Some q) l h i j m = ap (λ o. after_gl_rules s n o (gl_effect s t n k c)) (local_gl_refusal s t n c k (is_unbound (Some q)) m)
     ∙ by_gl_refusal s t n q c k (gl_rules.gl_refusal c no_framebuffer) l h i m
 
 by_current : (s : State) (t : ℕ) (c : CallValue) (k : GlKind) (o : Option ℕ) → IsSound s → current_context s t ≡ o → is_some (own_of s t).context ≡ is_some o → is_local_kind (part_of s t) (Gl k) ≡ true →

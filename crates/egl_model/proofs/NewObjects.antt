@@ -13,7 +13,14 @@ use Rattle.driver_objects.specs.declared.objects.Object.{Object}
 use Rattle.driver_objects.specs.declared.objects.Object.TheVariants.{Storage, Surface}
 use Rattle.egl_model.specs.Full.{Full}
 use Rattle.pixel_formats.specs.declared.formats.Format.{Format}
-use Rattle.pixel_rows.specs.Images.{blank}
+use Rattle.pixel_rows.specs.Images.{blank, frozen}
+use Rattle.pixel_rows.specs.Painting.{painted}
+use Rattle.pixel_rows.specs.Payloads.{loaded}
+use Rattle.egl_calls.specs.Arguments.{signed}
+use Rattle.egl_calls.specs.Calls.{CallValue}
+use Rattle.egl_calls.specs.Ranges.{unsigned}
+use Rattle.texture_objects.specs.Uploads.{uploaded}
+use Rattle.egl_model.proofs.Setters.{length-painted}
 use Rattle.driver_objects.specs.Storages.{stored}
 use Rattle.std.proofs.lemmas.List.{length-replicate}
 use Rattle.egl_model.specs.Graph.{is_in}
@@ -39,6 +46,11 @@ with_own_pixels sh place x e = record {
 
 pub full-blank : (f : Format) (w h : ℕ) → w ≤ 2048 → h ≤ 2048 → Full (Some (Storage (stored (blank f w h))))
 full-blank f w h a b = (record { wide = a; high = b; image = record { image = record { wide = a; high = b; area = length-replicate (h * w) _ }; format = refl; width = refl; height = refl; owned = refl } }, refl)
+
+-- ---- The pixels that glTexImage2D gives.
+pub full-uploaded : (c : CallValue) (align : ℕ) → unsigned (signed c 3) ≤ 2048 → unsigned (signed c 4) ≤ 2048 → Full (Some (Storage (stored (frozen (uploaded c align)))))
+unfolding loaded painted
+full-uploaded c align a b = (record { wide = a; high = b; image = record { image = record { wide = a; high = b; area = length-painted (unsigned (signed c 3)) _ _ _ ∙ length-replicate (unsigned (signed c 4) * unsigned (signed c 3)) _ }; format = refl; width = refl; height = refl; owned = refl } }, refl)
 
 -- ---- A texture without storage.
 leads-none : (sh : List (Option Shape)) (i n : ℕ) → Leads sh (level_slots i (replicate n None))

@@ -6,10 +6,12 @@ use Rattle.pixel_rows.specs.Images.{ImageValue}
 use Rattle.egl_model.specs.Parts.{set_image, set_part}
 use Rattle.pixel_formats.specs.declared.formats.Format.{Format}
 use Rattle.pixel_formats.specs.declared.pixels.Pixel.{Pixel}
+use Rattle.egl_calls.specs.Calls.{CallValue}
+use Rattle.pixel_rows.specs.Payloads.{loaded}
 use Rattle.pixel_rows.specs.Painting.{painted, painted_at, painted_pixels}
 use Rattle.std.specs.Option.{option_map}
 use Rattle.std.proofs.lemmas.List.FromFn.{length-map-range_with_len}
-use Rattle.driver_objects.specs.Storages.{AreImageOf, IsImageOf, cleared_image}
+use Rattle.driver_objects.specs.Storages.{AreImageOf, IsImageOf, cleared_image, rewritten_image}
 use Rattle.driver_objects.specs.declared.objects.Object.{Object}
 use Rattle.driver_objects.specs.declared.objects.Object.TheVariants.{Context, Storage, Surface, Sync}
 use Rattle.egl_model.specs.Full.{Full}
@@ -193,13 +195,25 @@ suits-image t sh s n h mine = record { leads = leads; pixels = λ o k g. inl (ap
     leads o l = l
 
 -- whatever is painted keeps its form
-length-painted : (w : ℕ) (covers : ℕ → ℕ → Bool) (becomes : ℕ → ℕ → Pixel → Pixel) (ps : List Pixel) → length (painted_pixels w covers becomes ps) ≡ length ps
+pub length-painted : (w : ℕ) (covers : ℕ → ℕ → Bool) (becomes : ℕ → ℕ → Pixel → Pixel) (ps : List Pixel) → length (painted_pixels w covers becomes ps) ≡ length ps
 unfolding painted_pixels
 length-painted w covers becomes ps = length-map-range_with_len (painted_at w covers becomes ps) 0 (length ps)
 
 pub form-cleared : (colour : List ℤ) → KeepsForm (cleared_image colour)
 unfolding painted
 form-cleared colour = record {
+  each = λ f w k z i a. record {
+    image = record { wide = a.image.wide; high = a.image.high; area = length-painted i.width _ _ i.pixels ∙ a.image.area };
+    format = a.format;
+    width = a.width;
+    height = a.height;
+    owned = a.owned;
+  };
+}
+
+pub form-rewritten : (c : CallValue) (align : ℕ) → KeepsForm (rewritten_image c align)
+unfolding painted loaded
+form-rewritten c align = record {
   each = λ f w k z i a. record {
     image = record { wide = a.image.wide; high = a.image.high; area = length-painted i.width _ _ i.pixels ∙ a.image.area };
     format = a.format;

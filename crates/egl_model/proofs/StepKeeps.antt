@@ -9,7 +9,7 @@ use Rattle.egl_calls.specs.declared.kinds.Kind.TheVariants.{Egl, Gl}
 use Rattle.egl_calls.specs.declared.kinds.EglKind.{EglKind}
 use Rattle.egl_calls.specs.declared.kinds.EglKind.TheVariants.{Initialize, Terminate, CreateWindowSurface, CreatePbufferSurface, CreateContext, MakeCurrent, DestroySurface, SurfaceAttrib, DestroyContext, SwapBuffers, WaitClient, ReleaseThread, CreateSync, DestroySync, ClientWaitSync, WaitSync}
 use Rattle.egl_calls.specs.declared.kinds.GlKind.{GlKind}
-use Rattle.egl_calls.specs.declared.kinds.GlKind.TheVariants.{GetError, Flush, Finish, ClearColorx, Clear}
+use Rattle.egl_calls.specs.declared.kinds.GlKind.TheVariants.{GetError, Flush, Finish, ClearColorx, Clear, PixelStorei, GetIntegerv, GenTextures, DeleteTextures, BindTexture, TexParameterx, TexParameteriv, TexImage2d, TexSubImage2d}
 use Rattle.egl_calls.specs.declared.errors.EglError.TheVariants.{Success}
 use Rattle.context_state.specs.Parts.{noted}
 use Rattle.context_state.specs.Local.{apply}
@@ -43,6 +43,8 @@ use Rattle.egl_model.specs.Flushes.{flush}
 use Rattle.egl_model.specs.Windows.{swapped}
 use Rattle.egl_model.proofs.SyncCalls.{acts-client_wait, acts-create_sync, acts-flush, acts-flushed, acts-serve}
 use Rattle.egl_model.proofs.GlCalls.{acts-clear, acts-own_part}
+use Rattle.share_group.specs.declared.names.NameKind.TheVariants.{Texture as textures}
+use Rattle.egl_model.proofs.TextureCalls.{acts-bound_name, acts-crop, acts-delete, acts-generated, acts-parameter, acts-rewritten, acts-specified}
 use Rattle.egl_model.proofs.FrameMoves.{frame_self, handles_then, objects_then}
 use Rattle.egl_model.proofs.LinkLaws.{exists_marked}
 use Rattle.egl_model.proofs.LitterLaws.{no_litter-opening, no_litter-step}
@@ -79,6 +81,15 @@ gl_acts s t n c Flush h r i = acts-flushed s t (Some n)
 gl_acts s t n c Finish h r i = acts-flushed s t (Some n)
 gl_acts s t n c ClearColorx h r i = acts-own_part s t n (λ p. (apply c p).part) i
 gl_acts s t n c Clear h r i = acts-clear s t n c i
+gl_acts s t n c PixelStorei h r i = acts-own_part s t n (λ p. (apply c p).part) i
+gl_acts s t n c GetIntegerv h r i = acts-own_part s t n (λ p. (apply c p).part) i
+gl_acts s t n c GenTextures h r i = acts-generated s t n textures (number c 0)
+gl_acts s t n c DeleteTextures h r i = acts-delete s t n c.list i
+gl_acts s t n c BindTexture h r i = acts-bound_name s t n (number c 1) i
+gl_acts s t n c TexParameterx h r i = acts-parameter s t n (number c 1) (number c 2)
+gl_acts s t n c TexParameteriv h r i = acts-crop s t n c.list
+gl_acts s t n c TexImage2d h r i = acts-specified s t n c h r i
+gl_acts s t n c TexSubImage2d h r i = acts-rewritten s t n c i
 gl_acts s t n c k h r i = acts_self t s
 
 -- ---- Steps.

@@ -17,17 +17,23 @@ use Rattle.egl_calls.specs.declared.kinds.Kind.TheVariants.{Egl, Gl, Own as OwnC
 use Rattle.egl_calls.specs.declared.kinds.EglKind.{EglKind}
 use Rattle.egl_calls.specs.declared.kinds.EglKind.TheVariants.{CreateWindowSurface, SwapBuffers, GetError as EglGetError, CreatePbufferSurface, MakeCurrent, GetCurrentContext, GetCurrentSurface, GetCurrentDisplay, QueryApi, QuerySurface, QueryContext, CreateSync, ClientWaitSync, WaitSync, GetSyncAttrib}
 use Rattle.egl_calls.specs.declared.kinds.GlKind.{GlKind}
-use Rattle.egl_calls.specs.declared.kinds.GlKind.TheVariants.{GetError, ClearColorx, ReadPixels}
+use Rattle.egl_calls.specs.declared.kinds.GlKind.TheVariants.{GetError, ClearColorx, PixelStorei, GetIntegerv, ReadPixels, GenTextures, IsTexture, TexImage2d, TexSubImage2d}
+use Rattle.call_rules.specs.GlRules as gl_rules
+use Rattle.context_state.specs.Parts.{PartValue}
+use Rattle.share_group.specs.Names.{given}
+use Rattle.share_group.specs.declared.names.NameKind.TheVariants.{Texture as textures}
+use Rattle.egl_model.specs.GlFacts.{image_facts}
+use Rattle.egl_model.specs.Names.{generated, group_of, name_value, object_named}
+use Rattle.egl_model.proofs.TextureCalls.{blind-group_of, blind-named, blind-names, blind-part_facts}
 use Rattle.egl_calls.specs.declared.errors.EglError.{EglError}
 use Rattle.egl_calls.specs.declared.errors.GlError.{GlError}
 use Rattle.context_state.specs.Parts.{noted}
-use Rattle.driver_objects.specs.Storages.{read_rows}
 use Rattle.call_rules.specs.EglRules as rules
 use Rattle.display_table.specs.declared.handles.Handle.{Handle}
 use Rattle.egl_model.specs.declared.records.ThreadRecord.{ThreadRecord}
 use Rattle.egl_model.specs.State.{State, record_of, api_code}
 use Rattle.egl_model.specs.Currents.{current_context, read_storage, display_at, handle_of}
-use Rattle.egl_model.specs.Drawing.{pack_alignment, read_form, read_pixels, read_rect}
+use Rattle.egl_model.specs.Drawing.{pack_alignment, read_pixels, rows_of}
 use Rattle.egl_model.specs.EglEffects.{egl_effect}
 use Rattle.egl_model.specs.EglFacts.{egl_facts, egl_refusal}
 use Rattle.egl_model.specs.Frame.{IsNone, moved_step}
@@ -110,6 +116,8 @@ blind-refusal t c s k w v x ne = ap (rules.egl_refusal c) (blind-facts t c s k w
 
 blind-gl_refusal : (t n : ℕ) (c : CallValue) (s : State) (k : GlKind) → Blind t s (λ a. gl_refusal a t n k c)
 unfolding gl_refusal
+blind-gl_refusal t n c s TexImage2d w v x ne = ap (λ b. gl_rules.gl_refusal c (record (image_facts s c) { live_bytes = b })) (blind-live_bytes t s w v x ne)
+blind-gl_refusal t n c s TexSubImage2d w v x ne = ap (gl_rules.gl_refusal c) (blind-part_facts t n c s w v x ne)
 blind-gl_refusal t n c s k w v x ne = refl
 
 -- ---- Replies: a line for each call that answers what it reads.
@@ -125,15 +133,24 @@ blind-egl_reply t c s ClientWaitSync w v x ne = blind-client_wait t c s w v x ne
 blind-egl_reply t c s GetSyncAttrib w v x ne = ap (λ y. done (valued (unwrap_or y (pos 0)) s)) (blind-sync_value t c s w v x ne)
 blind-egl_reply t c s k w v x ne = refl
 
-blind-read_pixels : (t : ℕ) (c : CallValue) (s : State) → Blind t s (λ a. read_pixels a t c)
-blind-read_pixels t c s w v x ne =
-    ap (λ o. option_map_or (λ i. read_rows i (read_rect c) (read_form c) pack_alignment) (option_and_then (storage_in (put_own s v x).objects) o) []) (blind-read t s w v x ne)
-    ∙ ap (λ o. option_map_or (λ i. read_rows i (read_rect c) (read_form c) pack_alignment) o []) (blind-own_storage t (read_storage s t) s (λ n e. read_alone s t n e) w v x ne)
+blind-read_pixels : (t n : ℕ) (c : CallValue) (s : State) → current_context s t ≡ Some n → Blind t s (λ a. read_pixels a t n c)
+blind-read_pixels t n c s e w v x ne =
+    ap (λ (p : Option PartValue). rows_of c (option_map_or (λ q. q.pack_alignment) p 4) (option_and_then (storage_in (put_own s v x).objects) (read_storage (put_own s v x) t))) (blind-own_part t n s e w v x ne)
+    ∙ ap (λ o. rows_of c (pack_alignment s n) (option_and_then (storage_in (put_own s v x).objects) o)) (blind-read t s w v x ne)
+    ∙ ap (λ o. rows_of c (pack_alignment s n) o) (blind-own_storage t (read_storage s t) s (λ n e. read_alone s t n e) w v x ne)
 
 blind-gl_reply : (t n : ℕ) (c : CallValue) (s : State) (k : GlKind) → current_context s t ≡ Some n → Blind t s (λ a. done (gl_effect a t n k c))
 blind-gl_reply t n c s GetError e w v x ne = ap (λ p. done (valued (local_value p c) s)) (blind-own_part t n s e w v x ne)
 blind-gl_reply t n c s ClearColorx e w v x ne = ap (λ p. done (valued (local_value p c) s)) (blind-own_part t n s e w v x ne)
-blind-gl_reply t n c s ReadPixels e w v x ne = ap (λ b. done (record { waits = false; value = pos 0; list = []; bytes = b; state = s })) (blind-read_pixels t c s w v x ne)
+blind-gl_reply t n c s ReadPixels e w v x ne = ap (λ b. done (record { waits = false; value = pos 0; list = []; bytes = b; state = s })) (blind-read_pixels t n c s e w v x ne)
+blind-gl_reply t n c s PixelStorei e w v x ne = ap (λ p. done (valued (local_value p c) s)) (blind-own_part t n s e w v x ne)
+blind-gl_reply t n c s GetIntegerv e w v x ne = ap (λ p. done (valued (local_value p c) s)) (blind-own_part t n s e w v x ne)
+blind-gl_reply t n c s GenTextures e w v x ne =
+    ap (λ g. done (generated (put_own s v x) g textures (number c 0))) (blind-group_of t n s w v x ne)
+    ∙ ap (λ xs. done (record { waits = false; value = pos 0; list = map (λ i. pos i) (given (number c 0) xs); bytes = []; state = s })) (blind-names t (group_of s n) textures s w v x ne)
+blind-gl_reply t n c s IsTexture e w v x ne =
+    ap (λ g. done (valued (name_value (object_named (put_own s v x) g textures (number c 0))) s)) (blind-group_of t n s w v x ne)
+    ∙ ap (λ o. done (valued (name_value o) s)) (blind-named t (group_of s n) textures (number c 0) s w v x ne)
 blind-gl_reply t n c s k e w v x ne = refl
 
 -- ---- Steps.

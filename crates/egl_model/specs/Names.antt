@@ -1,5 +1,5 @@
 -- Names of a share group (OpenGL ES 1.1, section 3.7.11).
-use Rattle.std.specs.Prelude.{ℕ, ℤ, pos, List, [], if◌then◌else◌, is_some, Option}
+use Rattle.std.specs.Prelude.{ℕ, ℤ, pos, false, List, [], map, if◌then◌else◌, is_some, Option}
 use Rattle.std.specs.Option.{option_map_or}
 use Rattle.driver_objects.specs.Links.{linked_names}
 use Rattle.driver_objects.specs.declared.kinds.ObjectKind.{ObjectKind}
@@ -8,9 +8,10 @@ use Rattle.share_group.specs.declared.names.NameKind.TheVariants.{Texture, Buffe
 use Rattle.share_group.specs.declared.names.Name.{Name}
 use Rattle.share_group.specs.declared.names.NameKind.{NameKind}
 use Rattle.share_group.specs.Groups.{GroupValue, names_of, with_names}
-use Rattle.share_group.specs.Names.{after, object_of}
+use Rattle.share_group.specs.Names.{after, given, object_of}
 use Rattle.egl_model.specs.State.{State}
-use Rattle.egl_model.specs.Objects.{context_in, group_in}
+use Rattle.egl_model.specs.Effects.{Effect}
+use Rattle.egl_model.specs.Objects.{change_group, context_in, group_in}
 
 -- the kind of the objects that names of a kind have
 abbrev pub kind_named : NameKind → ObjectKind
@@ -40,3 +41,13 @@ with_more k count g = with_names k (after count (names_of k g)) g
 
 abbrev pub with_name_of : NameKind → ℕ → Option ℕ → GroupValue → GroupValue
 with_name_of k name o g = with_names k (linked_names name o (names_of k g)) g
+
+-- glGenTextures and its kin: so many of the smallest unused names are used from then on
+abbrev pub generated : State → ℕ → NameKind → ℕ → Effect
+generated s g k count = record {
+  waits = false;
+  value = pos 0;
+  list = map (λ i. pos i) (given count (names_in s g k));
+  bytes = [];
+  state = record s { objects = change_group (with_more k count) g s.objects };
+}

@@ -6,10 +6,10 @@ use std::alloc::Global;
 const KEPT: u64 = 1_997;
 
 /// How many times a surface and a context come and go.
-const ROUNDS: u64 = 3_768;
+const ROUNDS: u64 = 3_266;
 
 /// How many lines are left up to 100,000.
-const REST: u64 = 19;
+const REST: u64 = 7;
 
 /// How many pairs of an attribute and its value a long list has.
 const PAIRS: u64 = 512;
@@ -62,13 +62,25 @@ fn put_drawing(alloc: Global, out: &mut String, k: u64) -> Result<()> {
     out.push_str(&format!(in alloc;
         "0 $t{k} = eglCreatePbufferSurface $d 4 [EGL_WIDTH,4,EGL_HEIGHT,2]\n"
     )?)?;
-    out.push_str(&format!(in alloc; "0 $e{k} = eglCreateContext $d 4 0 []\n")?)?;
+    out.push_str(&format!(in alloc; "0 $e{k} = eglCreateContext $d 4 $c []\n")?)?;
     out.push_str(&format!(in alloc; "0 eglMakeCurrent $d $t{k} $small $e{k}\n")?)?;
     out.push_str(&format!(in alloc; "0 glClearColorx {red} 0 65536 65536\n")?)?;
     put_line(out, "glClear GL_COLOR_BUFFER_BIT")?;
     put_line(out, "glReadPixels 0 0 2 2 GL_RGBA GL_UNSIGNED_BYTE")?;
     out.push_str(&format!(in alloc; "0 eglMakeCurrent $d $small $t{k} $e{k}\n")?)?;
     put_line(out, "glReadPixels 3 1 2 2 GL_RGBA GL_UNSIGNED_BYTE")
+}
+
+/// The group of the context gets two names, of which one becomes a texture with pixels and stays.
+fn put_texture(alloc: Global, out: &mut String, k: u64) -> Result<()> {
+    let level = k % 11;
+    out.push_str(&format!(in alloc; "0 $n{k} = glGenTextures 2\n")?)?;
+    out.push_str(&format!(in alloc; "0 glBindTexture GL_TEXTURE_2D $n{k}.1\n")?)?;
+    out.push_str(&format!(in alloc;
+        "0 glTexImage2D GL_TEXTURE_2D {level} GL_RGBA 1 1 0 GL_RGBA GL_UNSIGNED_BYTE #0a141eff\n"
+    )?)?;
+    out.push_str(&format!(in alloc; "0 glDeleteTextures [$n{k}.0]\n")?)?;
+    Ok(())
 }
 
 /// What is asked of them.
@@ -112,6 +124,7 @@ fn put_kept(alloc: Global, out: &mut String) -> Result<()> {
 fn put_rounds(alloc: Global, out: &mut String) -> Result<()> {
     for k in 0..ROUNDS {
         put_drawing(alloc, out, k)?;
+        put_texture(alloc, out, k)?;
         put_questions(alloc, out, k)?;
         put_end(alloc, out, k)?;
     }
@@ -125,7 +138,7 @@ fn put_rest(out: &mut String) -> Result<()> {
     Ok(())
 }
 
-/// The trace: one large surface and a small one, many that are kept, and others that come and go.
+/// The trace: one large surface and a small one, many that are kept, others that come and go, and textures that stay.
 pub fn trace(alloc: Global) -> Result<String> {
     let mut out = String::from_str(alloc, "egl-trace 1 1\n")?;
     put_lines(&mut out, &FIRST)?;

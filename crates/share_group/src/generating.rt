@@ -1,5 +1,6 @@
 //! New names in a tree.
-ghost use Rattle.std.specs.Prelude.{◌≡◌, ◌+◌, ◌-◌, ◌<◌, ◌≤◌, pos, [], ◌∷◌, ◌++◌, map, length, IfOk, OnOk, OnErr, vec_len, vec_capacity, Some};
+ghost use Rattle.std.specs.Prelude.{◌≡◌, ◌+◌, ◌-◌, ◌<◌, ◌≤◌, pos, [], ◌∷◌, ◌++◌, map, length, All, IfOk, OnOk, OnErr, vec_len, vec_capacity, Some};
+ghost use Rattle.egl_calls.specs.Ranges.{IsNumber};
 ghost use Rattle.share_group.specs.Names as spec;
 ghost use Rattle.share_group.specs.Names.{after, all_without, fresh, given, object_of, objects_in, unused_from, without};
 ghost use Rattle.share_group.specs.Groups.{IsRoot};
@@ -57,6 +58,8 @@ fn room_for_numbers(alloc: Global, count: u32) -> Result<Vec<i64>, NoMemory>
 fn push_number(numbers: &mut Vec<i64>, name: u32)
     requires { 0 < vec_capacity numbers.old - vec_len numbers.old }
     ensures items { numbers.new.items ≡ numbers.old.items ++ pos name ∷ [] }
+    ensures long { length numbers.new.items ≡ length numbers.old.items + 1 }
+    ensures fit { All IsNumber numbers.old.items → All IsNumber numbers.new.items }
     ensures room { vec_capacity numbers.new - vec_len numbers.new + 1 ≡ vec_capacity numbers.old - vec_len numbers.old }
 {
     numbers.push_reserved(i64::from(name));
@@ -66,6 +69,8 @@ fn push_number(numbers: &mut Vec<i64>, name: u32)
 pub(crate) fn generate_in(tree: &mut Tree, alloc: Global, count: u32) -> Result<Vec<i64>, NoMemory>
     requires { IsRoot tree.old }
     ensures names { IfOk result (λ v. v.items ≡ map (λ n. pos n) (given count tree.old.names)) }
+    ensures count { IfOk result (λ v. length v.items ≡ count) }
+    ensures fit { IfOk result (λ v. All IsNumber v.items) }
     ensures used { OnOk result (tree.new ≡ record tree.old { names = after count tree.old.names }) }
     ensures same { OnErr result (tree.new ≡ tree.old) }
     ensures few { length (objects_in tree.new.names) ≤ length (objects_in tree.old.names) }

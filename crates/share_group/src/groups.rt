@@ -1,5 +1,6 @@
 //! Share groups.
-ghost use Rattle.std.specs.Prelude.{◌≡◌, ◌<◌, [], map, pos, length, slice_get, slice_index, is_some, IfOk, OnOk, OnErr, None, Some};
+ghost use Rattle.std.specs.Prelude.{◌≡◌, ◌<◌, [], map, pos, length, All, slice_get, slice_index, is_some, IfOk, OnOk, OnErr, None, Some};
+ghost use Rattle.egl_calls.specs.Ranges.{IsNumber};
 ghost use Rattle.share_group.specs.Names as spec;
 ghost use Rattle.share_group.specs.Names.{after, given, object_of, objects_in, without, Rise};
 ghost use Rattle.share_group.specs.Groups.{edges_of, names_of, with_names};
@@ -56,6 +57,8 @@ impl Group {
     /// Want of memory, and too few unused names, are the one refusal: all is as it was.
     pub fn generate(&mut self, kind: NameKind, n: u32) -> Result<Numbers, NoMemory>
         ensures names { IfOk result (λ v. v ≡ map (λ i. pos i) (given n (names_of kind self.old))) }
+        ensures count { IfOk result (λ v. length v ≡ n) }
+        ensures fit { IfOk result (λ v. All IsNumber v) }
         ensures used { OnOk result (self.new ≡ with_names kind (after n (names_of kind self.old)) self.old) }
         ensures same { OnErr result (self.new ≡ self.old) }
     {

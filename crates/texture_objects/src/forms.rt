@@ -8,7 +8,7 @@ use egl_names::codes::{
     GL_ALPHA, GL_LUMINANCE, GL_LUMINANCE_ALPHA, GL_RGB, GL_RGBA, GL_UNSIGNED_BYTE,
     GL_UNSIGNED_SHORT_4_4_4_4, GL_UNSIGNED_SHORT_5_5_5_1, GL_UNSIGNED_SHORT_5_6_5,
 };
-use pixel_formats::Format;
+use pixel_formats::{Base, Format, base_of};
 
 /// A byte for each component of a format.
 fn byte_form(format: u64) -> Option<Format>
@@ -51,4 +51,17 @@ pub fn form_of(format: i64, kind: i64) -> Option<Format>
         return Some(Format::Rgba5551);
     }
     None
+}
+
+/// The code of the base format of a storage format (OpenGL ES 1.1, "Texture Image Specification").
+pub fn base_code(format: Format) -> u64
+    ensures { result ≡ forms.base_code format }
+{
+    match base_of(format) {
+        Base::Rgb => GL_RGB,
+        Base::Rgba => GL_RGBA,
+        Base::Alpha => GL_ALPHA,
+        Base::Luminance => GL_LUMINANCE,
+        Base::LuminanceAlpha => GL_LUMINANCE_ALPHA,
+    }
 }

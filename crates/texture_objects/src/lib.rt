@@ -12,13 +12,13 @@ mod parameters;
 mod textures;
 mod uploads;
 
-pub use forms::form_of;
+pub use forms::{base_code, form_of};
 pub use laws::{
     accepts_the_table, answers_what_is_set, is_complete_by_its_levels, is_floor_of_log,
     is_plain_without_mipmaps, keeps_other_parameters, null_gives_a_part_zeros, null_gives_zeros,
     reads_pixels_at_their_places, samples_the_greatest_level,
 };
 pub use levels::{LEVELS, Shape};
-pub use parameters::{MagFilter, MinFilter, WrapMode};
+pub use parameters::{MagFilter, MinFilter, WrapMode, is_parameter_pair};
 pub use textures::Texture;
 pub use uploads::{tex_image, tex_sub_image};

@@ -2,11 +2,13 @@
 ghost use Rattle.std.specs.Prelude.{◌≡◌, ◌^◌, ◌<◌};
 ghost use Rattle.texture_objects.specs.MagFilters as mag;
 ghost use Rattle.texture_objects.specs.MinFilters as min;
+ghost use Rattle.texture_objects.specs.Textures.{is_parameter_pair};
 ghost use Rattle.texture_objects.specs.WrapModes as wrap;
 
 use egl_names::codes::{
     GL_CLAMP_TO_EDGE, GL_LINEAR, GL_LINEAR_MIPMAP_LINEAR, GL_LINEAR_MIPMAP_NEAREST, GL_NEAREST,
-    GL_NEAREST_MIPMAP_LINEAR, GL_NEAREST_MIPMAP_NEAREST, GL_REPEAT,
+    GL_NEAREST_MIPMAP_LINEAR, GL_NEAREST_MIPMAP_NEAREST, GL_REPEAT, GL_TEXTURE_MAG_FILTER,
+    GL_TEXTURE_MIN_FILTER, GL_TEXTURE_WRAP_S, GL_TEXTURE_WRAP_T,
 };
 
 /// How a texture is drawn smaller: the filter within a level, and with mipmaps that between levels (OpenGL ES 1.1, "Texture Minification").
@@ -32,6 +34,38 @@ pub enum MagFilter {
 pub enum WrapMode {
     Repeat,
     ClampToEdge,
+}
+
+fn is_min_filter(code: u64) -> bool
+    ensures { result ≡ min.is_min_filter code }
+{
+    code == GL_NEAREST
+        || code == GL_LINEAR
+        || code == GL_NEAREST_MIPMAP_NEAREST
+        || code == GL_LINEAR_MIPMAP_NEAREST
+        || code == GL_NEAREST_MIPMAP_LINEAR
+        || code == GL_LINEAR_MIPMAP_LINEAR
+}
+
+fn is_mag_filter(code: u64) -> bool
+    ensures { result ≡ mag.is_mag_filter code }
+{
+    code == GL_NEAREST || code == GL_LINEAR
+}
+
+fn is_wrap_mode(code: u64) -> bool
+    ensures { result ≡ wrap.is_wrap_mode code }
+{
+    code == GL_REPEAT || code == GL_CLAMP_TO_EDGE
+}
+
+/// Whether a parameter of glTexParameterx may have a value, both by their codes (OpenGL ES 1.1, "Texture Parameters").
+pub fn is_parameter_pair(pname: u64, value: u64) -> bool
+    ensures { result ≡ is_parameter_pair pname value }
+{
+    pname == GL_TEXTURE_MIN_FILTER && is_min_filter(value)
+        || pname == GL_TEXTURE_MAG_FILTER && is_mag_filter(value)
+        || (pname == GL_TEXTURE_WRAP_S || pname == GL_TEXTURE_WRAP_T) && is_wrap_mode(value)
 }
 
 /// The filter of a code.

@@ -90,6 +90,7 @@ pub fn gl_refusal(call: &Call) -> Option<GlError>
 {
     let facts = GlFacts {
         is_framebuffer_complete: true,
+        ..GlFacts::none()
     };
     call_rules::gl_refusal(call, &facts)
 }

@@ -19,6 +19,7 @@ use Rattle.trace_reader.specs.Heads.{HeadValue, bare, is_bare, video_line, head_
 use Rattle.trace_reader.specs.Numerals.{numeral}
 use Rattle.trace_reader.specs.Order.{more_variables}
 use Rattle.trace_reader.specs.Pixels.{pixel_bytes}
+use Rattle.trace_reader.specs.Payloads.{payload_bytes}
 use Rattle.trace_reader.specs.Traces.{TraceValue}
 use Rattle.trace_reader.specs.Words.{words, is_skipped}
 use Rattle.journal_text.proofs.CutLaws.{split_both}
@@ -67,39 +68,39 @@ no_header = refl
 
 -- ---- Body lines.
 module _ (head : HeadValue) (names : List (List ℕ)) where
-  refused : (n count pixels : ℕ) (read : List Line) (ls : List (List ℕ)) (out : List Line) → read_body head names n count pixels read (mark ∷ ls) ≡ Ok out → ⊥
-  refused n count pixels read ls out h =
-      let f : Line → Result (List Line) Defect = λ l. read_body head names (n + 1) (more_variables count l.assigns) (pixels + pixel_bytes head.windows l.call) (read ++ l ∷ []) ls in
-      let at : Result Line Reason → Result (List Line) Defect = λ r. body_then n (within_limits head.windows (length read) pixels r) f in
+  refused : (n count pixels payloads : ℕ) (read : List Line) (ls : List (List ℕ)) (out : List Line) → read_body head names n count pixels payloads read (mark ∷ ls) ≡ Ok out → ⊥
+  refused n count pixels payloads read ls out h =
+      let f : Line → Result (List Line) Defect = λ l. read_body head names (n + 1) (more_variables count l.assigns) (pixels + pixel_bytes head.windows l.call) (payloads + payload_bytes l.call) (read ++ l ∷ []) ls in
+      let at : Result Line Reason → Result (List Line) Defect = λ r. body_then n (within_limits head.windows (length read) pixels payloads r) f in
       let body = at (body_of head.threads names count n (words mark)) in
-      let behind : body ≡ Ok out = sym (cond-false (is_skipped mark) (read_body head names (n + 1) count pixels read ls) body not_skipped) ∙ h in
+      let behind : body ≡ Ok out = sym (cond-false (is_skipped mark) (read_body head names (n + 1) count pixels payloads read ls) body not_skipped) ∙ h in
       no_value (record { line = n; reason = Thread }) out (sym (ap at (no_thread head.threads count n names)) ∙ behind)
 
   abbrev Goes : List (List ℕ) → Type 0
-  Goes ls = (n count pixels : ℕ) (read out : List Line) → read_body head names n count pixels read ls ≡ Ok out → AreOther ls
+  Goes ls = (n count pixels payloads : ℕ) (read out : List Line) → read_body head names n count pixels payloads read ls ≡ Ok out → AreOther ls
 
   behind_line : (n : ℕ) (r : Result Line Reason) (more : Line → Result (List Line) Defect) (out : List Line) (P : Type 0) → ((l : Line) → more l ≡ Ok out → P) → body_then n r more ≡ Ok out → P
   behind_line n (Ok l) more out P on h = on l h
   behind_line n (Err r) more out P on h = absurd (no_value (record { line = n; reason = r }) out h)
 
-  behind : (ls : List (List ℕ)) → Goes ls → (n count pixels : ℕ) (read : List Line) (said : Result Line Reason) (out : List Line) (skipped : Bool) →
-      cond skipped (read_body head names (n + 1) count pixels read ls) (body_then n (within_limits head.windows (length read) pixels said) (λ l. read_body head names (n + 1) (more_variables count l.assigns) (pixels + pixel_bytes head.windows l.call) (read ++ l ∷ []) ls)) ≡ Ok out → AreOther ls
-  behind ls on n count pixels read said out true h = on (n + 1) count pixels read out h
-  behind ls on n count pixels read said out false h =
-      behind_line n (within_limits head.windows (length read) pixels said) (λ l. read_body head names (n + 1) (more_variables count l.assigns) (pixels + pixel_bytes head.windows l.call) (read ++ l ∷ []) ls) out (AreOther ls)
-      (λ l g. on (n + 1) (more_variables count l.assigns) (pixels + pixel_bytes head.windows l.call) (read ++ l ∷ []) out g) h
+  behind : (ls : List (List ℕ)) → Goes ls → (n count pixels payloads : ℕ) (read : List Line) (said : Result Line Reason) (out : List Line) (skipped : Bool) →
+      cond skipped (read_body head names (n + 1) count pixels payloads read ls) (body_then n (within_limits head.windows (length read) pixels payloads said) (λ l. read_body head names (n + 1) (more_variables count l.assigns) (pixels + pixel_bytes head.windows l.call) (payloads + payload_bytes l.call) (read ++ l ∷ []) ls)) ≡ Ok out → AreOther ls
+  behind ls on n count pixels payloads read said out true h = on (n + 1) count pixels payloads read out h
+  behind ls on n count pixels payloads read said out false h =
+      behind_line n (within_limits head.windows (length read) pixels payloads said) (λ l. read_body head names (n + 1) (more_variables count l.assigns) (pixels + pixel_bytes head.windows l.call) (payloads + payload_bytes l.call) (read ++ l ∷ []) ls) out (AreOther ls)
+      (λ l g. on (n + 1) (more_variables count l.assigns) (pixels + pixel_bytes head.windows l.call) (payloads + payload_bytes l.call) (read ++ l ∷ []) out g) h
 
   body_other : (ls : List (List ℕ)) → Goes ls
-  body_other [] n count pixels read out h = tt
-  body_other (l ∷ ls) n count pixels read out h = (
-    other l (λ e. refused n count pixels read ls out (subst (λ (x : List ℕ). read_body head names n count pixels read (x ∷ ls) ≡ Ok out) e h)),
-    behind ls (body_other ls) n count pixels read (body_of head.threads names count n (words l)) out (is_skipped l) h,
+  body_other [] n count pixels payloads read out h = tt
+  body_other (l ∷ ls) n count pixels payloads read out h = (
+    other l (λ e. refused n count pixels payloads read ls out (subst (λ (x : List ℕ). read_body head names n count pixels payloads read (x ∷ ls) ≡ Ok out) e h)),
+    behind ls (body_other ls) n count pixels payloads read (body_of head.threads names count n (words l)) out (is_skipped l) h,
   )
 
 -- ---- The lines in front of them.
 module _ (names : List (List ℕ)) (t : TraceValue) where
-  with_body : (head : HeadValue) (ls : List (List ℕ)) (n : ℕ) (r : Result (List Line) Defect) → read_body head names n 0 0 [] ls ≡ r → with_lines head r ≡ Ok t → AreOther ls
-  with_body head ls n (Ok read) q h = body_other head names ls n 0 0 [] read q
+  with_body : (head : HeadValue) (ls : List (List ℕ)) (n : ℕ) (r : Result (List Line) Defect) → read_body head names n 0 0 0 [] ls ≡ r → with_lines head r ≡ Ok t → AreOther ls
+  with_body head ls n (Ok read) q h = body_other head names ls n 0 0 0 [] read q
   with_body head ls n (Err d) q h = absurd (no_value d t h)
 
   abbrev Reads : List (List ℕ) → Type 0
@@ -114,10 +115,10 @@ module _ (names : List (List ℕ)) (t : TraceValue) where
       cc
 
   at_line : (l : List ℕ) (ls : List (List ℕ)) → Reads ls → (head : HeadValue) (n : ℕ) (o : Option (Result HeadValue Reason)) → head_line head l ≡ o →
-      head_then n o (λ next. read_on names next (n + 1) ls) (with_lines head (read_body head names n 0 0 [] (l ∷ ls))) ≡ Ok t → AreOther (l ∷ ls)
+      head_then n o (λ next. read_on names next (n + 1) ls) (with_lines head (read_body head names n 0 0 0 [] (l ∷ ls))) ≡ Ok t → AreOther (l ∷ ls)
   at_line l ls on head n (Some (Ok next)) q h = (other l (of_head head l next q), on next (n + 1) h)
   at_line l ls on head n (Some (Err r)) q h = absurd (no_value (record { line = n; reason = r }) t h)
-  at_line l ls on head n None q h = with_body head (l ∷ ls) n (read_body head names n 0 0 [] (l ∷ ls)) refl h
+  at_line l ls on head n None q h = with_body head (l ∷ ls) n (read_body head names n 0 0 0 [] (l ∷ ls)) refl h
 
   head_other : (ls : List (List ℕ)) → Reads ls
   head_other [] head n h = tt

@@ -1,4 +1,6 @@
-use Rattle.std.proofs.Common.{◌≡◌, ◌∙◌, ap, sym, refl, arith, map, pos, ℕ, List}
+use Rattle.std.proofs.Common.{◌≡◌, ◌∙◌, ap, sym, refl, arith, map, pos, length, ℕ, List}
+use Rattle.std.proofs.lemmas.List.Elements.{All-nil}
+use Rattle.egl_calls.specs.Ranges.{IsNumber}
 use Rattle.share_group.specs.Trees.{TreeValue}
 use Rattle.share_group.proofs.NameLaws.{objects_after}
 use Rattle.share_group.proofs.GenLaws.{more_tree, more_names, more_numbers, taken_tree, no_more, none_given}
@@ -11,6 +13,8 @@ each-init c = record {
   last = refl;
   names = c.in_ok-names.ensures.empty ∙ sym (none_given _);
   numbers = c.in_ok-numbers.ensures.empty ∙ sym (ap (λ (ns : List ℕ). map (λ i. pos i) ns) (none_given c.args.tree.now.names));
+  long = ap length c.in_ok-numbers.ensures.empty;
+  fit = rw c.in_ok-numbers.ensures.empty (All-nil IsNumber);
   room = omega (arith, c.in_ok-names.ensures.room);
   more = omega (arith, c.in_ok-numbers.ensures.room);
 }
@@ -31,6 +35,8 @@ each-preserved c = record {
   last = ap (λ (t : TreeValue). t.last) c.in-Ok.ensures.used ∙ c.each.invariant.last;
   names = more_names c.each._k c.args.tree.now.names c.each.tree.names c.each.names.items _ c.in-Ok.name c.each.invariant.tree c.each.invariant.names c.in-Ok.ensures.name c.push_reserved.ensures.items;
   numbers = more_numbers c.each._k c.args.tree.now.names c.each.tree.names c.each.numbers.items _ c.in-Ok.name c.each.invariant.tree c.each.invariant.numbers c.in-Ok.ensures.name c.push_number.ensures.items;
+  long = omega (arith, c.push_number.ensures.long, c.each.invariant.long);
+  fit = c.push_number.ensures.fit c.each.invariant.fit;
   room = omega (arith, c.push_reserved.ensures.len, c.push_reserved.ensures.capacity, c.each.invariant.room);
   more = omega (arith, c.push_number.ensures.room, c.each.invariant.more);
 }

@@ -1,0 +1,188 @@
+//! Payloads: bytes in hexadecimal digits, or the null pointer.
+ghost use Rattle.std.specs.Prelude.{◌≡◌, ◌*◌, ◌/◌, ◌<◌, ◌≤◌, ◌++◌, [], length, position, Some, true, IfOk, IfSome, OnOk};
+ghost use Rattle.std.specs.List.{list_all};
+ghost use Rattle.std.specs.Option.{option_map};
+ghost use Rattle.trace_reader.specs.Hexadecimals.{is_hex_digit, hex_digit};
+ghost use Rattle.trace_reader.specs.Payloads.{are_byte_digits, counted, given_bytes, hex_bytes, is_colon, most_line_payload, most_repeats, payload, payload_bytes, payload_size, repeated, repeats};
+
+use crate::hexadecimals::{hex_digit, is_hex_digit};
+use crate::numerals::numeral;
+use crate::word_cuts::begins_with;
+use egl_calls::{Bytes, Call, NoMemory, Payload};
+use std::alloc::Global;
+use std::marker::Model;
+
+/// How many times a payload may give its bytes.
+const MOST_REPEATS: u64 = 4_294_967_295;
+
+/// A payload as a word says it: the null pointer, or the digits of bytes and how many times they stand. Its value are the bytes, which aren't in memory yet.
+#[derive(Drop)]
+pub struct PayloadWord<'a> {
+    count: u64,
+    digits: Option<&'a [u8]>,
+}
+
+impl<'a> Model for PayloadWord<'a> {
+    ghost use Rattle.std.specs.Prelude.{◌≡◌, ◌<◌, ◌≤◌, ◌^◌, ℕ, List, Option, IfSome, length, true};
+    ghost use Rattle.std.specs.Option.{option_map};
+    ghost use Rattle.trace_reader.specs.Payloads.{are_byte_digits, hex_bytes, most_repeats, repeated};
+
+    ghost Value = { Option (List ℕ) };
+
+    ghost view = { λ p. option_map (λ d. repeated p.count (hex_bytes d.now)) p.digits };
+
+    ghost invariant = { λ p. (p.count ≤ most_repeats) × IfSome p.digits (λ d. (are_byte_digits d.now ≡ true) × (length d.now < 2 ^ 64)) };
+}
+
+fn are_hex_digits(text: &[u8]) -> bool
+    ensures { result ≡ list_all is_hex_digit text.now }
+{
+    text.iter().all(|b| is_hex_digit(*b))
+}
+
+fn are_byte_digits(digits: &[u8]) -> bool
+    ensures { result ≡ are_byte_digits digits.now }
+{
+    digits.len() % 2 == 0 && are_hex_digits(digits)
+}
+
+/// The bytes of digits, so many times.
+fn counted(count: u64, digits: &[u8]) -> Option<PayloadWord<'_>>
+    requires { count ≤ most_repeats }
+    ensures { result ≡ option_map Some (counted (Some count) digits.now) }
+{
+    if are_byte_digits(digits) {
+        Some(PayloadWord {
+            count,
+            digits: Some(digits),
+        })
+    } else {
+        None
+    }
+}
+
+fn colon_in(text: &[u8]) -> Option<usize>
+    ensures place { result ≡ position is_colon text.now }
+    ensures within { IfSome result (λ n. n < length text.now) }
+{
+    text.iter().position(|b| *b == b':')
+}
+
+/// The bytes of `COUNT:HEX`.
+#[tactic(auto, unfolding(crate::specs::Payloads::repeats))]
+fn repeats(text: &[u8]) -> Option<PayloadWord<'_>>
+    ensures { result ≡ option_map Some (repeats text.now) }
+{
+    match colon_in(text) {
+        Some(colon) => {
+            let (count, _) = text.split_at(colon);
+            let (_, digits) = text.split_at(colon + 1);
+            match numeral(MOST_REPEATS, count) {
+                Some(count) => counted(count, digits),
+                None => None,
+            }
+        }
+        None => None,
+    }
+}
+
+/// The payload that a word says: `-` is the null pointer, `#HEX` gives bytes once and `*COUNT:HEX` so many times.
+#[tactic(auto, unfolding(crate::specs::Payloads::payload))]
+pub fn payload_word(word: &[u8]) -> Option<PayloadWord<'_>>
+    ensures { result ≡ payload word.now }
+{
+    if word == b"-".as_slice() {
+        return Some(PayloadWord::null());
+    }
+    if begins_with(word, b'#') {
+        return counted(1, &word[1..]);
+    }
+    if begins_with(word, b'*') {
+        return repeats(&word[1..]);
+    }
+    None
+}
+
+/// Adds the bytes of digits.
+fn push_bytes(bytes: &mut Bytes, digits: &[u8]) -> Result<(), NoMemory>
+    requires { are_byte_digits digits.now ≡ true }
+    ensures { OnOk result (bytes.new ≡ bytes.old ++ hex_bytes digits.now) }
+{
+    for k in 0..digits.len() / 2 {
+        let byte = 16 * hex_digit(digits[2 * k]) + hex_digit(digits[2 * k + 1]);
+        bytes.push(byte as u8)?;
+    }
+    Ok(())
+}
+
+/// No bytes, with room for so many.
+fn no_bytes(alloc: Global, room: usize) -> Result<Bytes, NoMemory>
+    ensures { IfOk result (λ b. b ≡ []) }
+{
+    match Vec::with_capacity(alloc, room) {
+        Ok(items) => Ok(Bytes::from_vec(items)),
+        Err(_) => Err(NoMemory),
+    }
+}
+
+/// The bytes of digits, so many times. They are decoded in their place, once room for all of them is taken.
+#[tactic(auto, using(crate::proofs::PayloadLaws::repeated_nothing, crate::proofs::PayloadLaws::repeated_more))]
+fn repeated(alloc: Global, count: u64, digits: &[u8]) -> Result<Bytes, NoMemory>
+    requires digits { are_byte_digits digits.now ≡ true }
+    requires few { count * (length digits.now / 2) ≤ most_line_payload }
+    ensures { IfOk result (λ b. b ≡ repeated count (hex_bytes digits.now)) }
+{
+    if digits.is_empty() {
+        return Ok(Bytes::new(alloc));
+    }
+    let mut bytes = no_bytes(alloc, count as usize * (digits.len() / 2))?;
+    'times: for _ in 0..count {
+        push_bytes(&mut bytes, digits)?;
+    }
+    Ok(bytes)
+}
+
+impl<'a> PayloadWord<'a> {
+    pub fn null() -> PayloadWord<'a>
+        ensures { result ≡ None }
+    {
+        PayloadWord {
+            count: 0,
+            digits: None,
+        }
+    }
+
+    /// How many bytes it has.
+    pub fn size(&self) -> u128
+        ensures { result ≡ payload_size self.now }
+    {
+        match self.digits {
+            Some(digits) => self.count as u128 * (digits.len() / 2) as u128,
+            None => 0,
+        }
+    }
+
+    /// The same in memory.
+    pub fn into_payload(self, alloc: Global) -> Result<Option<Payload>, NoMemory>
+        requires { payload_size self ≤ most_line_payload }
+        ensures { IfOk result (λ p. p ≡ self.entry) }
+    {
+        match self.digits {
+            Some(digits) => {
+                let bytes = repeated(alloc, self.count, digits)?;
+                Ok(Some(Payload::new(alloc, bytes)?))
+            }
+            None => Ok(None),
+        }
+    }
+}
+
+/// How many bytes the payload of a call has.
+pub fn payload_bytes(call: &Call) -> u64
+    ensures { result ≡ payload_bytes call.now }
+{
+    match &call.bytes {
+        Some(payload) => payload.bytes().len(),
+        None => 0,
+    }
+}
