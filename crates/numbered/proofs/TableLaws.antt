@@ -7,16 +7,14 @@ use Rattle.std.specs.Prelude.{is_some, IsSome, nat_eq, option_copied}
 use Rattle.std.specs.Borrow.{Bor}
 use Rattle.std.specs.Int.RustNames.{bit_and}
 use Rattle.std.specs.Map.{lookup}
-use Rattle.std.specs.Vec.{with_item}
-use Rattle.indexmap.specs.IndexMap.{get, Updates, WritesThrough}
+use Rattle.indexmap.specs.IndexMap.{get, Updates}
 use Rattle.numbered.specs.declared.homes.Home.{Home}
 use Rattle.numbered.specs.declared.homes.Home.TheVariants.{Vacant, Taken}
 use Rattle.numbered.specs.declared.table.Table.{Table}
-use Rattle.numbered.specs.Homes.{value_of, put_value, home_at, IsSplit}
+use Rattle.numbered.specs.Homes.{value_of, home_at, IsSplit}
 use Rattle.numbered.specs.Tables.{first_of, homed, found, IsSized, IsLaid, Puts}
-use Rattle.numbered.specs.TableLends.{with_home, Writes}
-use Rattle.numbered.proofs.HomeLaws.{taken_same, taken_other, not_of, put_same, put_other, home_below, write_same, write_other, split_found, pow_pos}
-use Rattle.numbered.proofs.MapLaws.{updates_others, same_gets, set_absent}
+use Rattle.numbered.proofs.HomeLaws.{taken_same, taken_other, not_of, home_below, write_same, write_other, split_found, pow_pos}
+use Rattle.numbered.proofs.MapLaws.{updates_others}
 
 first_none : {X : Type 0} (a b : Option X) → first_of a b ≡ None → (a ≡ None) × (b ≡ None)
 first_none None b e = (refl, e)
@@ -66,6 +64,7 @@ module _ {X : Type 0} where
       ];
       sized = rw (long, mask) laid.sized;
     };
+    as_many = long;
   }
 
   -- a vacant home takes a value
@@ -84,20 +83,6 @@ module _ {X : Type 0} where
       (λ m ne. rw (homes, mask) (write_other t.homes.items t.mask n m Vacant l (sym (not_of n m (home_at t.homes.items (bit_and n t.mask)) some ne))))
       (laid.once n some) laid
 
-  -- it is written
-  pub home_written : (t : Table X) (n : ℕ) (w : X) → IsSome (homed t n) → Writes t (with_home t n w) n w
-  home_written t n w some =
-      let l = home_below t.homes.items t.mask n some in
-      let h = home_at t.homes.items (bit_and n t.mask) in
-      record {
-        some = λ _ laid. homes_put t (with_home t n w) n (Some w) refl refl (length-set t.homes.items (bit_and n t.mask) (put_value h w))
-            (write_same t.homes.items t.mask n (put_value h w) l ∙ put_same n h w some)
-            (λ m ne. write_other t.homes.items t.mask n m (put_value h w) l (put_other n m h w some ne ∙ sym (not_of n m h some ne)))
-            (laid.once n some) laid;
-        none = λ none. absurd (false≢true (sym (ap is_some (found_none t n none).0) ∙ some));
-        room = refl;
-      }
-
   -- the others change at a number that isn't at home
   pub others_put : (t t' : Table X) (n : ℕ) (w : Option X) → t'.homes ≡ t.homes → t'.mask ≡ t.mask → homed t n ≡ None → Updates nat_eq t.others t'.others n w → IsLaid t → Puts t t' n w
   unfolding found
@@ -113,6 +98,7 @@ module _ {X : Type 0} where
               rest m (λ e. false≢true (sym (ap is_some none) ∙ ap (λ q. is_some (homed t q)) (sym e) ∙ some)) ∙ laid.once m some;
           sized = rw (homes, mask) laid.sized;
         };
+        as_many = rw homes refl;
       }
 
   -- every number has what it had
@@ -125,18 +111,6 @@ module _ {X : Type 0} where
     once = λ n h. others n ∙ laid.once n (rw (homes n) at h);
     sized = sized;
   }
-
-  -- the others are written at a number that isn't at home
-  pub others_written : (t t' : Table X) (n : ℕ) (w : X) → t'.homes ≡ t.homes → t'.mask ≡ t.mask → homed t n ≡ None → WritesThrough nat_eq (nat_eq n) t.others w t'.others → Writes t t' n w
-  others_written t t' n w homes mask none through =
-      let same : (m : ℕ) → homed t' m ≡ homed t m = λ m. rw (homes, mask) refl in
-      record {
-        some = λ h laid. others_put t t' n (Some w) homes mask none (through.3 (rw (found_other t n none) at h)) laid;
-        none = λ absent.
-            let gets = same_gets t.others t'.others (through.0 ∙ set_absent (nat_eq n) t.others.entries w (sym (found_other t n none) ∙ absent)) in
-            (λ laid. same_laid t t' same gets (rw (homes, mask) laid.sized) laid, same_found t t' same gets);
-        room = through.6;
-      }
 
   -- no value
   pub none_homed : (t : Table X) (n : ℕ) → t.homes.items ≡ [] → homed t n ≡ None
@@ -203,7 +177,3 @@ module _ {X : Type 0} where
             found = same_found t t' same gets;
             laid = same_laid t t' same gets (inr (1 + k, split.long ∙ twice count k e, mask ∙ ap (λ c. c - 1) (ap (λ c. 2 * c) e ∙ sym (pow-add 2 1 k)))) laid;
           }
-
-  -- the home that is lent
-  pub home_lent : (t : Table X) (n p : ℕ) (h : Home X) (w : X) → p ≡ bit_and n t.mask → h ≡ home_at t.homes.items (bit_and n t.mask) → record { homes = with_item t.homes p (put_value h w); mask = t.mask; others = t.others } ≡ with_home t n w
-  home_lent t n p h w e f = rw (e, f) refl

@@ -1,6 +1,6 @@
 //! Values by number.
 
-ghost use Rattle.std.specs.Prelude.{◌≡◌, ℕ, ◌+◌, ◌-◌, ◌<◌, ◌^◌, [], length, is_some, Some, None, IsSome, OnOk, OnErr, slice_set, option_copied};
+ghost use Rattle.std.specs.Prelude.{◌≡◌, ℕ, ◌+◌, ◌-◌, ◌*◌, ◌<◌, ◌≤◌, ◌^◌, max, [], length, is_some, Some, None, IsSome, OnOk, OnErr, slice_set, option_copied};
 ghost use Rattle.std.specs.Borrow.{sem};
 ghost use Rattle.std.specs.List.{count_by};
 ghost use Rattle.std.specs.Option.{option_copied_mut};
@@ -8,6 +8,7 @@ ghost use Rattle.numbered.specs.Lists.{at};
 ghost use Rattle.numbered.specs.Lends.{lends_value};
 
 use crate::table::Table;
+use slab::Slab;
 use std::alloc::Global;
 use std::marker::Model;
 
@@ -15,12 +16,13 @@ use std::marker::Model;
 #[derive(Clone, Copy, Debug, PartialEq, Eq, Drop)]
 pub struct NoRoom;
 
-/// Values, each under a number that its caller gives. Memory goes by the most values that stood there at once.
+/// Values in a slab, each under a number that its caller gives. Memory goes by the most values that stood there at once.
 ///
-/// Contracts see a list with a place for each number below its length, and how many more values fit with no memory.
+/// Contracts see a list with a place for each number below its length, how many more values fit with no memory, and how many homes the numbers have.
 #[derive(Drop)]
 pub struct Numbered<X: Drop> {
-    table: Table<X>,
+    table: Table<usize>,
+    values: Slab<X>,
     end: u64,
     live: u64,
     room: u64,
@@ -33,11 +35,12 @@ impl<X: Drop> Model for Numbered<X> {
 
     ghost coded = { numbered_code X.code };
 
-    ghost use Rattle.numbered.specs.Maps.{listed, IsNumbered};
+    ghost use Rattle.std.specs.Prelude.{length};
+    ghost use Rattle.numbered.specs.Maps.{held, listed, IsNumbered};
 
-    ghost view = { λ s. record { items = listed s.end s.table; room = s.room } };
+    ghost view = { λ s. record { items = listed s.end (held s.table s.values); room = s.room; homes = length s.table.homes.items } };
 
-    ghost invariant = { λ s. IsNumbered s.end s.live s.room s.table };
+    ghost invariant = { λ s. IsNumbered s.end s.live s.room s.table s.values };
 }
 
 // The most values that there may be, with the room that was made for more.
@@ -48,9 +51,11 @@ impl<X: Drop> Numbered<X> {
     pub fn new(alloc: Global) -> Self
         ensures items { result.items ≡ [] }
         ensures room { result.room ≡ 0 }
+        ensures homes { result.homes ≡ 0 }
     {
         Numbered {
             table: Table::new(alloc),
+            values: Slab::new(alloc),
             end: 0,
             live: 0,
             room: 0,
@@ -61,9 +66,13 @@ impl<X: Drop> Numbered<X> {
     pub fn reserve(&mut self, more: u64) -> Result<(), NoRoom>
         ensures items { self.new.items ≡ self.old.items }
         ensures room { OnOk result (self.new.room ≡ more) }
+        ensures homes { self.new.homes ≤ max self.old.homes (2 * (count_by is_some self.old.items + more)) }
         ensures err { OnErr result (self.new ≡ self.old) }
     {
         if more > MOST - self.live {
+            return Err(NoRoom);
+        }
+        if self.values.reserve(more as usize).is_err() {
             return Err(NoRoom);
         }
         match self.table.reserve(self.live, more) {
@@ -80,7 +89,10 @@ impl<X: Drop> Numbered<X> {
     pub fn get(&self, n: u64) -> Option<&X>
         ensures { option_copied result ≡ at self.now.items n }
     {
-        self.table.get(n)
+        match self.table.get(n) {
+            Some(key) => self.values.get(*key),
+            None => None,
+        }
     }
 
     /// The value of a number, to write.
@@ -89,7 +101,13 @@ impl<X: Drop> Numbered<X> {
         ensures* writes_back { sem 𝓛 (lends_value X.row self.entry n result) }
         ensures value { option_copied_mut result ≡ at self.old.items n }
     {
-        self.table.get_mut(n)
+        match self.table.get(n) {
+            Some(key) => {
+                let key = *key;
+                self.values.get_mut(key)
+            }
+            None => None,
+        }
     }
 
     /// Makes the list long enough for a number. It takes no memory.
@@ -98,6 +116,7 @@ impl<X: Drop> Numbered<X> {
         ensures long { n < length self.new.items }
         ensures same { (m : ℕ) → at self.new.items m ≡ at self.old.items m }
         ensures room { self.new.room ≡ self.old.room }
+        ensures homes { self.new.homes ≡ self.old.homes }
     {
         if self.end <= n {
             self.end = n + 1;
@@ -111,8 +130,10 @@ impl<X: Drop> Numbered<X> {
         requires room { 0 < self.old.room }
         ensures items { self.new.items ≡ slice_set self.old.items n (Some value) }
         ensures room { self.new.room + 1 ≡ self.old.room }
+        ensures homes { self.new.homes ≡ self.old.homes }
     {
-        self.table.put(n, value);
+        let key = self.values.insert_reserved(value);
+        self.table.put(n, key);
         self.live += 1;
         self.room -= 1;
     }
@@ -122,25 +143,32 @@ impl<X: Drop> Numbered<X> {
         ensures value { result ≡ at self.old.items n }
         ensures items { self.new.items ≡ slice_set self.old.items n None }
         ensures room { self.new.room ≡ self.old.room }
+        ensures homes { self.new.homes ≡ self.old.homes }
     {
         match self.table.take(n) {
-            Some(value) => {
+            Some(key) => {
                 self.live -= 1;
-                Some(value)
+                Some(self.values.remove(key))
             }
             None => None,
         }
     }
 
-    /// Drops the value of a number, where it stands if that is at home. Its room stays with the values, as after `remove`.
+    /// Drops the value of a number. Its room stays with the values, as after `remove`.
     #[inline(always)]
     pub fn clear(&mut self, n: u64)
         requires stored { IsSome (at self.old.items n) }
         ensures items { self.new.items ≡ slice_set self.old.items n None }
         ensures room { self.new.room ≡ self.old.room }
+        ensures homes { self.new.homes ≡ self.old.homes }
     {
-        self.table.clear(n);
-        self.live -= 1;
+        match self.table.take(n) {
+            Some(key) => {
+                self.values.remove(key);
+                self.live -= 1;
+            }
+            None => unreachable!(),
+        }
     }
 
     /// There are few values. This is a law: there is nothing to run.

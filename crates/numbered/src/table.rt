@@ -1,14 +1,11 @@
 //! Where values by number stand.
 
-ghost use Rattle.std.specs.Prelude.{◌≡◌, ℕ, ◌+◌, ◌<◌, ◌≤◌, is_some, Some, None, IsSome, true, length, OnOk, option_copied};
-ghost use Rattle.std.specs.Borrow.{sem};
-ghost use Rattle.std.specs.Option.{option_copied_mut};
+ghost use Rattle.std.specs.Prelude.{◌≡◌, ℕ, ◌+◌, ◌*◌, ◌<◌, ◌≤◌, max, is_some, Some, None, IsSome, true, length, OnOk, OnErr, option_copied};
 ghost use Rattle.std.specs.Int.RustNames.{bit_and};
 ghost use Rattle.indexmap.specs.IndexMap.{spare};
 ghost use Rattle.numbered.specs.Homes.{home_at};
 ghost use Rattle.numbered.specs.declared.homes.Home.{Home as State};
 ghost use Rattle.numbered.specs.Tables.{found, homed, IsLaid, Puts};
-ghost use Rattle.numbered.specs.TableLends.{lends_home, lends_found};
 
 use crate::homes::{Home, split};
 use indexmap::IndexMap;
@@ -27,6 +24,7 @@ impl<X: Drop> Table<X> {
     pub(crate) fn new(alloc: Global) -> Self
         ensures none { (n : ℕ) → found result n ≡ None }
         ensures laid { IsLaid result }
+        ensures homes { length result.homes.items ≡ 0 }
     {
         Table {
             homes: Vec::new(alloc),
@@ -71,36 +69,6 @@ impl<X: Drop> Table<X> {
         }
     }
 
-    fn home_mut(&mut self, n: u64) -> &mut X
-        requires { IsSome (homed self.old n) }
-        ensures* writes_back { sem 𝓛 (lends_home X.row self.entry n result) }
-        ensures value { homed self.old n ≡ Some result.now }
-    {
-        let place = self.place(n);
-        self.homes[place].value_mut()
-    }
-
-    #[inline(never)]
-    fn other_mut(&mut self, n: u64) -> Option<&mut X>
-        requires { homed self.old n ≡ None }
-        ensures* writes_back { sem 𝓛 (lends_found X.row self.entry n result) }
-        ensures value { option_copied_mut result ≡ found self.old n }
-    {
-        self.others.get_mut(&n)
-    }
-
-    #[inline(always)]
-    pub(crate) fn get_mut(&mut self, n: u64) -> Option<&mut X>
-        ensures* writes_back { sem 𝓛 (lends_found X.row self.entry n result) }
-        ensures value { option_copied_mut result ≡ found self.old n }
-    {
-        if self.home(n).is_some() {
-            Some(self.home_mut(n))
-        } else {
-            self.other_mut(n)
-        }
-    }
-
     // Whether the home is there, and vacant.
     fn is_free(&self, place: usize) -> bool
         ensures { result ≡ true → (place < length self.now.homes.items) × (home_at self.now.homes.items place ≡ State.Vacant) }
@@ -141,6 +109,7 @@ impl<X: Drop> Table<X> {
         self.others.swap_remove(&n)
     }
 
+    #[inline(always)]
     pub(crate) fn take(&mut self, n: u64) -> Option<X>
         requires laid { IsLaid self.old }
         ensures value { result ≡ found self.old n }
@@ -155,27 +124,13 @@ impl<X: Drop> Table<X> {
         }
     }
 
-    // Drops the value of a number, at home where it stands.
-    #[inline(always)]
-    pub(crate) fn clear(&mut self, n: u64)
-        requires laid { IsLaid self.old }
-        ensures cleared { Puts self.old self.new n None }
-        ensures room { spare self.old.others ≤ spare self.new.others }
-    {
-        if self.home(n).is_some() {
-            let place = self.place(n);
-            self.homes[place] = Home::Vacant;
-        } else {
-            self.take_other(n);
-        }
-    }
-
     // Twice as many homes. With no memory there stay as many as there are, and the others take what comes.
     fn widen(&mut self)
         requires laid { IsLaid self.old }
         ensures found { (n : ℕ) → found self.new n ≡ found self.old n }
         ensures laid { IsLaid self.new }
         ensures others { self.new.others ≡ self.old.others }
+        ensures homes { length self.new.homes.items ≤ max 1 (2 * length self.old.homes.items) }
     {
         let count = self.homes.len();
         if self.homes.reserve(count.max(1)).is_err() {
@@ -196,10 +151,13 @@ impl<X: Drop> Table<X> {
         ensures laid { IsLaid self.new }
         ensures ok { OnOk result (more ≤ spare self.new.others) }
         ensures room { spare self.old.others ≤ spare self.new.others }
+        ensures homes { length self.new.homes.items ≤ max (length self.old.homes.items) (2 * (values + more)) }
+        ensures err { OnErr result (length self.new.homes.items ≡ length self.old.homes.items) }
     {
+        self.others.reserve(more as usize)?;
         if (self.homes.len() as u64) < values.saturating_add(more) {
             self.widen();
         }
-        self.others.reserve(more as usize)
+        Ok(())
     }
 }
