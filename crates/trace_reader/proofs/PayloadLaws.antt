@@ -1,11 +1,8 @@
 -- Payloads, byte after byte.
-use Rattle.std.proofs.Common.{◌≡◌, ℕ, zero, suc, ◌+◌, ◌*◌, ◌/◌, ◌%◌, ◌^◌, ◌==◌, ◌&&◌, Bool, true, false, ◌<◌, ◌≤◌, List, [], ◌∷◌, ◌++◌, length, drop, get_or, refl, sym, ap, ◌∙◌, arith, append_assoc, append-nil, add-one, length-append, drop-cons}
-use Rattle.std.proofs.lemmas.Bool.{false≢true}
+use Rattle.std.proofs.Common.{◌≡◌, ℕ, zero, suc, ◌+◌, ◌*◌, ◌/◌, ◌^◌, ◌<◌, ◌≤◌, List, [], ◌∷◌, ◌++◌, length, drop, get_or, refl, sym, ap, ◌∙◌, arith, append_assoc, append-nil, add-one, length-append, drop-cons}
 use Rattle.std.proofs.lemmas.Nat.{mul-le}
-use Rattle.std.proofs.lemmas.List.Folds.{list_all_at}
-use Rattle.std.specs.List.{list_all}
-use Rattle.trace_reader.specs.Hexadecimals.{is_hex_digit, hex_digit}
-use Rattle.trace_reader.specs.Payloads.{are_byte_digits, hex_bytes, repeated}
+use Rattle.trace_reader.specs.Hexadecimals.{hex_digit}
+use Rattle.trace_reader.specs.Payloads.{hex_bytes, repeated}
 
 -- two digits are a byte
 pub length-hex_bytes : (ds : List ℕ) → length (hex_bytes ds) ≡ length ds / 2
