@@ -48,6 +48,11 @@ fn fill_rows<const N: usize>(
     requires form { N ≡ formats.bytes_of f }
     ensures { Rewritten no_pixel (in_block width block) (λ _ old. masks.written f mask old p) (seen f cells.old) (seen f cells.new) }
 {
+    // Whole rows lie behind one another.
+    if block.left == 0 && block.right == width {
+        write_range(cells, block.bottom * width, block.top * width, f, p, mask);
+        return;
+    }
     'rows: for y in block.bottom..block.top {
         let start = y * width;
         write_range(cells, start + block.left, start + block.right, f, p, mask);
