@@ -1,4 +1,6 @@
 //! Buffer objects (OpenGL ES 1.1, section 2.9).
+//!
+//! Its tests are in `rule_check`.
 #![tactic(auto)]
 
 mod buffers;

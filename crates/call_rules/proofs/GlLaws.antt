@@ -14,13 +14,13 @@ use Rattle.egl_calls.specs.declared.errors.GlError.TheVariants.{OutOfMemory}
 use Rattle.egl_calls.specs.Ranges.{unsigned}
 use Rattle.egl_names.specs.declared.codes.TheConstants.{GL_RGB, GL_RGBA, GL_UNSIGNED_BYTE, GL_UNSIGNED_SHORT_5_6_5}
 use Rattle.call_rules.specs.declared.gl_facts.GlFacts.{GlFacts}
-use Rattle.call_rules.specs.Rows.{AllOff, IsFirst, ◌⇒◌, first_error}
+use Rattle.refusal_rows.specs.Rows.{AllOff, IsFirst, ◌⇒◌, first_error}
 use Rattle.egl_calls.specs.Arguments.{number, signed}
 use Rattle.pixel_rows.specs.Rects.{IsInSide}
 use Rattle.call_rules.specs.GlRules.{buffer_bits, is_no_side, is_read_format, is_read_type, is_read_pair, read_format, read_type, gl_rows, gl_refusal_by, gl_refusal}
 use Rattle.call_rules.specs.TextureRules.{asked_image_rows, is_no_level_side, is_no_part, memory_row}
 use Rattle.call_rules.specs.GlAllowed.{ClearAllowed, ImageAllowed, ImageAsked, IsSide, PartAllowed, ReadAllowed}
-use Rattle.call_rules.proofs.RowLaws.{all_off, first_is, first_of, from_others, none_on, past_off}
+use Rattle.refusal_rows.proofs.RowLaws.{all_off, first_is, first_of, from_others, none_on, past_off}
 use Rattle.call_rules.proofs.TestLaws.{not_below, is_not_below, within, past, is_past}
 
 of_kind : (c : CallValue) (f : GlFacts) (k : GlKind) → c.kind ≡ Gl k → gl_refusal c f ≡ first_error (gl_rows k c f)

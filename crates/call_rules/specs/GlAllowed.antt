@@ -9,7 +9,7 @@ use Rattle.texture_objects.specs.Uploads.{given_form, part_rect}
 use Rattle.call_rules.specs.declared.gl_facts.GlFacts.{GlFacts}
 use Rattle.egl_calls.specs.Arguments.{number, signed}
 use Rattle.call_rules.specs.GlRules.{buffer_bits, read_format, read_type}
-use Rattle.call_rules.specs.Rows.{AllOff}
+use Rattle.refusal_rows.specs.Rows.{AllOff}
 use Rattle.call_rules.specs.TextureRules.{asked_image_rows, is_no_level, is_no_level_side}
 
 -- glClear (OpenGL ES 1.1, section 4.2.3): the mask adds no bit to those of the buffers

@@ -1,23 +1,25 @@
 -- When each call of OpenGL ES is refused, and with which error: the first row that holds.
 use Rattle.std.specs.Prelude.{ℕ, ℤ, pos, Bool, false, not, ◌&&◌, ◌||◌, ◌==◌, List, [], ◌∷◌, bit_or, int_lt}
 use Rattle.std.specs.declared.option.Option.{Option}
-use Rattle.std.specs.declared.option.Option.TheVariants.{None}
+use Rattle.std.specs.declared.option.Option.TheVariants.{None, Some}
 use Rattle.egl_calls.specs.Calls.{CallValue}
 use Rattle.egl_calls.specs.declared.kinds.Kind.{Kind}
 use Rattle.egl_calls.specs.declared.kinds.Kind.TheVariants.{Gl}
 use Rattle.egl_calls.specs.declared.kinds.GlKind.{GlKind}
-use Rattle.egl_calls.specs.declared.kinds.GlKind.TheVariants.{GetError, Flush, Finish, ClearColorx, Clear, ReadPixels, PixelStorei, GetIntegerv, GenTextures, DeleteTextures, IsTexture, BindTexture, TexParameterx, TexParameteriv, TexImage2d, TexSubImage2d}
+use Rattle.egl_calls.specs.declared.kinds.GlKind.TheVariants.{Flush, Finish, Clear, ReadPixels, GenTextures, DeleteTextures, IsTexture, BindTexture, TexParameterx, TexParameteriv, TexImage2d, TexSubImage2d}
 use Rattle.egl_calls.specs.declared.errors.GlError.{GlError}
 use Rattle.egl_calls.specs.declared.errors.GlError.TheVariants.{InvalidEnum, InvalidValue, InvalidOperation, InvalidFramebufferOperation}
 use Rattle.egl_calls.specs.Ranges.{unsigned}
 use Rattle.egl_names.specs.declared.codes.TheConstants.{GL_RGB, GL_RGBA, GL_UNSIGNED_BYTE, GL_UNSIGNED_SHORT_5_6_5, GL_COLOR_BUFFER_BIT, GL_DEPTH_BUFFER_BIT, GL_STENCIL_BUFFER_BIT}
-use Rattle.egl_calls.specs.declared.places.TheConstants.{FORMAT, HEIGHT, INDEX, MASK, PARAM, PNAME, TYPE, WIDTH}
+use Rattle.egl_calls.specs.declared.places.TheConstants.{FORMAT, HEIGHT, MASK, TYPE, WIDTH}
 use Rattle.call_rules.specs.declared.gl_facts.GlFacts.{GlFacts}
-use Rattle.call_rules.specs.Rows.{Row, ◌⇒◌, first_error, unbuilt}
+use Rattle.refusal_rows.specs.Rows.{Row, ◌⇒◌, first_error}
+use Rattle.call_rules.specs.Unbuilt.{unbuilt}
 use Rattle.call_rules.specs.TextureRules.{count_row, crop_length_row, crop_row, image_rows, name_row, parameter_row, part_rows, texture_row}
-use Rattle.context_state.specs.Arguments.{is_index, is_parameter, is_store}
-use Rattle.context_state.specs.Parts.{is_alignment}
-use Rattle.egl_calls.specs.Arguments.{number, signed}
+use Rattle.context_state.specs.Kinds.{context_gl_call}
+use Rattle.context_state.specs.Refusals.{context_rows}
+use Rattle.context_state.specs.declared.kinds.ContextCall.{ContextCall}
+use Rattle.egl_calls.specs.Arguments.{signed}
 
 -- no fact holds, and each number is 0
 abbrev pub no_gl_facts : GlFacts
@@ -69,62 +71,58 @@ read_type c = unsigned (signed c TYPE)
 abbrev pub framebuffer_row : GlFacts → Row GlError
 framebuffer_row f = not f.is_framebuffer_complete ⇒ InvalidFramebufferOperation
 
--- the rows of each call, in the order of the tests
-abbrev pub gl_rows : GlKind → CallValue → GlFacts → List (Row GlError)
--- OpenGL ES 1.1, section 2.5: never refused
-gl_rows GetError c f = []
--- chapter 5: never refused
-gl_rows Flush c f = []
-gl_rows Finish c f = []
+-- the rows of each call that asks or changes more than its context's own state, in the order of the tests
+abbrev pub object_rows : GlKind → CallValue → GlFacts → List (Row GlError)
+-- OpenGL ES 1.1, chapter 5: never refused
+object_rows Flush c f = []
+object_rows Finish c f = []
 -- section 4.2.3
-gl_rows ClearColorx c f = []
-gl_rows Clear c f =
+object_rows Clear c f =
     (not (is_clear_mask (signed c MASK)) ⇒ InvalidValue) ∷
     framebuffer_row f ∷
     []
 -- section 4.3.1
-gl_rows ReadPixels c f =
+object_rows ReadPixels c f =
     (is_no_side (signed c WIDTH) || is_no_side (signed c HEIGHT) ⇒ InvalidValue) ∷
     (not (is_read_format (read_format c) && is_read_type (read_type c)) ⇒ InvalidEnum) ∷
     (not (is_read_pair (read_format c) (read_type c)) ⇒ InvalidOperation) ∷
     framebuffer_row f ∷
     []
--- section 3.6.1
-gl_rows PixelStorei c f =
-    (not (is_store (number c PNAME)) ⇒ InvalidEnum) ∷
-    (not (is_alignment (number c PARAM)) ⇒ InvalidValue) ∷
-    []
--- section 6.2
-gl_rows GetIntegerv c f =
-    (not (is_parameter (number c PNAME)) ⇒ InvalidEnum) ∷
-    (not (is_index (number c PNAME) (signed c INDEX)) ⇒ InvalidValue) ∷
-    []
 -- section 3.7.11
-gl_rows GenTextures c f =
+object_rows GenTextures c f =
     count_row c ∷
     []
-gl_rows DeleteTextures c f = []
-gl_rows IsTexture c f = []
-gl_rows BindTexture c f =
+object_rows DeleteTextures c f = []
+object_rows IsTexture c f = []
+object_rows BindTexture c f =
     texture_row c ∷
     name_row c ∷
     []
 -- section 3.7.4
-gl_rows TexParameterx c f =
+object_rows TexParameterx c f =
     texture_row c ∷
     parameter_row c ∷
     []
 -- OES_draw_texture
-gl_rows TexParameteriv c f =
+object_rows TexParameteriv c f =
     texture_row c ∷
     crop_row c ∷
     crop_length_row c ∷
     []
 -- sections 3.7.1 and 3.7.2
-gl_rows TexImage2d c f = image_rows c f
-gl_rows TexSubImage2d c f = part_rows c f
+object_rows TexImage2d c f = image_rows c f
+object_rows TexSubImage2d c f = part_rows c f
 -- a call that isn't built
-gl_rows k c f = unbuilt InvalidOperation
+object_rows k c f = unbuilt InvalidOperation
+
+-- a call that asks or sets its context's own state has its rows with that state
+abbrev pub rows_by : Option ContextCall → GlKind → CallValue → GlFacts → List (Row GlError)
+rows_by (Some own) k c f = context_rows own c
+rows_by None k c f = object_rows k c f
+
+-- the rows of each call
+abbrev pub gl_rows : GlKind → CallValue → GlFacts → List (Row GlError)
+gl_rows k c f = rows_by (context_gl_call k) k c f
 
 -- a call that isn't one of OpenGL ES has no row
 abbrev pub gl_refusal_by : Kind → CallValue → GlFacts → Option GlError

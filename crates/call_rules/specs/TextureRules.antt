@@ -10,7 +10,7 @@ use Rattle.egl_names.specs.declared.codes.TheConstants.{GL_ALPHA, GL_LUMINANCE, 
 use Rattle.texture_objects.specs.Forms.{form_of}
 use Rattle.texture_objects.specs.Textures.{is_parameter_pair}
 use Rattle.call_rules.specs.declared.gl_facts.GlFacts.{GlFacts}
-use Rattle.call_rules.specs.Rows.{Row, ◌⇒◌}
+use Rattle.refusal_rows.specs.Rows.{Row, ◌⇒◌}
 
 -- ---- Names.
 -- so many names are given at once, at most

@@ -4,11 +4,10 @@ ghost use Rattle.egl_calls.specs.Arguments.{is_zero};
 ghost use Rattle.call_rules.specs.Kinds.{is_built};
 ghost use Rattle.egl_calls.specs.declared.kinds.EglKind.TheVariants.{CreateWindowSurface, CreatePbufferSurface, SurfaceAttrib, CreateContext, MakeCurrent, CreateSync, WaitSync};
 ghost use Rattle.egl_calls.specs.declared.errors.EglError.TheVariants.{NotInitialized, BadSurface, BadContext, BadParameter};
-ghost use Rattle.call_rules.specs.Rows.{first_error, ◌⇒◌};
+ghost use Rattle.refusal_rows.specs.Rows.{first_error, ◌⇒◌};
 ghost use Rattle.call_rules.specs.EglRules.{egl_refusal, egl_rows, fact_rows, display_row, current_rows, has_attributes, has_code, is_wrong, is_long, is_later_version, is_supported_version};
 
 use crate::egl_facts::EglFacts;
-use crate::rows::first_error;
 use egl_calls::arguments::{is_zero, number};
 use egl_calls::places::{API, ATTRIBUTE, CONTEXT, DRAW, FLAGS, READ, READDRAW, SYNC_TYPE, VALUE};
 use egl_calls::{Call, EglError, EglKind, Kind};
@@ -16,6 +15,7 @@ use egl_names::codes::{
     EGL_BUFFER_DESTROYED, EGL_BUFFER_PRESERVED, EGL_DRAW, EGL_OPENGL_ES_API, EGL_READ,
     EGL_SWAP_BEHAVIOR, EGL_SYNC_FENCE,
 };
+use refusal_rows::first_error;
 
 fn is_long(side: i64) -> bool
     ensures { result ≡ is_long side }

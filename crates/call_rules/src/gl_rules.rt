@@ -1,24 +1,23 @@
 //! When each call of OpenGL ES is refused.
-ghost use Rattle.call_rules.specs.Kinds.{is_built};
+ghost use Rattle.call_rules.specs.Kinds.{is_built, is_object_call};
 ghost use Rattle.std.specs.Prelude.{◌≡◌, true};
 ghost use Rattle.egl_calls.specs.declared.kinds.GlKind.TheVariants.{ReadPixels};
-ghost use Rattle.call_rules.specs.Rows.{first_error};
-ghost use Rattle.call_rules.specs.GlRules.{gl_refusal, gl_rows, framebuffer_row, is_clear_mask, is_no_side, is_read_format, is_read_type, is_read_pair};
+ghost use Rattle.refusal_rows.specs.Rows.{first_error};
+ghost use Rattle.call_rules.specs.GlRules.{gl_refusal, object_rows, framebuffer_row, is_clear_mask, is_no_side, is_read_format, is_read_type, is_read_pair};
 
 use crate::gl_facts::GlFacts;
-use crate::rows::first_error;
 use crate::texture_rules::{
     tex_image, tex_parameteriv, tex_sub_image, wrong_count, wrong_name, wrong_parameter,
     wrong_target,
 };
-use context_state::{is_alignment, is_index, is_parameter, is_store};
-use egl_calls::arguments::{number, signed};
-use egl_calls::places::{INDEX, MASK, PARAM, PNAME};
+use context_state::context_gl_call;
+use egl_calls::places::MASK;
 use egl_calls::{Call, GlError, GlKind, Kind, unsigned};
 use egl_names::codes::{
     GL_COLOR_BUFFER_BIT, GL_DEPTH_BUFFER_BIT, GL_RGB, GL_RGBA, GL_STENCIL_BUFFER_BIT,
     GL_UNSIGNED_BYTE, GL_UNSIGNED_SHORT_5_6_5,
 };
+use refusal_rows::first_error;
 
 const BUFFER_BITS: u64 = GL_COLOR_BUFFER_BIT | GL_DEPTH_BUFFER_BIT | GL_STENCIL_BUFFER_BIT;
 
@@ -64,7 +63,7 @@ fn incomplete(facts: &GlFacts) -> (bool, GlError)
 
 /// OpenGL ES 1.1, section 4.3.1.
 fn read_pixels(call: &Call, facts: &GlFacts) -> Option<GlError>
-    ensures { result ≡ first_error (gl_rows ReadPixels call.now facts.now) }
+    ensures { result ≡ first_error (object_rows ReadPixels call.now facts.now) }
 {
     let [_, _, width, height, format, kind, ..] = call.args;
     let format = unsigned(format);
@@ -81,44 +80,42 @@ fn read_pixels(call: &Call, facts: &GlFacts) -> Option<GlError>
     ])
 }
 
-/// The error that a call of OpenGL ES keeps in its context and comes out with, and None where it isn't refused: a table of the rows of each call, in the order of the tests. A call of another interface has no row.
+/// The error of a call that asks or changes more than its context's own state: a table of the rows of each, in the order of the tests.
+fn object_refusal(kind: GlKind, call: &Call, facts: &GlFacts) -> Option<GlError>
+    requires { is_object_call kind ≡ true }
+    ensures { result ≡ first_error (object_rows kind call.now facts.now) }
+{
+    match kind {
+        GlKind::Flush => None,
+        GlKind::Finish => None,
+        GlKind::Clear => first_error(&[
+            (!is_clear_mask(call.args[MASK]), GlError::InvalidValue),
+            incomplete(facts),
+        ]),
+        GlKind::ReadPixels => read_pixels(call, facts),
+        GlKind::GenTextures => first_error(&[wrong_count(call)]),
+        GlKind::DeleteTextures => None,
+        GlKind::IsTexture => None,
+        GlKind::BindTexture => first_error(&[wrong_target(call), wrong_name(call)]),
+        GlKind::TexParameterx => first_error(&[wrong_target(call), wrong_parameter(call)]),
+        GlKind::TexParameteriv => tex_parameteriv(call, facts),
+        GlKind::TexImage2d => tex_image(call, facts),
+        GlKind::TexSubImage2d => tex_sub_image(call, facts),
+        _ => unreachable!(),
+    }
+}
+
+/// The error that a call of OpenGL ES keeps in its context and comes out with, and None where it isn't refused. A call of another interface has no row.
 #[tactic(auto, unfolding(crate::specs::GlRules::gl_refusal))]
 pub fn gl_refusal(call: &Call, facts: &GlFacts) -> Option<GlError>
     requires { is_built call.now.kind ≡ true }
     ensures { result ≡ gl_refusal call.now facts.now }
 {
     match call.kind {
-        Kind::Gl(GlKind::GetError) => None,
-        Kind::Gl(GlKind::Flush) => None,
-        Kind::Gl(GlKind::Finish) => None,
-        Kind::Gl(GlKind::ClearColorx) => None,
-        Kind::Gl(GlKind::Clear) => first_error(&[
-            (!is_clear_mask(call.args[MASK]), GlError::InvalidValue),
-            incomplete(facts),
-        ]),
-        Kind::Gl(GlKind::ReadPixels) => read_pixels(call, facts),
-        Kind::Gl(GlKind::PixelStorei) => first_error(&[
-            (!is_store(number(call, PNAME)), GlError::InvalidEnum),
-            (!is_alignment(number(call, PARAM)), GlError::InvalidValue),
-        ]),
-        Kind::Gl(GlKind::GetIntegerv) => first_error(&[
-            (!is_parameter(number(call, PNAME)), GlError::InvalidEnum),
-            (
-                !is_index(number(call, PNAME), signed(call, INDEX)),
-                GlError::InvalidValue,
-            ),
-        ]),
-        Kind::Gl(GlKind::GenTextures) => first_error(&[wrong_count(call)]),
-        Kind::Gl(GlKind::DeleteTextures) => None,
-        Kind::Gl(GlKind::IsTexture) => None,
-        Kind::Gl(GlKind::BindTexture) => first_error(&[wrong_target(call), wrong_name(call)]),
-        Kind::Gl(GlKind::TexParameterx) => {
-            first_error(&[wrong_target(call), wrong_parameter(call)])
-        }
-        Kind::Gl(GlKind::TexParameteriv) => tex_parameteriv(call, facts),
-        Kind::Gl(GlKind::TexImage2d) => tex_image(call, facts),
-        Kind::Gl(GlKind::TexSubImage2d) => tex_sub_image(call, facts),
-        Kind::Gl(_) => unreachable!(),
+        Kind::Gl(kind) => match context_gl_call(kind) {
+            Some(own) => context_state::refusal(own, call),
+            None => object_refusal(kind, call, facts),
+        },
         Kind::Egl(_) | Kind::Own(_) => None,
     }
 }

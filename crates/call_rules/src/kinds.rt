@@ -1,8 +1,30 @@
 //! Which calls the driver plays.
 ghost use Rattle.std.specs.Prelude.{◌≡◌};
-ghost use Rattle.call_rules.specs.Kinds.{is_built};
+ghost use Rattle.call_rules.specs.Kinds.{is_built, is_object_call};
 
+use context_state::context_gl_call;
 use egl_calls::{EglKind, GlKind, Kind, OwnKind};
+
+/// Whether a call of OpenGL ES that the driver plays asks or changes more than its context's own state.
+fn is_object_call(kind: GlKind) -> bool
+    ensures { result ≡ is_object_call kind }
+{
+    match kind {
+        GlKind::Flush
+        | GlKind::Finish
+        | GlKind::Clear
+        | GlKind::ReadPixels
+        | GlKind::GenTextures
+        | GlKind::DeleteTextures
+        | GlKind::IsTexture
+        | GlKind::BindTexture
+        | GlKind::TexParameterx
+        | GlKind::TexParameteriv
+        | GlKind::TexImage2d
+        | GlKind::TexSubImage2d => true,
+        _ => false,
+    }
+}
 
 /// Whether the driver plays calls of this kind.
 pub fn is_built(kind: Kind) -> bool
@@ -38,22 +60,7 @@ pub fn is_built(kind: Kind) -> bool
         Kind::Egl(EglKind::ClientWaitSync) => true,
         Kind::Egl(EglKind::WaitSync) => true,
         Kind::Egl(EglKind::GetSyncAttrib) => true,
-        Kind::Gl(GlKind::GetError) => true,
-        Kind::Gl(GlKind::Flush) => true,
-        Kind::Gl(GlKind::Finish) => true,
-        Kind::Gl(GlKind::ClearColorx) => true,
-        Kind::Gl(GlKind::Clear) => true,
-        Kind::Gl(GlKind::ReadPixels) => true,
-        Kind::Gl(GlKind::PixelStorei) => true,
-        Kind::Gl(GlKind::GetIntegerv) => true,
-        Kind::Gl(GlKind::GenTextures) => true,
-        Kind::Gl(GlKind::DeleteTextures) => true,
-        Kind::Gl(GlKind::IsTexture) => true,
-        Kind::Gl(GlKind::BindTexture) => true,
-        Kind::Gl(GlKind::TexParameterx) => true,
-        Kind::Gl(GlKind::TexParameteriv) => true,
-        Kind::Gl(GlKind::TexImage2d) => true,
-        Kind::Gl(GlKind::TexSubImage2d) => true,
+        Kind::Gl(kind) => context_gl_call(kind).is_some() || is_object_call(kind),
         Kind::Own(OwnKind::Post) => true,
         Kind::Own(OwnKind::Await) => true,
         Kind::Own(OwnKind::Census) => true,

@@ -1,13 +1,12 @@
 //! The conditions of the calls on names and on textures (OpenGL ES 1.1, sections 3.7.1, 3.7.2, 3.7.4 and 3.7.11).
 ghost use Rattle.std.specs.Prelude.{◌≡◌};
 ghost use Rattle.egl_calls.specs.declared.kinds.GlKind.TheVariants.{TexImage2d, TexParameteriv, TexSubImage2d};
-ghost use Rattle.call_rules.specs.Rows.{first_error};
-ghost use Rattle.call_rules.specs.GlRules.{gl_rows};
+ghost use Rattle.refusal_rows.specs.Rows.{first_error};
+ghost use Rattle.call_rules.specs.GlRules.{object_rows};
 ghost use Rattle.call_rules.specs.TextureRules.{base_row, border_row, count_row, crop_length_row, crop_row, image_kind_row, image_pair_row, internal_row, is_image_format, is_image_type, is_no_count, is_no_level, is_no_level_side, is_no_part, is_power, level_row, longest_side, memory_row, name_row, parameter_row, part_row, same_format_row, sides_row, storage_row, texture_row};
 
 use crate::egl_rules::exceeds;
 use crate::gl_facts::GlFacts;
-use crate::rows::first_error;
 use egl_calls::arguments::{is_zero, number, signed};
 use egl_calls::places::{
     BORDER, BOUND_NAME, BOUND_PARAM, BOUND_PNAME, COUNT, IMAGE_FORMAT, IMAGE_HEIGHT, IMAGE_TYPE,
@@ -19,6 +18,7 @@ use egl_names::codes::{
     GL_TEXTURE_CROP_RECT_OES, GL_UNSIGNED_BYTE, GL_UNSIGNED_SHORT_4_4_4_4,
     GL_UNSIGNED_SHORT_5_5_5_1, GL_UNSIGNED_SHORT_5_6_5,
 };
+use refusal_rows::first_error;
 use texture_objects::{form_of, is_parameter_pair};
 
 /// How many names one call gives, at most.
@@ -80,7 +80,7 @@ fn wrong_length(call: &Call) -> (bool, GlError)
 
 /// OES_draw_texture.
 pub(crate) fn tex_parameteriv(call: &Call, facts: &GlFacts) -> Option<GlError>
-    ensures { result ≡ first_error (gl_rows TexParameteriv call.now facts.now) }
+    ensures { result ≡ first_error (object_rows TexParameteriv call.now facts.now) }
 {
     let _ = facts;
     first_error(&[wrong_target(call), no_crop(call), wrong_length(call)])
@@ -211,7 +211,7 @@ fn too_many_bytes(facts: &GlFacts) -> (bool, GlError)
 
 /// Section 3.7.1.
 pub(crate) fn tex_image(call: &Call, facts: &GlFacts) -> Option<GlError>
-    ensures { result ≡ first_error (gl_rows TexImage2d call.now facts.now) }
+    ensures { result ≡ first_error (object_rows TexImage2d call.now facts.now) }
 {
     first_error(&[
         wrong_target(call),
@@ -266,7 +266,7 @@ fn other_base(call: &Call, facts: &GlFacts) -> (bool, GlError)
 
 /// Section 3.7.2.
 pub(crate) fn tex_sub_image(call: &Call, facts: &GlFacts) -> Option<GlError>
-    ensures { result ≡ first_error (gl_rows TexSubImage2d call.now facts.now) }
+    ensures { result ≡ first_error (object_rows TexSubImage2d call.now facts.now) }
 {
     first_error(&[
         wrong_target(call),

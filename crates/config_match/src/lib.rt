@@ -1,4 +1,6 @@
 //! The configs of the driver: their attributes, and which of them an attribute list chooses.
+//!
+//! Its tests are in `rule_check`.
 #![tactic(auto)]
 
 mod choose;

@@ -3,4 +3,4 @@ pub mod Parts
 pub mod Kinds
 pub mod Arguments
 pub mod Refusals
-pub mod Local
+pub mod Calls

@@ -1,7 +1,7 @@
 //! The numbers of a call.
 ghost use Rattle.std.specs.Prelude.{◌≡◌, ◌<◌, true, false};
 ghost use Rattle.context_state.specs.Arguments.{box, colour, has_negative_side, is_set, mask};
-ghost use Rattle.context_state.specs.Local.{is_local};
+ghost use Rattle.context_state.specs.Kinds.{is_context_call};
 ghost use Rattle.context_state.specs.Parts.{AreClamped, IsBox, IsClamped, clamped};
 
 use crate::parts::ONE;
@@ -18,7 +18,7 @@ pub(crate) fn has_negative_side(call: &Call) -> bool
 
 /// Left, bottom, width and height.
 pub(crate) fn box_of(call: &Call) -> [i64; 4]
-    requires kind { is_local call.now.kind ≡ true }
+    requires kind { is_context_call call.now.kind ≡ true }
     requires sides { has_negative_side call.now ≡ false }
     ensures value { result ≡ box call.now }
     ensures in_range { IsBox result }

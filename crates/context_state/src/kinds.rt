@@ -1,13 +1,12 @@
-//! The calls of OpenGL ES that read and change the state of their context alone.
+//! The calls of OpenGL ES that ask and set the state of their context alone.
 ghost use Rattle.std.specs.Prelude.{◌≡◌};
-ghost use Rattle.context_state.specs.Kinds.{local_gl_kind, local_kind};
-ghost use Rattle.context_state.specs.Local.{is_local};
+ghost use Rattle.context_state.specs.Kinds.{context_call, context_gl_call, is_context_call};
 
 use egl_calls::{GlKind, Kind};
 
-/// A call of OpenGL ES that reads and changes the state of its context alone.
+/// A call of OpenGL ES that asks or sets the state of its context alone.
 #[derive(Clone, Copy, Debug, PartialEq, Eq, Drop)]
-pub enum LocalKind {
+pub enum ContextCall {
     GetError,
     Enable,
     Disable,
@@ -23,25 +22,26 @@ pub enum LocalKind {
     GetIntegerv,
 }
 
-fn local_gl_kind(kind: GlKind) -> Option<LocalKind>
-    ensures { result ≡ local_gl_kind kind }
+/// The call of this kind, if it asks or sets the state of its context alone.
+pub fn context_gl_call(kind: GlKind) -> Option<ContextCall>
+    ensures { result ≡ context_gl_call kind }
 {
     match kind {
-        GlKind::GetError => Some(LocalKind::GetError),
+        GlKind::GetError => Some(ContextCall::GetError),
         GlKind::Flush => None,
         GlKind::Finish => None,
-        GlKind::Enable => Some(LocalKind::Enable),
-        GlKind::Disable => Some(LocalKind::Disable),
-        GlKind::Scissor => Some(LocalKind::Scissor),
-        GlKind::Viewport => Some(LocalKind::Viewport),
-        GlKind::ClearColorx => Some(LocalKind::ClearColorx),
-        GlKind::Color4x => Some(LocalKind::Color4x),
-        GlKind::ClearDepthx => Some(LocalKind::ClearDepthx),
-        GlKind::ClearStencil => Some(LocalKind::ClearStencil),
-        GlKind::ColorMask => Some(LocalKind::ColorMask),
-        GlKind::TexEnvx => Some(LocalKind::TexEnvx),
-        GlKind::PixelStorei => Some(LocalKind::PixelStorei),
-        GlKind::GetIntegerv => Some(LocalKind::GetIntegerv),
+        GlKind::Enable => Some(ContextCall::Enable),
+        GlKind::Disable => Some(ContextCall::Disable),
+        GlKind::Scissor => Some(ContextCall::Scissor),
+        GlKind::Viewport => Some(ContextCall::Viewport),
+        GlKind::ClearColorx => Some(ContextCall::ClearColorx),
+        GlKind::Color4x => Some(ContextCall::Color4x),
+        GlKind::ClearDepthx => Some(ContextCall::ClearDepthx),
+        GlKind::ClearStencil => Some(ContextCall::ClearStencil),
+        GlKind::ColorMask => Some(ContextCall::ColorMask),
+        GlKind::TexEnvx => Some(ContextCall::TexEnvx),
+        GlKind::PixelStorei => Some(ContextCall::PixelStorei),
+        GlKind::GetIntegerv => Some(ContextCall::GetIntegerv),
         GlKind::Clear => None,
         GlKind::ReadPixels => None,
         GlKind::DrawTexi => None,
@@ -82,20 +82,20 @@ fn local_gl_kind(kind: GlKind) -> Option<LocalKind>
     }
 }
 
-/// The call of this kind, if it reads and changes the state of its context alone.
-pub fn local_kind(kind: Kind) -> Option<LocalKind>
-    ensures { result ≡ local_kind kind }
+/// The same of a call of any interface.
+pub fn context_call(kind: Kind) -> Option<ContextCall>
+    ensures { result ≡ context_call kind }
 {
     match kind {
         Kind::Egl(_) => None,
-        Kind::Gl(kind) => local_gl_kind(kind),
+        Kind::Gl(kind) => context_gl_call(kind),
         Kind::Own(_) => None,
     }
 }
 
-/// Whether a call of this kind reads and changes the state of its context alone, so that `ContextPart::apply` does it: glGetError, glEnable, glDisable, glScissor, glViewport, glClearColorx, glColor4x, glClearDepthx, glClearStencil, glColorMask, glTexEnvx, glPixelStorei and glGetIntegerv.
-pub fn is_local(kind: Kind) -> bool
-    ensures { result ≡ is_local kind }
+/// Whether a call of this kind asks or sets the state of its context alone, so that `ContextPart::apply` does it.
+pub fn is_context_call(kind: Kind) -> bool
+    ensures { result ≡ is_context_call kind }
 {
-    local_kind(kind).is_some()
+    context_call(kind).is_some()
 }

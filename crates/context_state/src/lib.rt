@@ -1,14 +1,16 @@
-//! The state that a context of OpenGL ES keeps for itself, and the calls that read and change it alone.
+//! The state that a context of OpenGL ES keeps for itself, and the calls that ask and set it alone.
+//!
+//! Its tests are in `rule_check`.
 #![tactic(auto)]
 
 mod arguments;
 mod bindings;
+mod calls;
 mod kinds;
-mod local_calls;
 mod parts;
 mod refusals;
 
 pub use bindings::Bindings;
-pub use kinds::{LocalKind, is_local, local_kind};
+pub use kinds::{ContextCall, context_call, context_gl_call, is_context_call};
 pub use parts::ContextPart;
-pub use refusals::{is_alignment, is_index, is_parameter, is_store};
+pub use refusals::refusal;

@@ -70,6 +70,27 @@ impl ContextPart {
         }
     }
 
+    /// A second copy of it. It takes no memory.
+    pub fn copy(&self) -> ContextPart
+        ensures { result ≡ self.now }
+    {
+        ContextPart {
+            error: self.error,
+            clear_color: self.clear_color,
+            color: self.color,
+            mask: self.mask,
+            viewport: self.viewport,
+            scissor_box: self.scissor_box,
+            is_scissor_enabled: self.is_scissor_enabled,
+            is_texture_enabled: self.is_texture_enabled,
+            is_replacing: self.is_replacing,
+            pack_alignment: self.pack_alignment,
+            unpack_alignment: self.unpack_alignment,
+            bound: self.bound,
+            was_current: self.was_current,
+        }
+    }
+
     /// The context is made current with a draw surface of these sides. The first time, its viewport and its scissor box become the surface (EGL 1.5, section 3.7.3).
     pub fn first_current(&mut self, w: u32, h: u32)
         ensures { self.new ≡ first_current w h self.old }

@@ -6,7 +6,7 @@ ghost use Rattle.context_state.specs.Refusals.{refusal};
 
 use crate::arguments::has_negative_side;
 use crate::bindings::is_binding_code;
-use crate::kinds::LocalKind;
+use crate::kinds::ContextCall;
 use egl_calls::arguments::{number, signed};
 use egl_calls::places::{CAP, ENVIRONMENT_PARAM, ENVIRONMENT_PNAME, INDEX, PARAM, PNAME, TARGET};
 use egl_calls::{Call, GlError};
@@ -16,6 +16,7 @@ use egl_names::codes::{
     GL_SCISSOR_TEST, GL_STENCIL_TEST, GL_TEXTURE_2D, GL_TEXTURE_ENV, GL_TEXTURE_ENV_MODE,
     GL_UNPACK_ALIGNMENT, GL_VIEWPORT,
 };
+use refusal_rows::first_error;
 
 fn may_enable(cap: u64) -> bool
     ensures { result ≡ may_enable cap }
@@ -47,14 +48,14 @@ fn is_environment(target: u64, pname: u64, param: u64) -> bool
 }
 
 /// Whether a code is that of a parameter of glPixelStorei (OpenGL ES 1.1, section 3.6.1).
-pub fn is_store(pname: u64) -> bool
+fn is_store(pname: u64) -> bool
     ensures { result ≡ is_store pname }
 {
     pname == GL_UNPACK_ALIGNMENT || pname == GL_PACK_ALIGNMENT
 }
 
 /// Whether rows of pixels may be aligned to so many bytes: 1, 2, 4 or 8.
-pub fn is_alignment(n: u64) -> bool
+fn is_alignment(n: u64) -> bool
     ensures { result ≡ is_alignment n }
 {
     n == 1 || n == 2 || n == 4 || n == 8
@@ -67,71 +68,60 @@ fn is_box_name(pname: u64) -> bool
 }
 
 /// Whether a code is that of a parameter of glGetIntegerv (section 6.2).
-pub fn is_parameter(pname: u64) -> bool
+fn is_parameter(pname: u64) -> bool
     ensures { result ≡ is_parameter pname }
 {
     is_binding_code(pname) || is_box_name(pname) || pname == GL_MAX_TEXTURE_SIZE || is_store(pname)
 }
 
 /// Whether a parameter of glGetIntegerv has a value at a place: the boxes have four, each other parameter one.
-pub fn is_index(pname: u64, index: i64) -> bool
+fn is_index(pname: u64, index: i64) -> bool
     ensures { result ≡ is_index pname index }
 {
     let last = if is_box_name(pname) { 3 } else { 0 };
     index >= 0 && index <= last
 }
 
-/// The error that refuses a call: that of the first condition that holds.
-pub(crate) fn refusal(kind: LocalKind, call: &Call) -> Option<GlError>
+/// The error that refuses a call, and None where it isn't refused: that of the first row that holds, in the order of the tests.
+pub fn refusal(kind: ContextCall, call: &Call) -> Option<GlError>
     ensures { result ≡ refusal kind call.now }
 {
     match kind {
-        LocalKind::Enable => {
-            if !may_enable(number(call, CAP)) {
-                return Some(GlError::InvalidEnum);
-            }
+        ContextCall::Enable => first_error(&[(
+            !may_enable(number(call, CAP)),
+            GlError::InvalidEnum,
+        )]),
+        ContextCall::Disable => first_error(&[(
+            !may_disable(number(call, CAP)),
+            GlError::InvalidEnum,
+        )]),
+        ContextCall::Scissor | ContextCall::Viewport => {
+            first_error(&[(has_negative_side(call), GlError::InvalidValue)])
         }
-        LocalKind::Disable => {
-            if !may_disable(number(call, CAP)) {
-                return Some(GlError::InvalidEnum);
-            }
-        }
-        LocalKind::Scissor | LocalKind::Viewport => {
-            if has_negative_side(call) {
-                return Some(GlError::InvalidValue);
-            }
-        }
-        LocalKind::TexEnvx => {
-            if !is_environment(
+        ContextCall::TexEnvx => first_error(&[(
+            !is_environment(
                 number(call, TARGET),
                 number(call, ENVIRONMENT_PNAME),
                 number(call, ENVIRONMENT_PARAM),
-            ) {
-                return Some(GlError::InvalidEnum);
-            }
-        }
-        LocalKind::PixelStorei => {
-            if !is_store(number(call, PNAME)) {
-                return Some(GlError::InvalidEnum);
-            }
-            if !is_alignment(number(call, PARAM)) {
-                return Some(GlError::InvalidValue);
-            }
-        }
-        LocalKind::GetIntegerv => {
-            if !is_parameter(number(call, PNAME)) {
-                return Some(GlError::InvalidEnum);
-            }
-            if !is_index(number(call, PNAME), signed(call, INDEX)) {
-                return Some(GlError::InvalidValue);
-            }
-        }
-        LocalKind::GetError
-        | LocalKind::ClearColorx
-        | LocalKind::Color4x
-        | LocalKind::ClearDepthx
-        | LocalKind::ClearStencil
-        | LocalKind::ColorMask => {}
+            ),
+            GlError::InvalidEnum,
+        )]),
+        ContextCall::PixelStorei => first_error(&[
+            (!is_store(number(call, PNAME)), GlError::InvalidEnum),
+            (!is_alignment(number(call, PARAM)), GlError::InvalidValue),
+        ]),
+        ContextCall::GetIntegerv => first_error(&[
+            (!is_parameter(number(call, PNAME)), GlError::InvalidEnum),
+            (
+                !is_index(number(call, PNAME), signed(call, INDEX)),
+                GlError::InvalidValue,
+            ),
+        ]),
+        ContextCall::GetError
+        | ContextCall::ClearColorx
+        | ContextCall::Color4x
+        | ContextCall::ClearDepthx
+        | ContextCall::ClearStencil
+        | ContextCall::ColorMask => None,
     }
-    None
 }

@@ -1,4 +1,6 @@
 //! The two displays and their handles: which displays are initialised, and which objects the valid handles name.
+//!
+//! Its tests are in `table_check`.
 #![tactic(auto)]
 
 mod displays;

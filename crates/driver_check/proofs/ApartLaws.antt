@@ -3,8 +3,8 @@ use Rattle.std.proofs.Common.{◌≡◌, ℕ, ◌+◌, ◌<◌, arith, Bool, fal
 use Rattle.egl_calls.specs.Calls.{CallValue}
 use Rattle.egl_model.specs.State.{capacity, opening}
 use Rattle.egl_model.specs.Step.{step}
-use Rattle.egl_model.specs.Frame.{IsReady}
-use Rattle.egl_model.specs.Hidden.{hide}
+use Rattle.model_laws.specs.Frame.{IsReady}
+use Rattle.model_laws.specs.Hidden.{hide}
 use Rattle.egl_model.specs.Parts.{Private, part_of}
 use Rattle.driver_core.specs.Machine.{Machine, outs}
 use Rattle.driver_check.specs.Apart.{IsApart, IsJoined}

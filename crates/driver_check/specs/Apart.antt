@@ -1,8 +1,8 @@
 -- A driver without the part of its first thread.
 use Rattle.std.specs.Prelude.{◌≡◌, true, false, slice_index_or}
 use Rattle.egl_model.specs.State.{State}
-use Rattle.egl_model.specs.Frame.{IsReady}
-use Rattle.egl_model.specs.Hidden.{hide}
+use Rattle.model_laws.specs.Frame.{IsReady}
+use Rattle.model_laws.specs.Hidden.{hide}
 use Rattle.egl_model.specs.Parts.{Private, part_of}
 use Rattle.driver_core.specs.Machine.{Machine, outs}
 

@@ -2,16 +2,16 @@
 ghost use Rattle.std.specs.Prelude.{◌≡◌, ◌<◌, true, false, [], ◌∷◌, slice_index_or, OnOk};
 ghost use Rattle.call_rules.specs.Kinds.{is_built};
 ghost use Rattle.egl_model.specs.State.{State, opening};
-ghost use Rattle.egl_model.specs.Sound.{IsSound};
-ghost use Rattle.egl_model.specs.Hidden.{hide};
-ghost use Rattle.egl_model.specs.Local.{is_local};
+ghost use Rattle.model_laws.specs.Sound.{IsSound};
+ghost use Rattle.model_laws.specs.Hidden.{hide};
+ghost use Rattle.model_laws.specs.Local.{is_local};
 ghost use Rattle.egl_model.specs.Step.{step};
 ghost use Rattle.driver_core.specs.Machine.{outs};
 ghost use Rattle.driver_check.specs.Apart.{IsApart, IsJoined};
 
 use driver_core::{Driver, a_part_fits_after_local_calls};
 use egl_calls::{Call, NoMemory, Reply, ReplyPair};
-use egl_model::part_laws::{a_step_keeps_other_parts, histories_are_ready};
+use model_laws::part_laws::{a_step_keeps_other_parts, histories_are_ready};
 use ref_store::Steps;
 use std::alloc::Global;
 use std::marker::Brand;

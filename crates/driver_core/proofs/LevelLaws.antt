@@ -3,7 +3,7 @@ use Rattle.std.proofs.Common.{◌≡◌, ℕ, ◌+◌, ◌<◌, ◌≤◌, ℤ, 
 use Rattle.std.proofs.lemmas.Bool.{cases_lt, eqb-true, ltb-false, not-false}
 use Rattle.std.proofs.lemmas.List.{set_past}
 use Rattle.std.specs.List.{sum_by}
-use Rattle.egl_model.proofs.Places.{same_at_set}
+use Rattle.model_laws.proofs.Places.{same_at_set}
 use Rattle.std.proofs.lemmas.Int.{ints}
 use Rattle.std.proofs.lemmas.List.Sums.{sum_by-append, sum_by-set}
 use Rattle.std.specs.Prelude.{IfSome, IsSome, int_lt, is_some}
@@ -31,7 +31,7 @@ use Rattle.driver_objects.specs.declared.objects.Object.{Object}
 use Rattle.driver_objects.specs.declared.objects.Object.TheVariants.{Context, Storage}
 use Rattle.egl_model.specs.State.{State}
 use Rattle.egl_model.specs.Sweep.{swept}
-use Rattle.egl_model.proofs.TextureCalls.{side_few}
+use Rattle.model_laws.proofs.TextureCalls.{side_few}
 use Rattle.object_table.specs.Lets.{Lets}
 use Rattle.object_table.specs.Links.{IsLeft}
 use Rattle.object_table.specs.Tables.{AreHolds, TableValue, weight_of}

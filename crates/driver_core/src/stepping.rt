@@ -5,7 +5,7 @@ ghost use Rattle.driver_core.specs.Releases.{links, releases};
 ghost use Rattle.egl_model.specs.Sweep.{sweep};
 ghost use Rattle.thread_part.specs.Memory.{clears_nothing};
 ghost use Rattle.driver_core.specs.Memory.{egl_takes_no_memory, gl_takes_no_memory, takes_no_memory, is_bare, is_bare_on};
-ghost use Rattle.call_rules.specs.Kinds.{is_built};
+ghost use Rattle.call_rules.specs.Kinds.{is_built, is_object_call};
 ghost use Rattle.egl_calls.specs.declared.kinds.Kind.TheVariants.{Egl as EglCall, Gl as GlCall};
 ghost use Rattle.egl_calls.specs.Ranges.{IsNumber};
 ghost use Rattle.attrib_lists.specs.Lists.{bad_place};
@@ -14,25 +14,23 @@ ghost use Rattle.config_match.specs.Configs.{chosen};
 ghost use Rattle.egl_model.specs.EglFacts.{egl_refusal};
 ghost use Rattle.egl_model.specs.GlFacts.{gl_refusal};
 ghost use Rattle.egl_model.specs.EglEffects.{egl_effect};
-ghost use Rattle.egl_model.specs.GlEffects.{gl_effect};
+ghost use Rattle.egl_model.specs.GlEffects.{gl_effect, object_effect};
 ghost use Rattle.egl_model.specs.Step.{egl_step, gl_step, step, step_by, done};
 ghost use Rattle.egl_model.specs.Currents.{current_context};
 ghost use Rattle.egl_model.specs.State.{State, record_of};
-ghost use Rattle.egl_model.specs.Sound.{IsSound};
-ghost use Rattle.egl_model.specs.Hidden.{hide};
+ghost use Rattle.model_laws.specs.Sound.{IsSound};
+ghost use Rattle.model_laws.specs.Hidden.{hide};
 ghost use Rattle.driver_core.specs.Machine.{outs};
 
 use crate::configs::attribute_value;
-use crate::currents::api_code;
-use crate::displays::display_of;
 use crate::machine::Driver;
 use crate::names::name_of;
-use crate::replies::{bare, listed, read, valued};
+use crate::replies::listed;
 use attrib_lists::AttribError;
 use config_match::Configs;
+use context_state::context_gl_call;
 use display_table::HandleKind;
-use egl_calls::arguments::signed;
-use egl_calls::places::{ASKED_NAME, DISPLAY_ID};
+use egl_calls::places::ASKED_NAME;
 use egl_calls::{
     Call, EglError, EglKind, GlKind, Kind, NoMemory, Numbers, Outcome, Reply, ReplyPair,
 };
@@ -40,6 +38,7 @@ use ref_store::Steps;
 use share_group::NameKind;
 use std::alloc::Global;
 use std::sync::ledger::Ledger;
+use thread_part::{api_code, bare, display_of, read, valued};
 
 /// The ids of the configs that a list chooses, where the list is allowed.
 fn chosen(alloc: Global, call: &Call) -> Result<Numbers, NoMemory>
@@ -56,7 +55,7 @@ fn chosen(alloc: Global, call: &Call) -> Result<Numbers, NoMemory>
 
 impl Driver {
     /// Does a call of EGL that no rule refuses and that releases nothing.
-    fn kept_effect(
+    fn egl_effect_keeping_holds(
         &mut self,
         alloc: Global,
         thread: u32,
@@ -76,7 +75,7 @@ impl Driver {
     {
         match kind {
             EglKind::GetError => Ok(valued(alloc, i64::from(self.record(thread).error.code()))),
-            EglKind::GetDisplay => Ok(valued(alloc, display_of(signed(call, DISPLAY_ID)))),
+            EglKind::GetDisplay => Ok(valued(alloc, display_of(call))),
             EglKind::Initialize => {
                 self.initialize(call);
                 Ok(valued(alloc, 1))
@@ -164,14 +163,14 @@ impl Driver {
                 Ok(valued(alloc, 1))
             }
             _ => {
-                let reply = self.kept_effect(alloc, thread, kind, call)?;
+                let reply = self.egl_effect_keeping_holds(alloc, thread, kind, call)?;
                 self.settled();
                 Ok(reply)
             }
         }
     }
 
-    #[tactic(auto, using(egl_model::proofs::StepLaws::egl_refused, crate::proofs::StepLaws::egl_done_swept))]
+    #[tactic(auto, using(model_laws::proofs::StepLaws::egl_refused, crate::proofs::StepLaws::egl_done_swept))]
     fn egl_step<L: Ledger>(
         &mut self,
         alloc: Global,
@@ -204,8 +203,8 @@ impl Driver {
         }
     }
 
-    /// Does a call of OpenGL ES that no rule refuses and that sets no references.
-    fn kept_gl_effect(
+    /// Does one that asks or changes more than its context's own state.
+    fn object_effect(
         &mut self,
         alloc: Global,
         thread: u32,
@@ -215,20 +214,16 @@ impl Driver {
     ) -> Result<ReplyPair, NoMemory>
         requires made { thread < self.old.made }
         requires kind { call.now.kind ≡ GlCall kind }
-        requires built { is_built (GlCall kind) ≡ true }
+        requires object { is_object_call kind ≡ true }
         requires allowed { gl_refusal self.old.state thread context kind call.now ≡ None }
         requires keeps { links kind ≡ false }
-        ensures reply { IfOk result (λ r. r.reply ≡ done (gl_effect self.old.state thread context kind call.now)) }
-        ensures state { OnOk result (self.new ≡ record self.old { state = (gl_effect self.old.state thread context kind call.now).state }) }
+        ensures reply { IfOk result (λ r. r.reply ≡ done (object_effect self.old.state thread context kind call.now)) }
+        ensures state { OnOk result (self.new ≡ record self.old { state = (object_effect self.old.state thread context kind call.now).state }) }
         ensures err { OnErr result (self.new ≡ self.old) }
         ensures memory { gl_takes_no_memory kind ≡ true → IsOk result }
         ensures nothing { clears_nothing kind call.now ≡ true → IsOk result }
     {
         match kind {
-            GlKind::GetError | GlKind::ClearColorx | GlKind::PixelStorei | GlKind::GetIntegerv => {
-                let value = self.apply(alloc, context, call);
-                Ok(valued(alloc, value))
-            }
             GlKind::Flush | GlKind::Finish => {
                 self.flush_context(context);
                 Ok(valued(alloc, 0))
@@ -256,6 +251,35 @@ impl Driver {
                 Ok(valued(alloc, 0))
             }
             _ => unreachable!(),
+        }
+    }
+
+    /// Does a call of OpenGL ES that no rule refuses and that sets no references.
+    fn gl_effect_keeping_holds(
+        &mut self,
+        alloc: Global,
+        thread: u32,
+        context: u64,
+        kind: GlKind,
+        call: &Call,
+    ) -> Result<ReplyPair, NoMemory>
+        requires made { thread < self.old.made }
+        requires kind { call.now.kind ≡ GlCall kind }
+        requires built { is_built (GlCall kind) ≡ true }
+        requires allowed { gl_refusal self.old.state thread context kind call.now ≡ None }
+        requires keeps { links kind ≡ false }
+        ensures reply { IfOk result (λ r. r.reply ≡ done (gl_effect self.old.state thread context kind call.now)) }
+        ensures state { OnOk result (self.new ≡ record self.old { state = (gl_effect self.old.state thread context kind call.now).state }) }
+        ensures err { OnErr result (self.new ≡ self.old) }
+        ensures memory { gl_takes_no_memory kind ≡ true → IsOk result }
+        ensures nothing { clears_nothing kind call.now ≡ true → IsOk result }
+    {
+        match context_gl_call(kind) {
+            Some(_) => {
+                let value = self.apply(alloc, context, call);
+                Ok(valued(alloc, value))
+            }
+            None => self.object_effect(alloc, thread, context, kind, call),
         }
     }
 
@@ -294,14 +318,14 @@ impl Driver {
                 Ok(valued(alloc, 0))
             }
             _ => {
-                let reply = self.kept_gl_effect(alloc, thread, context, kind, call)?;
+                let reply = self.gl_effect_keeping_holds(alloc, thread, context, kind, call)?;
                 self.settled();
                 Ok(reply)
             }
         }
     }
 
-    #[tactic(auto, using(egl_model::proofs::StepLaws::gl_refused, egl_model::proofs::StepLaws::gl_done, egl_model::proofs::StepLaws::gl_without_context))]
+    #[tactic(auto, using(model_laws::proofs::StepLaws::gl_refused, model_laws::proofs::StepLaws::gl_done, model_laws::proofs::StepLaws::gl_without_context))]
     fn gl_step<L: Ledger>(
         &mut self,
         alloc: Global,
@@ -358,7 +382,7 @@ impl Driver {
     }
 
     /// The same of any thread.
-    #[tactic(auto, using(egl_model::proofs::StepLaws::step_waits, egl_model::proofs::StepLaws::step_goes))]
+    #[tactic(auto, using(model_laws::proofs::StepLaws::step_waits, model_laws::proofs::StepLaws::step_goes))]
     fn step_in<L: Ledger>(
         &mut self,
         alloc: Global,

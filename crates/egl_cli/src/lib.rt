@@ -1,4 +1,6 @@
 //! The program's commands: words and a source in, a status and a sink's bytes out.
+//!
+//! Its tests are in `driver_check`.
 #![tactic(auto)]
 
 mod answers;

@@ -1,4 +1,6 @@
 //! Bytes in and out of a program, with counted faults: what a contract may say of input and output.
+//!
+//! Its tests are in `rule_check`.
 #![tactic(auto)]
 
 mod memory;

@@ -1,4 +1,6 @@
 //! Renderbuffers and framebuffers (OES_framebuffer_object).
+//!
+//! Its tests are in `pixel_check`.
 #![tactic(auto)]
 
 mod completeness;

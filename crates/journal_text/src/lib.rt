@@ -1,4 +1,6 @@
 //! The text of a journal: the recording of a run, written and read.
+//!
+//! Its tests are in `play_rows`.
 #![tactic(auto)]
 
 mod cuts;

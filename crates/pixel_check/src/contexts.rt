@@ -1,7 +1,7 @@
 //! Contexts with some of their settings, which clears and draws go by.
 ghost use Rattle.egl_calls.specs.Ranges.{IsNumber};
 
-use context_state::{ContextPart, is_local};
+use context_state::{ContextPart, is_context_call};
 use egl_calls::{Call, GlKind, Kind, Numbers, set_argument};
 use egl_names::codes;
 use std::alloc::Global;
@@ -38,7 +38,7 @@ pub fn number<R: Abort>(rt: &R, number: i64) -> i64
 fn set<R: Abort>(rt: &R, alloc: Global, part: &mut ContextPart, setting: Setting) {
     let (kind, [first, second, third, fourth]) = setting;
     let kind = Kind::Gl(kind);
-    assert!(rt; is_local(kind));
+    assert!(rt; is_context_call(kind));
     let mut args = [0; 8];
     set_argument(&mut args, 0, number(rt, first));
     set_argument(&mut args, 1, number(rt, second));

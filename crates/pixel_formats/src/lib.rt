@@ -3,6 +3,8 @@
 //!
 //! A `Pixel` has 8 bits a component. A format keeps fewer bits or fewer components, and `quantize`
 //! says what a stored pixel reads as.
+//!
+//! Its tests are in `pixel_check`.
 #![tactic(auto)]
 
 mod components;

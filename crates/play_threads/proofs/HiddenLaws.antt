@@ -4,12 +4,12 @@ use Rattle.std.specs.Prelude.{◌⊎◌, if◌then◌else◌}
 use Rattle.std.specs.List.{list_all}
 use Rattle.std.specs.Option.{option_map_or}
 use Rattle.egl_calls.specs.declared.entries.Entry.{Entry}
-use Rattle.egl_model.specs.Hidden.{hide, nothing}
+use Rattle.model_laws.specs.Hidden.{hide, nothing}
 use Rattle.egl_model.specs.Parts.{Own, Places, places, put_at}
 use Rattle.egl_model.specs.State.{State, record_of}
 use Rattle.egl_model.specs.Waits.{is_ready, is_signalled}
-use Rattle.egl_model.proofs.Blinds.{signalled-put}
-use Rattle.egl_model.proofs.Puts.{record-put}
+use Rattle.model_laws.proofs.Blinds.{signalled-put}
+use Rattle.model_laws.proofs.Puts.{record-put}
 use Rattle.trace_reader.specs.declared.traces.Line.{Line}
 use Rattle.trace_reader.specs.Traces.{TraceValue}
 use Rattle.trace_model.specs.Turns.{next_line, has_begun, is_free, goes_on, is_held, is_blocked, is_at_end}

@@ -33,8 +33,8 @@ use Rattle.shared_driver.specs.Cores.{entry, halt_call, of_number}
 use Rattle.shared_driver.specs.Picks.{IsAnswer, IsAtTurn, picked_entries}
 use Rattle.shared_driver.specs.Tokens.{AreOthers, Goes, Halts, Owns, Token, mine}
 use Rattle.driver_core.specs.Machine.{Machine, outs}
-use Rattle.egl_model.specs.Frame.{AreOf}
-use Rattle.egl_model.specs.Hidden.{hide}
+use Rattle.model_laws.specs.Frame.{AreOf}
+use Rattle.model_laws.specs.Hidden.{hide}
 use Rattle.call_rules.specs.Kinds.{is_built}
 use Rattle.std.specs.Option.{option_map}
 use Rattle.trace_session.specs.Facts.{HasFacts}

@@ -1,4 +1,6 @@
 //! A trace of several threads, played by as many at once over one driver, in one legal history.
+//!
+//! Its tests are in `driver_check`.
 #![tactic(auto)]
 
 mod gates;

@@ -5,7 +5,7 @@ use GlKind::{
     ClearColorx, ClearDepthx, ClearStencil, Color4x, ColorMask, Disable, Enable, GetError,
     GetIntegerv, PixelStorei, Scissor, TexEnvx, Viewport,
 };
-use context_state::{ContextPart, is_local};
+use context_state::{ContextPart, is_context_call};
 use egl_calls::{
     Call, EglKind, GlError, GlKind, Kind, Numbers, Outcome, OwnKind, Reply, set_argument,
 };
@@ -39,10 +39,10 @@ fn in_range(number: i64) -> i64
     }
 }
 
-/// Plays a call, if it is one that reads and changes the state of its context alone.
+/// Plays a call, if it is one that asks or sets the state of its context alone.
 fn play(alloc: Global, part: &mut ContextPart, kind: GlKind, numbers: [i64; 4]) -> Option<Reply> {
     let kind = Kind::Gl(kind);
-    if !is_local(kind) {
+    if !is_context_call(kind) {
         return None;
     }
     let [first, second, third, fourth] = numbers;
@@ -418,7 +418,7 @@ fn boxes_colours_and_alignments_keep_their_limits(rt: HostRuntime) {
 }
 
 #[test]
-fn other_calls_are_not_local(rt: HostRuntime) {
+fn other_calls_are_no_context_calls(rt: HostRuntime) {
     let kinds = [
         Kind::Gl(GlKind::Clear),
         Kind::Gl(GlKind::ReadPixels),
@@ -429,6 +429,6 @@ fn other_calls_are_not_local(rt: HostRuntime) {
         Kind::Own(OwnKind::Census),
     ];
     for kind in kinds {
-        assert_eq!(rt; is_local(kind), false, "{kind:?}");
+        assert_eq!(rt; is_context_call(kind), false, "{kind:?}");
     }
 }

@@ -1,8 +1,13 @@
 //! Storages of each format, and objects of each kind.
+ghost use Rattle.std.specs.Prelude.{◌≡◌};
+ghost use Rattle.egl_calls.specs.declared.kinds.Kind.TheVariants.{Gl};
+ghost use Rattle.egl_calls.specs.declared.kinds.GlKind.TheVariants.{ClearColorx};
+
 use context_state::{Bindings, ContextPart};
 use driver_objects::{
     BackedSurface, BackedTexture, BoundObjects, Context, Object, ObjectKind, Storage,
 };
+use egl_calls::{Call, GlKind, Kind, Numbers};
 use pixel_formats::Format;
 use pixel_rows::{Image, Rect};
 use share_group::{Group, NameKind};
@@ -35,9 +40,23 @@ fn storage(rt: &impl Abort, alloc: Global, format: Format) -> Storage {
     Storage::new(Image::new(alloc, format, 3, 5).expect(rt, "memory is ample"))
 }
 
-fn cleared(rt: &impl Abort, alloc: Global, format: Format, colour: [i64; 4]) -> Storage {
+/// A call that sets the clear colour to red 1, green 0, blue 0.5 and alpha 1.
+fn clear_color(alloc: Global) -> Call
+    ensures { result.kind ≡ Gl ClearColorx }
+{
+    Call {
+        kind: Kind::Gl(GlKind::ClearColorx),
+        args: [65_536, 0, 32_768, 65_536, 0, 0, 0, 0],
+        list: Numbers::new(alloc),
+        bytes: None,
+    }
+}
+
+fn cleared(rt: &impl Abort, alloc: Global, format: Format) -> Storage {
+    let mut part = ContextPart::new();
+    part.apply(alloc, &clear_color(alloc));
     let mut storage = storage(rt, alloc, format);
-    storage.clear(colour).expect(rt, "memory is ample");
+    storage.clear(&part).expect(rt, "memory is ample");
     storage
 }
 
@@ -55,7 +74,7 @@ fn storages_are_counted(rt: HostRuntime) {
 #[test]
 fn storages_are_cleared_and_read(rt: HostRuntime) {
     for (format, bytes, last) in &FORMATS {
-        let storage = cleared(&rt, rt.alloc(), *format, [65_536, 0, 32_768, 65_536]);
+        let storage = cleared(&rt, rt.alloc(), *format);
         let row = storage
             .read(rt.alloc(), LAST, Format::Rgba8888, 4)
             .expect(&rt, "memory is ample");
@@ -71,7 +90,7 @@ fn storages_are_cleared_and_read(rt: HostRuntime) {
 
 #[test]
 fn a_row_is_read_in_another_format_and_padded(rt: HostRuntime) {
-    let storage = cleared(&rt, rt.alloc(), Format::Rgba8888, [65_536, 0, 0, 65_536]);
+    let storage = cleared(&rt, rt.alloc(), Format::Rgba8888);
     let short = storage
         .read(rt.alloc(), LAST, Format::Rgb565, 8)
         .expect(&rt, "memory is ample");

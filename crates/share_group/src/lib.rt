@@ -1,4 +1,6 @@
 //! The names of a share group: textures, buffers, renderbuffers and framebuffers.
+//!
+//! Its tests are in `table_check`.
 #![tactic(auto)]
 
 mod edges;

@@ -8,19 +8,19 @@ use Rattle.surface_store.specs.WindowTables.{HasSides}
 use Rattle.egl_calls.specs.Calls.{ReplyValue}
 use Rattle.egl_calls.specs.declared.entries.Entry.{Entry}
 use Rattle.egl_model.specs.State.{State, capacity, initial, opening}
-use Rattle.egl_model.specs.Shapes.{shapes}
-use Rattle.egl_model.specs.Sound.{IsSound, IsWhole}
+use Rattle.model_laws.specs.Shapes.{shapes}
+use Rattle.model_laws.specs.Sound.{IsSound, IsWhole}
 use Rattle.egl_model.specs.Step.{step}
-use Rattle.egl_model.specs.Frame.{AreLocalFrom, AreOf, AreOfOthers, IsReady}
-use Rattle.egl_model.specs.Hidden.{hide}
+use Rattle.model_laws.specs.Frame.{AreLocalFrom, AreOf, AreOfOthers, IsReady}
+use Rattle.model_laws.specs.Hidden.{hide}
 use Rattle.egl_model.specs.History.{IsLegalFrom, replay_from}
-use Rattle.egl_model.specs.Local.{is_local, locally, part_after}
+use Rattle.model_laws.specs.Local.{is_local, locally, part_after}
 use Rattle.egl_model.specs.Parts.{Private, part_of}
-use Rattle.egl_model.proofs.Framing.{has_frame, ready-step}
-use Rattle.egl_model.proofs.HistoryLaws.{IsLegalFrom-append, replay_from-append}
-use Rattle.egl_model.proofs.LateEntry.{late_entry, late_local}
-use Rattle.egl_model.proofs.StepKeeps.{sound-opening}
-use Rattle.egl_model.proofs.WholeSweep.{linked_from}
+use Rattle.model_laws.proofs.Framing.{has_frame, ready-step}
+use Rattle.model_laws.proofs.HistoryLaws.{IsLegalFrom-append, replay_from-append}
+use Rattle.model_laws.proofs.LateEntry.{late_entry, late_local}
+use Rattle.model_laws.proofs.StepKeeps.{sound-opening}
+use Rattle.model_laws.proofs.WholeSweep.{linked_from}
 use Rattle.driver_core.specs.Machine.{outs}
 use Rattle.driver_core.specs.Parts.{FitsThread}
 use Rattle.driver_core.proofs.AwayLaws.{tail_fits, tail_stays}

@@ -10,12 +10,12 @@ use Rattle.surface_store.specs.WindowTables.{HasSides}
 use Rattle.surface_store.specs.Windows.{windows_ok}
 use Rattle.surface_store.specs.declared.windows.WindowSpec.{WindowSpec}
 use Rattle.egl_calls.specs.declared.entries.Entry.{Entry}
-use Rattle.egl_model.specs.Frame.{AreOf, IsReady}
-use Rattle.egl_model.specs.Hidden.{hide}
+use Rattle.model_laws.specs.Frame.{AreOf, IsReady}
+use Rattle.model_laws.specs.Hidden.{hide}
 use Rattle.egl_model.specs.History.{replay_from}
 use Rattle.egl_model.specs.Parts.{Private, part_of}
 use Rattle.egl_model.specs.State.{State, capacity, opening}
-use Rattle.egl_model.proofs.StepKeeps.{sound-opening}
+use Rattle.model_laws.proofs.StepKeeps.{sound-opening}
 use Rattle.driver_core.specs.Machine.{outs}
 use Rattle.turn_lock.specs.Moves.{newcomer}
 use Rattle.turn_lock.specs.Values.{Begins, Leaves}

@@ -7,7 +7,7 @@ use Rattle.std.proofs.lemmas.List.Elements.{filter-append}
 use Rattle.std.proofs.lemmas.List.Folds.{list_any-append}
 use Rattle.egl_calls.specs.Calls.{CallValue, ReplyValue}
 use Rattle.egl_calls.specs.Journals.{are_halted, is_halt_kind}
-use Rattle.egl_model.specs.Frame.{AreOf}
+use Rattle.model_laws.specs.Frame.{AreOf}
 use Rattle.egl_calls.specs.declared.entries.Entry.{Entry}
 use Rattle.shared_driver.specs.Cores.{entry, has_halted, of_number}
 use Rattle.shared_driver.specs.Tokens.{AreOthers, Goes, Includes, KnowsEnded, Learns, Owns, Token, mine}

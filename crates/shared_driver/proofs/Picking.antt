@@ -2,7 +2,7 @@
 use Rattle.std.proofs.Common.{◌≡◌, ℕ, [], ◌∷◌, ◌++◌, refl, sym, ap, ◌∙◌}
 use Rattle.std.proofs.lemmas.List.{append-nil}
 use Rattle.egl_calls.specs.Journals.{are_halted}
-use Rattle.egl_model.specs.Frame.{AreOf}
+use Rattle.model_laws.specs.Frame.{AreOf}
 use Rattle.driver_core.specs.Machine.{Machine}
 use Rattle.shared_driver.specs.declared.cores.Core.{Core}
 use Rattle.shared_driver.specs.declared.picks.Pick.{Pick}

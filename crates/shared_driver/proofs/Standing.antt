@@ -5,13 +5,13 @@ use Rattle.std.specs.Prelude as std
 use Rattle.std.proofs.lemmas.List.{append-nil, length-set}
 use Rattle.egl_calls.specs.Calls.{CallValue, ReplyValue}
 use Rattle.egl_calls.specs.declared.entries.Entry.{Entry}
-use Rattle.egl_model.specs.Frame.{AreOfOthers, IsReady}
-use Rattle.egl_model.specs.Hidden.{hide}
+use Rattle.model_laws.specs.Frame.{AreOfOthers, IsReady}
+use Rattle.model_laws.specs.Hidden.{hide}
 use Rattle.egl_model.specs.History.{IsLegalFrom, replay_from}
 use Rattle.egl_model.specs.Parts.{Private, part_of}
 use Rattle.egl_model.specs.State.{State}
 use Rattle.egl_model.specs.Step.{Stepped, step}
-use Rattle.egl_model.proofs.StepPut.{hide-step}
+use Rattle.model_laws.proofs.StepPut.{hide-step}
 use Rattle.driver_core.specs.Machine.{Machine, outs}
 use Rattle.driver_core.proofs.OutsideLaws.{is_in as is_none}
 use Rattle.turn_lock.specs.Meaning.{Leads, StandsFor}

@@ -7,8 +7,8 @@ use Rattle.std.specs.declared.snapshot.Snapshot.{Snapshot}
 use Rattle.surface_store.specs.WindowTables.{HasSides}
 use Rattle.egl_calls.specs.declared.entries.Entry.{Entry}
 use Rattle.egl_calls.specs.Calls.{CallValue, ReplyValue}
-use Rattle.egl_model.specs.Frame.{AreOf, IsReady}
-use Rattle.egl_model.specs.Hidden.{hide}
+use Rattle.model_laws.specs.Frame.{AreOf, IsReady}
+use Rattle.model_laws.specs.Hidden.{hide}
 use Rattle.egl_model.specs.History.{IsLegalFrom, replay_from}
 use Rattle.egl_model.specs.Parts.{Private, part_of}
 use Rattle.egl_model.specs.State.{State}

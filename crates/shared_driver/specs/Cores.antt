@@ -15,9 +15,9 @@ use Rattle.egl_calls.specs.declared.kinds.GlKind.TheVariants.{Flush, Finish, Del
 use Rattle.egl_calls.specs.declared.kinds.OwnKind.{OwnKind}
 use Rattle.egl_calls.specs.declared.kinds.OwnKind.TheVariants.{Halt, WaitEnd}
 use Rattle.egl_names.specs.declared.codes.TheConstants.{EGL_CONDITION_SATISFIED}
-use Rattle.egl_model.specs.Hidden.{hide}
+use Rattle.model_laws.specs.Hidden.{hide}
 use Rattle.egl_model.specs.History.{replay_from}
-use Rattle.egl_model.specs.Local.{is_local}
+use Rattle.model_laws.specs.Local.{is_local}
 use Rattle.egl_model.specs.Parts.{Private, part_of}
 use Rattle.egl_model.specs.State.{State, opening}
 use Rattle.egl_model.specs.Step.{step}

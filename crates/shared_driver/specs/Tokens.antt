@@ -3,7 +3,7 @@ use Rattle.std.specs.Prelude.{slice_index, ◌≡◌, ◌+◌, ◌-◌, ◌≤�
 use Rattle.egl_calls.specs.declared.entries.Entry.{Entry}
 use Rattle.egl_calls.specs.Calls.{CallValue, ReplyValue}
 use Rattle.egl_calls.specs.declared.kinds.Kind.{Kind}
-use Rattle.egl_model.specs.Local.{is_local}
+use Rattle.model_laws.specs.Local.{is_local}
 use Rattle.egl_model.specs.History.{replay_from}
 use Rattle.egl_model.specs.Parts.{part_of}
 use Rattle.egl_model.specs.State.{State}

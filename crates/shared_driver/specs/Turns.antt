@@ -2,8 +2,8 @@
 use Rattle.std.specs.Prelude.{◌≡◌, ◌≢◌, ℕ, ◌<◌, ◌≤◌, true, false, List, ◌++◌, All, Contains, length, slice_index, slice_set, Some}
 use Rattle.surface_store.specs.WindowTables.{HasSides}
 use Rattle.egl_calls.specs.declared.entries.Entry.{Entry}
-use Rattle.egl_model.specs.Frame.{IsReady}
-use Rattle.egl_model.specs.Hidden.{hide}
+use Rattle.model_laws.specs.Frame.{IsReady}
+use Rattle.model_laws.specs.Hidden.{hide}
 use Rattle.egl_model.specs.History.{IsLegalFrom, replay_from}
 use Rattle.driver_core.specs.Machine.{outs}
 use Rattle.turn_lock.specs.Passes.{HasCome, IsFree, view_of}

@@ -3,7 +3,7 @@ ghost use Rattle.std.specs.Prelude.{◌≡◌, ◌==◌, ◌≤◌, ◌<◌, ◌
 ghost use Rattle.surface_store.specs.Windows.{windows_ok};
 ghost use Rattle.call_rules.specs.Kinds.{is_built};
 ghost use Rattle.egl_calls.specs.declared.entries.Entry.{Entry};
-ghost use Rattle.egl_model.specs.Hidden.{hide};
+ghost use Rattle.model_laws.specs.Hidden.{hide};
 ghost use Rattle.egl_model.specs.State.{opening};
 ghost use Rattle.egl_model.specs.Waits.{is_wait_end};
 ghost use Rattle.egl_model.specs.History.{IsLegalFrom, replay_from};

@@ -3,10 +3,10 @@ ghost use Rattle.std.specs.Prelude.{◌≡◌, ◌<◌, ◌≤◌, ◌+◌, ◌-
 ghost use Rattle.std.specs.VecDeque.{deque_capacity};
 ghost use Rattle.call_rules.specs.Kinds.{is_built};
 ghost use Rattle.surface_store.specs.Windows.{windows_ok};
-ghost use Rattle.egl_model.specs.Frame.{IsReady};
-ghost use Rattle.egl_model.specs.Hidden.{hide};
+ghost use Rattle.model_laws.specs.Frame.{IsReady};
+ghost use Rattle.model_laws.specs.Hidden.{hide};
 ghost use Rattle.egl_model.specs.Parts.{part_of};
-ghost use Rattle.egl_model.specs.Sound.{IsSound};
+ghost use Rattle.model_laws.specs.Sound.{IsSound};
 ghost use Rattle.egl_model.specs.State.{State, opening};
 ghost use Rattle.egl_model.specs.Step.{step};
 ghost use Rattle.egl_model.specs.Waits.{is_ready};

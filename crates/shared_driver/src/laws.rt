@@ -1,6 +1,6 @@
 //! What holds of every token.
 ghost use Rattle.std.specs.Prelude.{◌++◌};
-ghost use Rattle.egl_model.specs.Frame.{AreOf};
+ghost use Rattle.model_laws.specs.Frame.{AreOf};
 ghost use Rattle.egl_model.specs.History.{IsLegalFrom};
 ghost use Rattle.shared_driver.specs.Tokens.{IsOf, opening_of, token_of};
 

@@ -1,4 +1,6 @@
 //! A driver and its journal behind a lock: the calls of all threads stand in one legal history.
+//!
+//! Its tests are in `driver_check`.
 #![tactic(auto)]
 
 mod calls;

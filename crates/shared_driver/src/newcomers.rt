@@ -1,8 +1,8 @@
 //! A thread is made for a new token.
 ghost use Rattle.std.specs.Prelude.{◌≡◌, ◌<◌, ◌≤◌, ◌+◌, ◌-◌, [], ◌∷◌, ◌++◌, true, false, length, IfOk, IfErr, OnOk, OnErr, slice_index, slice_set};
 ghost use Rattle.std.specs.VecDeque.{deque_capacity};
-ghost use Rattle.egl_model.specs.Frame.{IsReady};
-ghost use Rattle.egl_model.specs.Hidden.{hide};
+ghost use Rattle.model_laws.specs.Frame.{IsReady};
+ghost use Rattle.model_laws.specs.Hidden.{hide};
 ghost use Rattle.egl_model.specs.Parts.{part_of};
 ghost use Rattle.egl_model.specs.State.{State};
 ghost use Rattle.driver_core.specs.Machine.{outs};

@@ -97,7 +97,11 @@ fn an_error_is_of_one_context_and_told_once(rt: HostRuntime) -> Result<(), Fail>
 }
 
 fn expect_colour(rt: &impl Abort, table: &ObjectTable, n: u64, colour: Option<[i64; 4]>) {
-    assert_eq!(rt; table.clear_color(n), colour, "{n}");
+    let found = match table.part(n) {
+        Some(part) => Some(part.clear_color()),
+        None => None,
+    };
+    assert_eq!(rt; found, colour, "{n}");
 }
 
 const MAGENTA: [i64; 4] = [65_536, 0, 65_536, 0];
@@ -152,8 +156,9 @@ fn shows(alloc: Global, table: &ObjectTable, n: u64, bytes: &[u8]) -> bool {
 
 #[test]
 fn a_storage_is_cleared_and_read(rt: HostRuntime) -> Result<(), Fail> {
-    let mut table = filled(rt.alloc())?;
-    assert!(rt; table.clear(STORAGE, MAGENTA).is_ok());
+    let mut table = coloured(&rt, rt.alloc())?;
+    let part = table.part(FIRST).expect(&rt, "the context is in");
+    assert!(rt; table.clear(STORAGE, &part).is_ok());
     let magenta = [255, 0, 255, 0, 0, 0, 0, 0];
     assert!(rt; shows(rt.alloc(), &table, STORAGE, &magenta));
     Ok(())
@@ -161,8 +166,9 @@ fn a_storage_is_cleared_and_read(rt: HostRuntime) -> Result<(), Fail> {
 
 #[test]
 fn a_surface_is_no_storage_to_clear_or_read(rt: HostRuntime) -> Result<(), Fail> {
-    let mut table = filled(rt.alloc())?;
-    assert!(rt; table.clear(SURFACE, [65_536; 4]).is_ok());
+    let mut table = coloured(&rt, rt.alloc())?;
+    let part = table.part(FIRST).expect(&rt, "the context is in");
+    assert!(rt; table.clear(SURFACE, &part).is_ok());
     assert!(rt; shows(rt.alloc(), &table, SURFACE, &[]));
     assert!(rt; shows(rt.alloc(), &table, STORAGE, &[0; 8]));
     Ok(())

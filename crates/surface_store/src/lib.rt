@@ -1,5 +1,7 @@
 //! Surfaces of windows and pbuffers, with the config, the sides and the pixels that they are made with,
 //! and windows with the pixels that they show.
+//!
+//! Its tests are in `pixel_check`.
 #![tactic(auto)]
 
 mod formats;

@@ -3,6 +3,8 @@
 //!
 //! A texture keeps its parameters. The pixels of a level stand in a storage of its own; what is said of
 //! them here needs their format and sides alone.
+//!
+//! Its tests are in `pixel_check`.
 #![tactic(auto)]
 
 mod forms;

@@ -8,6 +8,8 @@
 //! two steps is `Ruled` in `specs/Rule.antt`.
 //!
 //! No clause says that a turn ever comes, in which order threads get theirs, or how long one waits.
+//!
+//! Its tests are in `turn_lock_check`.
 #![tactic(auto)]
 
 mod bells;

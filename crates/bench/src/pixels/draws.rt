@@ -1,7 +1,7 @@
 //! Draws of a texture and copies between images that are measured, each so many rounds.
 
 use crate::calls::call_with;
-use context_state::{ContextPart, is_local};
+use context_state::{ContextPart, is_context_call};
 use egl_calls::{GlKind, Kind, Numbers};
 use egl_names::codes::{GL_REPLACE, GL_TEXTURE_2D, GL_TEXTURE_ENV, GL_TEXTURE_ENV_MODE};
 use pixel_rows::{Image, Rect};
@@ -17,7 +17,7 @@ const HALF: u32 = 32_768;
 // Makes a call of a context.
 fn set(alloc: Global, part: &mut ContextPart, kind: GlKind, numbers: [u32; 4]) {
     let kind = Kind::Gl(kind);
-    if is_local(kind) {
+    if is_context_call(kind) {
         let call = call_with(kind, numbers, Numbers::new(alloc));
         let _reply = part.apply(alloc, &call);
     }

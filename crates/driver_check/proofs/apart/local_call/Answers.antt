@@ -1,6 +1,6 @@
 use Rattle.std.proofs.Common.{◌≡◌, true, [], ◌∷◌, refl, ◌∙◌, subst, sym}
 use Rattle.egl_calls.specs.declared.entries.Entry.{Entry}
-use Rattle.egl_model.specs.Local.{is_local}
+use Rattle.model_laws.specs.Local.{is_local}
 use Rattle.egl_model.specs.Parts.{Private}
 use Rattle.egl_model.specs.Step.{step}
 use Rattle.driver_check.proofs.apart.local_call.Goals as goal

@@ -1,5 +1,5 @@
 use Rattle.std.proofs.Common.{ℕ, subst}
-use Rattle.egl_model.specs.Frame.{AreOf}
+use Rattle.model_laws.specs.Frame.{AreOf}
 use Rattle.egl_model.specs.History.{replay_from}
 use Rattle.turn_lock.specs.Passes.{view_of}
 use Rattle.shared_driver.specs.Cores.{start_in}

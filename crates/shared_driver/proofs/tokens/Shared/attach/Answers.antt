@@ -4,7 +4,7 @@ use Rattle.std.specs.Prelude as std
 use Rattle.std.specs.VecDeque.{deque_capacity}
 use Rattle.std.proofs.lemmas.List.{append-nil}
 use Rattle.egl_calls.specs.declared.entries.Entry.{Entry}
-use Rattle.egl_model.specs.Hidden.{hide}
+use Rattle.model_laws.specs.Hidden.{hide}
 use Rattle.egl_model.specs.History.{replay_from}
 use Rattle.egl_model.specs.Parts.{Private}
 use Rattle.turn_lock.specs.Passes.{first_of, view_of}

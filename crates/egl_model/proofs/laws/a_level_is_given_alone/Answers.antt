@@ -1,8 +1,0 @@
-use Rattle.egl_model.proofs.TextureLaws.{level_alone, pixels_alone}
-use Rattle.egl_model.proofs.laws.a_level_is_given_alone.Goals as goal
-
-pub returns-clause-levels : goal.returns-clause-levels
-returns-clause-levels c = level_alone
-
-pub returns-clause-pixels : goal.returns-clause-pixels
-returns-clause-pixels c = pixels_alone

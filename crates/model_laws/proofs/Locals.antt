@@ -1,0 +1,277 @@
+-- A local call changes the thread's own alone, and its reply is told by the part.
+use Rattle.std.proofs.Common.{◌≡◌, ℕ, ℤ, pos, Bool, true, false, cond, ◌||◌, ◌&&◌, List, [], refl, sym, ap, ◌∙◌, get_or, set, Option, None, Some, is_some}
+use Rattle.std.specs.Option.{option_and_then, option_map, option_map_or}
+use Rattle.std.proofs.lemmas.Bool.{eqb-true}
+use Rattle.std.proofs.lemmas.List.{ext_get_or, set-get_or}
+use Rattle.egl_calls.specs.Calls.{CallValue}
+use Rattle.egl_calls.specs.declared.kinds.Kind.{Kind}
+use Rattle.egl_calls.specs.declared.kinds.Kind.TheVariants.{Egl, Gl, Own as OwnCall}
+use Rattle.egl_calls.specs.declared.kinds.EglKind.{EglKind}
+use Rattle.egl_calls.specs.declared.kinds.EglKind.TheVariants.{GetError as EglGetError, GetDisplay, GetCurrentContext, BindApi, QueryApi, GetCurrentSurface, GetCurrentDisplay}
+use Rattle.egl_calls.specs.declared.kinds.GlKind.{GlKind}
+use Rattle.egl_calls.specs.declared.kinds.GlKind.TheVariants.{Clear, ReadPixels, TexImage2d, TexSubImage2d}
+use Rattle.egl_calls.specs.declared.errors.EglError.{EglError}
+use Rattle.egl_calls.specs.declared.errors.EglError.TheVariants.{Success}
+use Rattle.egl_calls.specs.declared.errors.GlError.{GlError}
+use Rattle.context_state.specs.Parts.{PartValue, noted}
+use Rattle.context_state.specs.Kinds.{context_gl_call}
+use Rattle.context_state.specs.declared.kinds.ContextCall.{ContextCall}
+use Rattle.context_state.specs.Calls.{apply}
+use Rattle.pixel_rows.specs.Images.{ImageValue}
+use Rattle.pixel_rows.specs.Transfers.{row_bytes}
+use Rattle.call_rules.specs.EglRules as rules
+use Rattle.call_rules.specs.EglRules.{no_facts}
+use Rattle.driver_objects.specs.Storages.{StorageValue, cleared, cleared_image}
+use Rattle.driver_objects.specs.declared.objects.Object.{Object}
+use Rattle.driver_objects.specs.declared.objects.Object.TheVariants.{Context, Storage}
+use Rattle.egl_model.specs.State.{State, initial, object_at, record_of, set_error}
+use Rattle.egl_model.specs.Objects.{as_storage, change_part, change_storage, storage_in, with_part, with_storage}
+use Rattle.egl_model.specs.Currents.{current_context, draw_storage, part_of_context, read_storage}
+use Rattle.egl_model.specs.Drawing.{clear_storage, clears_colour, read_form, read_pixels, read_rect, rows_of}
+use Rattle.egl_model.specs.Sweep.{is_reached, roots, swept, sweep}
+use Rattle.model_laws.specs.Laws.{HasNoLitter}
+use Rattle.egl_model.specs.EglFacts.{egl_facts, egl_refusal}
+use Rattle.egl_model.specs.GlFacts.{gl_refusal, no_framebuffer}
+use Rattle.egl_model.specs.Effects.{Effect, valued}
+use Rattle.egl_model.specs.EglEffects.{egl_effect}
+use Rattle.egl_model.specs.GlEffects.{effect_by, gl_effect, local_value, object_effect}
+use Rattle.egl_calls.specs.declared.errors.Outcome.TheVariants.{InWait}
+use Rattle.egl_model.specs.Waits.{is_signalled, is_wait_end}
+use Rattle.egl_model.specs.Step.{after_egl_rules, after_gl_rules, bare, wait_step, egl_step, gl_step, gl_step_on, step, step_by, step_in}
+use Rattle.model_laws.proofs.SweepLaws.{length-swept, object_at-swept}
+use Rattle.model_laws.specs.Frame.{as_step}
+use Rattle.egl_model.specs.Parts.{Own, Places, are_same, at_place, image_in, own_at, own_of, part_in, part_of, places, put_at, put_own, set_image, set_part, write, written}
+use Rattle.model_laws.specs.Local.{LocalEffect, after_rules, by_kind, egl_locally, egl_value, gl_locally, gl_with, in_wait, is_local, is_local_egl, is_local_gl, is_local_kind, is_local_unbound, is_unbound, local_refusal, locally, locally_by, object_locally, read_locally}
+use Rattle.model_laws.proofs.Writes.{write-write}
+use Rattle.model_laws.proofs.Puts.{IsDistinct, distinct-places, image_back, part_back, part_past_image, put-own_of, written_back}
+use Rattle.model_laws.proofs.PutMoves.{sweep-put}
+use Rattle.model_laws.proofs.StepPut.{answered}
+use Rattle.model_laws.specs.Sound.{IsSound}
+use Rattle.call_rules.specs.GlRules as gl_rules
+
+-- ---- A state without litter is swept.
+kept_all : (b : Bool) (o : Option Object) → (is_some o ≡ true → b ≡ true) → cond b o None ≡ o
+kept_all true o h = refl
+kept_all false None h = refl
+kept_all false (Some x) h = absurd (let e : false ≡ true = h refl in cc)
+
+pub sweep_clean : (s : State) → HasNoLitter s → sweep s ≡ s
+sweep_clean s l = ap (λ (os : List (Option Object)). record s { objects = os })
+    (ext_get_or None (swept (roots s) s.objects) s.objects (length-swept (roots s) s.objects)
+    (λ m h. object_at-swept (roots s) s.objects m ∙ kept_all (is_reached s m) (object_at s m) (l.each m)))
+
+pub put_swept : (s : State) (t : ℕ) (x : Own) → IsSound s → sweep (put_own s t x) ≡ put_own s t x
+put_swept s t x h = sweep-put (places s t) t x s ∙ ap (put_at (places s t) t x) (sweep_clean s h.litter)
+
+-- ---- Changes of the thread's own, as what is put.
+pub error_as_put : (s : State) (t : ℕ) (e : EglError) → set_error s t e ≡ put_own s t (record (own_of s t) { error = e })
+unfolding written
+error_as_put s t e = ap (λ (os : List (Option Object)). record (set_error s t e) { objects = os }) (sym (objects_back s t))
+  where
+    objects_back : (s : State) (t : ℕ) → write (set_image (own_of s t).read) (places s t).read (write (set_image (own_of s t).draw) (places s t).draw (write (set_part (own_of s t).context) (places s t).context s.objects)) ≡ s.objects
+    objects_back s t = written_back (places s t) t s
+
+-- the context's part alone
+written-part : (p : Places) (t : ℕ) (s : State) (x : Option PartValue) → written p (record (own_at p t s) { context = x }) s.objects ≡ write (set_part x) p.context s.objects
+unfolding written
+written-part p t s x =
+    let D = write (set_image (at_place image_in p.draw s.objects)) p.draw in let R = write (set_image (at_place image_in p.read s.objects)) p.read in
+    ap R (sym (part_past_image x (at_place image_in p.draw s.objects) p.context p.draw s.objects) ∙ ap (write (set_part x) p.context) (image_back p.draw s.objects))
+    ∙ sym (part_past_image x (at_place image_in p.read s.objects) p.context p.read s.objects) ∙ ap (write (set_part x) p.context) (image_back p.read s.objects)
+
+-- the image to draw to alone
+written-draw : (p : Places) (t : ℕ) (s : State) (x : Option ImageValue) → IsDistinct p → written p (record (own_at p t s) { draw = x }) s.objects ≡ write (set_image x) p.draw s.objects
+unfolding written
+written-draw p t s x w =
+    let R = write (set_image (at_place image_in p.read s.objects)) p.read in
+    ap (λ o. R (write (set_image x) p.draw o)) (part_back p.context s.objects)
+    ∙ write-write (set_image (at_place image_in p.read s.objects)) (set_image x) p.read p.draw refl refl (λ m g h. absurd (w m h g)) s.objects
+    ∙ ap (write (set_image x) p.draw) (image_back p.read s.objects)
+
+same_threads : (s : State) (t : ℕ) (os : List (Option Object)) → record s { objects = os } ≡ record s { objects = os; threads = set s.threads t (record (record_of s t) { error = (record_of s t).error }) }
+same_threads s t os = ap (λ ts. record s { objects = os; threads = ts }) (sym (set-get_or s.threads t initial))
+
+part_changed : (f : PartValue → PartValue) (q : PartValue) (o : Option Object) → part_in o ≡ Some q → with_part f o ≡ set_part (Some (f q)) o
+part_changed f q (Some (Context c)) e = ap (λ (x : Option PartValue). Some (Context (record c { part = option_map f x }))) e
+part_changed f q o e = refl
+
+change_part-write : (f : PartValue → PartValue) (q : PartValue) (n : ℕ) (os : List (Option Object)) → part_in (get_or os n None) ≡ Some q → change_part f n os ≡ write (set_part (Some (f q))) (Some n) os
+unfolding change_part write
+change_part-write f q n os e = ap (set os n) (part_changed f q (get_or os n None) e)
+
+pub part_as_put : (s : State) (t n : ℕ) (f : PartValue → PartValue) (q : PartValue) → current_context s t ≡ Some n → part_of_context s n ≡ Some q →
+    record s { objects = change_part f n s.objects } ≡ put_own s t (record (own_of s t) { context = Some (f q) })
+part_as_put s t n f q h e =
+    ap (λ (os : List (Option Object)). record s { objects = os }) (change_part-write f q n s.objects e ∙ ap (λ (p : Option ℕ). write (set_part (Some (f q))) p s.objects) (sym h) ∙ sym (written-part (places s t) t s (Some (f q))))
+    ∙ same_threads s t (written (places s t) (record (own_of s t) { context = Some (f q) }) s.objects)
+
+image_changed : (f : ImageValue → ImageValue) (g : StorageValue → StorageValue) → ((v : StorageValue) → g v ≡ record v { image = option_map f v.image }) → (o : Option Object) → with_storage g o ≡ set_image (option_map f (image_in o)) o
+image_changed f g h (Some (Storage x)) = ap (λ (v : StorageValue). Some (Storage v)) (h x)
+image_changed f g h o = refl
+
+pub image_as_put : (s : State) (t n : ℕ) (f : ImageValue → ImageValue) (g : StorageValue → StorageValue) → ((v : StorageValue) → g v ≡ record v { image = option_map f v.image }) → draw_storage s t ≡ Some n →
+    record s { objects = change_storage g n s.objects } ≡ put_own s t (record (own_of s t) { draw = option_map f (own_of s t).draw })
+unfolding change_storage write at_place
+image_as_put s t n f g h e =
+    ap (λ (os : List (Option Object)). record s { objects = os })
+    (ap (set s.objects n) (image_changed f g h (get_or s.objects n None))
+    ∙ ap (λ (p : Option ℕ). write (set_image (option_map f (at_place image_in p s.objects))) p s.objects) (sym e)
+    ∙ sym (written-draw (places s t) t s (option_map f (own_of s t).draw) (distinct-places s t)))
+    ∙ same_threads s t (written (places s t) (record (own_of s t) { draw = option_map f (own_of s t).draw }) s.objects)
+
+-- ---- Steps.
+same_valued : (v w : ℤ) (a b : State) → v ≡ w → a ≡ b → valued v a ≡ valued w b
+same_valued v w a b e f = ap (λ z. valued z a) e ∙ ap (valued w) f
+
+abbrev reads : List ℕ → State → Effect
+reads b s = record { waits = false; value = pos 0; list = []; bytes = b; state = s }
+
+abbrev pub as_effect : State → ℕ → LocalEffect → Effect
+as_effect s t f = record { waits = false; value = f.value; list = f.list; bytes = f.bytes; state = put_own s t f.own }
+
+not_local : {A : Type 0} → false ≡ true → A
+not_local h = absurd (let e : false ≡ true = h in cc)
+
+-- a case for each local call of EGL
+local_facts : (s : State) (t : ℕ) (c : CallValue) (k : EglKind) → is_local_egl k ≡ true → egl_facts s t k c ≡ no_facts
+local_facts s t c EglGetError h = refl
+local_facts s t c GetDisplay h = refl
+local_facts s t c GetCurrentContext h = refl
+local_facts s t c BindApi h = refl
+local_facts s t c QueryApi h = refl
+local_facts s t c GetCurrentSurface h = refl
+local_facts s t c GetCurrentDisplay h = refl
+local_facts s t c k h = not_local h
+
+egl_effect-local : (s : State) (t : ℕ) (c : CallValue) (k : EglKind) → is_local_egl k ≡ true → egl_effect s t k c ≡ valued (egl_value (part_of s t) k c) s
+egl_effect-local s t c EglGetError h = refl
+egl_effect-local s t c GetDisplay h = refl
+egl_effect-local s t c GetCurrentContext h = refl
+egl_effect-local s t c BindApi h = refl
+egl_effect-local s t c QueryApi h = refl
+egl_effect-local s t c GetCurrentSurface h = refl
+egl_effect-local s t c GetCurrentDisplay h = refl
+egl_effect-local s t c k h = not_local h
+
+by_egl_refusal : (s : State) (t : ℕ) (v : ℤ) (o : Option EglError) → IsSound s → after_egl_rules s t o (valued v s) ≡ as_step s t (egl_locally (part_of s t) o v)
+by_egl_refusal s t v (Some e) l = answered _ _ _ (error_as_put s t e)
+by_egl_refusal s t v None l = answered _ _ _ (ap sweep (error_as_put s t Success) ∙ put_swept s t (record (own_of s t) { error = Success }) l)
+
+egl_step-local : (s : State) (t : ℕ) (c : CallValue) (k : EglKind) → IsSound s → is_local_egl k ≡ true → egl_step s t k c ≡ as_step s t (egl_locally (part_of s t) (local_refusal c) (egl_value (part_of s t) k c))
+unfolding egl_step egl_refusal
+egl_step-local s t c k l h =
+    ap (λ f. after_egl_rules s t (rules.egl_refusal c f) (egl_effect s t k c)) (local_facts s t c k h)
+    ∙ ap (after_egl_rules s t (local_refusal c)) (egl_effect-local s t c k h)
+    ∙ by_egl_refusal s t (egl_value (part_of s t) k c) (local_refusal c) l
+
+nothing_to_clear : (s : State) (t : ℕ) (f : ImageValue → ImageValue) → draw_storage s t ≡ None → s ≡ put_own s t (record (own_of s t) { draw = option_map f (own_of s t).draw })
+unfolding at_place
+nothing_to_clear s t f e =
+    sym (put-own_of s t)
+    ∙ ap (λ (i : Option ImageValue). put_own s t (record (own_of s t) { draw = i })) (ap (λ (p : Option ℕ). at_place image_in p s.objects) e ∙ sym (ap (λ (p : Option ℕ). option_map f (at_place image_in p s.objects)) e))
+
+cleared-local : (s : State) (t : ℕ) (q : PartValue) (d : Option ℕ) → draw_storage s t ≡ d → clear_storage (Some q) d s ≡ put_own s t (record (own_of s t) { draw = option_map (cleared_image q) (own_of s t).draw })
+cleared-local s t q None e = nothing_to_clear s t (cleared_image q) e
+cleared-local s t q (Some m) e = image_as_put s t m (cleared_image q) (cleared q) (λ v. refl) e
+
+either_put : (s : State) (t : ℕ) (b : Bool) (a : State) (x : Own) → a ≡ put_own s t x → cond b a s ≡ put_own s t (cond b x (own_of s t))
+either_put s t true a x e = e
+either_put s t false a x e = sym (put-own_of s t)
+
+rows_there : (os : List (Option Object)) (c : CallValue) (align : ℕ) (p : Option ℕ) → rows_of c align (option_and_then (storage_in os) p)
+    ≡ option_map_or (λ i. row_bytes i (read_rect c) (read_form c) align) (at_place image_in p os) []
+unfolding at_place
+rows_there os c align None = refl
+rows_there os c align (Some n) = of_object (get_or os n None)
+  where
+    of_object : (o : Option Object) → rows_of c align (as_storage o) ≡ option_map_or (λ i. row_bytes i (read_rect c) (read_form c) align) (image_in o) []
+    of_object (Some (Storage x)) = refl
+    of_object o = refl
+
+same_place : (a b : Option ℕ) → are_same a b ≡ true → b ≡ a
+same_place None b h = not_local h
+same_place (Some m) None h = not_local h
+same_place (Some m) (Some n) h = ap (λ k. Some k) (eqb-true n m h)
+
+image_read : (os : List (Option Object)) (a b : Option ℕ) (same : Bool) → are_same a b ≡ same → at_place image_in b os ≡ cond same (at_place image_in a os) (at_place image_in (cond same None b) os)
+image_read os a b true h = ap (λ (p : Option ℕ). at_place image_in p os) (same_place a b h)
+image_read os a b false h = refl
+
+read_pixels-local : (s : State) (t n : ℕ) (q : PartValue) (c : CallValue) → part_of_context s n ≡ Some q → read_pixels s t n c ≡ read_locally (part_of s t) q c
+read_pixels-local s t n q c e =
+    ap (λ (p : Option PartValue). rows_of c (option_map_or (λ y. y.pack_alignment) p 4) (option_and_then (storage_in s.objects) (read_storage s t))) e
+    ∙ rows_there s.objects c q.pack_alignment (read_storage s t)
+    ∙ ap (λ i. option_map_or (λ i. row_bytes i (read_rect c) (read_form c) q.pack_alignment) i []) (image_read s.objects (draw_storage s t) (read_storage s t) (are_same (draw_storage s t) (read_storage s t)) refl)
+
+-- a case for each other local call of OpenGL ES
+object_effect-local : (s : State) (t n : ℕ) (q : PartValue) (c : CallValue) (k : GlKind) → part_of_context s n ≡ Some q → (is_local_unbound k && is_unbound (Some q)) ≡ true →
+    object_effect s t n k c ≡ as_effect s t (object_locally (part_of s t) q k c)
+object_effect-local s t n q c Clear e m = ap (valued (pos 0))
+    (ap (λ o. cond (clears_colour c) (clear_storage o (draw_storage s t) s) s) e
+    ∙ either_put s t (clears_colour c) (clear_storage (Some q) (draw_storage s t) s) (record (own_of s t) { draw = option_map (cleared_image q) (own_of s t).draw }) (cleared-local s t q (draw_storage s t) refl))
+object_effect-local s t n q c ReadPixels e m = read_effect _ _ _ _ (read_pixels-local s t n q c e) (sym (put-own_of s t))
+  where
+    read_effect : (b d : List ℕ) (x y : State) → b ≡ d → x ≡ y → reads b x ≡ reads d y
+    read_effect b d x y e f = ap (λ z. reads z x) e ∙ ap (reads d) f
+object_effect-local s t n q c k e m = not_local m
+
+effect_by-local : (o : Option ContextCall) (s : State) (t n : ℕ) (q : PartValue) (c : CallValue) (k : GlKind) → current_context s t ≡ Some n → part_of_context s n ≡ Some q → (is_some o || (is_local_unbound k && is_unbound (Some q))) ≡ true →
+    effect_by o s t n k c ≡ as_effect s t (locally_by o (part_of s t) q k c)
+effect_by-local (Some own) s t n q c k h e m = same_valued _ _ _ _ (ap (λ x. local_value x c) e) (part_as_put s t n (λ p. (apply c p).part) q h e)
+effect_by-local None s t n q c k h e m = object_effect-local s t n q c k e m
+
+gl_effect-local : (s : State) (t n : ℕ) (q : PartValue) (c : CallValue) (k : GlKind) → current_context s t ≡ Some n → part_of_context s n ≡ Some q → (is_local_gl k || (is_local_unbound k && is_unbound (Some q))) ≡ true →
+    gl_effect s t n k c ≡ as_effect s t (gl_locally (part_of s t) q k c)
+gl_effect-local s t n q c k h e m = effect_by-local (context_gl_call k) s t n q c k h e m
+
+by_gl_refusal : (s : State) (t n : ℕ) (q : PartValue) (c : CallValue) (k : GlKind) (o : Option GlError) → IsSound s → current_context s t ≡ Some n → part_of_context s n ≡ Some q → (is_local_gl k || (is_local_unbound k && is_unbound (Some q))) ≡ true →
+    after_gl_rules s n o (gl_effect s t n k c) ≡ as_step s t (after_rules (own_of s t) q o (gl_locally (part_of s t) q k c))
+by_gl_refusal s t n q c k (Some e) l h i m = answered _ _ _ (part_as_put s t n (noted e) q h i)
+by_gl_refusal s t n q c k None l h i m = ap (after_gl_rules s n None) (gl_effect-local s t n q c k h i m) ∙ answered _ _ _ (put_swept s t (gl_locally (part_of s t) q k c).own l)
+
+-- a call whose facts look at the state isn't local
+local_gl_refusal : (s : State) (t n : ℕ) (c : CallValue) (k : GlKind) (b : Bool) → (is_local_gl k || (is_local_unbound k && b)) ≡ true → gl_refusal s t n k c ≡ gl_rules.gl_refusal c no_framebuffer
+unfolding gl_refusal
+local_gl_refusal s t n c TexImage2d b m = not_local m
+local_gl_refusal s t n c TexSubImage2d b m = not_local m
+local_gl_refusal s t n c k b m = refl
+
+-- the part of the thread's context is in
+abbrev pub HasPart : State → ℕ → Type 0
+HasPart s t = is_some (own_of s t).context ≡ is_some (current_context s t)
+
+by_part : (s : State) (t n : ℕ) (c : CallValue) (k : GlKind) (x : Option PartValue) → IsSound s → current_context s t ≡ Some n → part_of_context s n ≡ x → is_some x ≡ true → (is_local_gl k || (is_local_unbound k && is_unbound x)) ≡ true →
+    gl_step_on s t (Some n) k c ≡ as_step s t (gl_with (part_of s t) x k c)
+by_part s t n c k None l h i j m = not_local j
+by_part s t n c k (Some q) l h i j m = ap (λ o. after_gl_rules s n o (gl_effect s t n k c)) (local_gl_refusal s t n c k (is_unbound (Some q)) m)
+    ∙ by_gl_refusal s t n q c k (gl_rules.gl_refusal c no_framebuffer) l h i m
+
+by_current : (s : State) (t : ℕ) (c : CallValue) (k : GlKind) (o : Option ℕ) → IsSound s → current_context s t ≡ o → is_some (own_of s t).context ≡ is_some o → is_local_kind (part_of s t) (Gl k) ≡ true →
+    gl_step_on s t o k c ≡ as_step s t (gl_with (part_of s t) (own_of s t).context k c)
+unfolding at_place
+by_current s t c k None l h i m = answered _ _ _ (sym (put-own_of s t)) ∙ ap (λ (p : Option ℕ). as_step s t (gl_with (part_of s t) (at_place part_in p s.objects) k c)) (sym h)
+by_current s t c k (Some n) l h i m =
+    by_part s t n c k (own_of s t).context l h (ap (λ (p : Option ℕ). at_place part_in p s.objects) (sym h)) i m
+
+gl_step-local : (s : State) (t : ℕ) (c : CallValue) (k : GlKind) → IsSound s → HasPart s t → is_local_kind (part_of s t) (Gl k) ≡ true → gl_step s t k c ≡ as_step s t (gl_with (part_of s t) (own_of s t).context k c)
+unfolding gl_step
+gl_step-local s t c k l i m = by_current s t c k (current_context s t) l refl i m
+
+by_kind-local : (s : State) (t : ℕ) (c : CallValue) (k : Kind) → IsSound s → HasPart s t → is_local_kind (part_of s t) k ≡ true → step_by s t k c ≡ as_step s t (by_kind (part_of s t) k c)
+by_kind-local s t c (Egl k) l i m = egl_step-local s t c k l m
+by_kind-local s t c (Gl k) l i m = gl_step-local s t c k l i m
+by_kind-local s t c (OwnCall k) l i m = not_local m
+
+waiting-local : (s : State) (t : ℕ) (k : Kind) (signalled : Bool) → is_local_kind (part_of s t) k ≡ true → wait_step s t (is_wait_end k) signalled ≡ as_step s t (record { reply = bare InWait; own = own_of s t })
+waiting-local s t (Egl k) signalled m = answered _ _ _ (sym (put-own_of s t))
+waiting-local s t (Gl k) signalled m = answered _ _ _ (sym (put-own_of s t))
+waiting-local s t (OwnCall k) signalled m = not_local m
+
+by_wait-local : (s : State) (t : ℕ) (c : CallValue) (o : Option ℕ) → IsSound s → HasPart s t → is_local (part_of s t) c ≡ true → step_in o s t c ≡ as_step s t (in_wait (is_some o) (part_of s t) c)
+by_wait-local s t c (Some sync) l i m = waiting-local s t c.kind (is_signalled s sync) m
+by_wait-local s t c None l i m = by_kind-local s t c c.kind l i m
+
+-- a local call changes the thread's own alone; its reply, and what is then the thread's own, depend on the part and the call
+pub local_step : (s : State) (t : ℕ) (c : CallValue) → IsSound s → HasPart s t → is_local (part_of s t) c ≡ true → step s t c ≡ as_step s t (locally (part_of s t) c)
+unfolding step locally
+local_step s t c l i m = by_wait-local s t c (record_of s t).wait l i m

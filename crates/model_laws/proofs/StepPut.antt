@@ -1,0 +1,238 @@
+-- The first law of frame: a step of a thread, and what is put for another one, may come in either order.
+use Rattle.std.proofs.Common.{◌≡◌, ◌≢◌, ℕ, pos, Bool, true, false, List, [], ◌∷◌, refl, sym, ap, ◌∙◌, Option, None, Some, ◌==◌, is_some, map}
+use Rattle.model_laws.proofs.Writes.{census-written}
+use Rattle.egl_model.specs.Contexts.{context_call_facts, context_value, context_value_at, draws_with, is_drawn_with, value_of_context}
+use Rattle.egl_model.specs.Handles.{handle_at}
+use Rattle.egl_model.specs.Arguments.{number}
+use Rattle.display_table.specs.declared.handles.HandleKind.TheVariants.{Context as a_context, Surface as a_surface}
+use Rattle.egl_calls.specs.Arguments.{signed}
+use Rattle.egl_names.specs.declared.codes.TheConstants.{EGL_DRAW}
+use Rattle.egl_calls.specs.declared.errors.Outcome.TheVariants.{Done}
+use Rattle.std.specs.Prelude.{unwrap_or, if◌then◌else◌}
+use Rattle.std.specs.Option.{option_and_then, option_map_or}
+use Rattle.egl_calls.specs.Calls.{CallValue, ReplyValue}
+use Rattle.egl_calls.specs.Errors.{egl_code}
+use Rattle.egl_calls.specs.declared.kinds.Kind.{Kind}
+use Rattle.egl_calls.specs.declared.kinds.Kind.TheVariants.{Egl, Gl, Own as OwnCall}
+use Rattle.egl_calls.specs.declared.kinds.EglKind.{EglKind}
+use Rattle.egl_calls.specs.declared.kinds.EglKind.TheVariants.{CreateWindowSurface, SwapBuffers, GetError as EglGetError, CreatePbufferSurface, MakeCurrent, GetCurrentContext, GetCurrentSurface, GetCurrentDisplay, QueryApi, QuerySurface, QueryContext, CreateSync, ClientWaitSync, WaitSync, GetSyncAttrib}
+use Rattle.egl_calls.specs.declared.kinds.GlKind.{GlKind}
+use Rattle.egl_calls.specs.declared.kinds.GlKind.TheVariants.{ReadPixels, GenTextures, IsTexture, TexImage2d, TexSubImage2d}
+use Rattle.call_rules.specs.GlRules as gl_rules
+use Rattle.context_state.specs.Kinds.{context_gl_call}
+use Rattle.context_state.specs.declared.kinds.ContextCall.{ContextCall}
+use Rattle.context_state.specs.Parts.{PartValue}
+use Rattle.share_group.specs.Names.{given}
+use Rattle.share_group.specs.declared.names.NameKind.TheVariants.{Texture as textures}
+use Rattle.egl_model.specs.GlFacts.{image_facts}
+use Rattle.egl_model.specs.Names.{generated, group_of, name_value, object_named}
+use Rattle.model_laws.proofs.TextureCalls.{blind-group_of, blind-named, blind-names, blind-part_facts}
+use Rattle.egl_calls.specs.declared.errors.EglError.{EglError}
+use Rattle.egl_calls.specs.declared.errors.GlError.{GlError}
+use Rattle.context_state.specs.Parts.{noted}
+use Rattle.call_rules.specs.EglRules as rules
+use Rattle.display_table.specs.declared.handles.Handle.{Handle}
+use Rattle.egl_model.specs.declared.records.ThreadRecord.{ThreadRecord}
+use Rattle.egl_model.specs.State.{State, record_of, api_code}
+use Rattle.egl_model.specs.Currents.{current_context, read_storage, display_at, handle_of}
+use Rattle.egl_model.specs.Drawing.{pack_alignment, read_pixels, rows_of}
+use Rattle.egl_model.specs.EglEffects.{egl_effect}
+use Rattle.egl_model.specs.EglFacts.{egl_facts, egl_refusal}
+use Rattle.model_laws.specs.Frame.{IsNone, moved_step}
+use Rattle.egl_model.specs.GlEffects.{effect_by, gl_effect, local_value, object_effect}
+use Rattle.egl_model.specs.GlFacts.{gl_refusal}
+use Rattle.model_laws.specs.Hidden.{hide, nothing}
+use Rattle.egl_model.specs.MakeCurrent.{config_of_context, config_of_surface, context_handle, current_facts, draw_handle, is_context_taken, is_surface_taken, read_handle}
+use Rattle.egl_model.specs.Objects.{storage_in, context_in}
+use Rattle.egl_model.specs.Parts.{Own, Places, places, put_at, put_own}
+use Rattle.model_laws.specs.Shapes.{shapes}
+use Rattle.model_laws.specs.Sound.{IsWhole}
+use Rattle.egl_model.specs.Step.{Stepped, after_egl_rules, after_gl_rules, done, egl_step, gl_step, gl_step_on, step, step_by, step_in, buffer_step_on, own_step, wait_step}
+use Rattle.egl_model.specs.Surfaces.{pbuffer_facts, surface_facts, surface_value, value_of_surface}
+use Rattle.egl_model.specs.OwnCalls.{buffer_effect, buffer_refusal}
+use Rattle.egl_model.specs.Waits.{is_signalled, is_wait_end}
+use Rattle.egl_model.specs.Effects.{valued}
+use Rattle.egl_calls.specs.declared.kinds.OwnKind.{OwnKind}
+use Rattle.egl_calls.specs.declared.kinds.OwnKind.TheVariants.{ReadBuffer, Census}
+use Rattle.egl_model.specs.Syncs.{sync_facts}
+use Rattle.model_laws.proofs.SyncCalls.{blind-client_wait, blind-new_sync, blind-server, blind-sync_value}
+use Rattle.model_laws.proofs.WindowCalls.{blind-swap_facts, blind-window_facts}
+use Rattle.model_laws.proofs.Blinds.{blind-context_elsewhere, blind-context_of, blind-current, blind-live_bytes, blind-own_part, blind-own_storage, blind-read, blind-record, blind-surface_elsewhere, blind-surface_of, read_alone, blind-signalled, blind-any, blind-context, blind-display}
+use Rattle.model_laws.proofs.EglCalls.{acts-error}
+use Rattle.model_laws.proofs.GlCalls.{acts-own_part}
+use Rattle.model_laws.proofs.Keeps.{Blind}
+use Rattle.model_laws.proofs.PutMoves.{places-stand}
+use Rattle.model_laws.proofs.PutWhole.{whole-put}
+use Rattle.model_laws.proofs.StepKeeps.{acts-egl_done, acts-gl_done, keeps-step, acts-swept_self, acts-wait_done}
+
+-- ---- Facts: a line for each call whose facts look at objects or at threads.
+blind-config_of_context : (t : ℕ) (h : Option Handle) (s : State) → Blind t s (λ a. config_of_context a h)
+blind-config_of_context t h s = blind-context_of (λ o. option_map_or (λ x. pos x.config) o (pos 0)) (λ c x. refl) t h s
+
+blind-config_of_surface : (t : ℕ) (h : Option Handle) (s : State) → Blind t s (λ a. config_of_surface a h)
+blind-config_of_surface t h s w v x ne = ap (λ y. option_map_or (λ x. x.surface.config) y (pos 0)) (blind-surface_of t h s w v x ne)
+
+blind-context_taken : (t : ℕ) (h : Option Handle) (s : State) → Blind t s (λ a. is_context_taken a t h)
+blind-context_taken t None s w v x ne = refl
+blind-context_taken t (Some h) s w v x ne = blind-context_elsewhere t h.object s w v x ne
+
+blind-surface_taken : (t : ℕ) (h : Option Handle) (s : State) → Blind t s (λ a. is_surface_taken a t h)
+blind-surface_taken t None s w v x ne = refl
+blind-surface_taken t (Some h) s w v x ne = blind-surface_elsewhere t h.object s w v x ne
+
+blind-current_facts : (t : ℕ) (c : CallValue) (s : State) → Blind t s (λ a. current_facts a t c)
+blind-current_facts t c s w v x ne =
+    let a = blind-config_of_context t (context_handle s c) s w v x ne in let b = blind-config_of_surface t (draw_handle s c) s w v x ne in let d = blind-config_of_surface t (read_handle s c) s w v x ne in
+    let e = blind-context_taken t (context_handle s c) s w v x ne in let f = blind-surface_taken t (draw_handle s c) s w v x ne in let g = blind-surface_taken t (read_handle s c) s w v x ne in
+    cc
+
+-- what a surface or a context is asked for
+blind-surface_value : (t : ℕ) (c : CallValue) (s : State) → Blind t s (λ a. surface_value a c)
+blind-surface_value t c s w v x ne = ap (value_of_surface (signed c 2)) (blind-surface_of t (handle_at s c 1 a_surface) s w v x ne)
+
+blind-value_of_context : (t a : ℕ) (o : Option Handle) (s : State) → Blind t s (λ b. value_of_context b a o)
+unfolding is_drawn_with
+blind-value_of_context t a None s w v x ne = refl
+blind-value_of_context t a (Some h) s w v x ne =
+    ap (λ b. option_and_then (λ y. context_value_at y.config b a) (context_in (put_own s v x).objects h.object)) (blind-any (draws_with h.object) (λ r e. refl) t s w v x ne)
+    ∙ blind-context (λ o. option_and_then (λ y. context_value_at y.config (is_drawn_with s.threads h.object) a) o) (λ y p. refl) t h.object s w v x ne
+
+blind-context_value : (t : ℕ) (c : CallValue) (s : State) → Blind t s (λ a. context_value a c)
+blind-context_value t c s w v x ne = blind-value_of_context t (number c 2) (handle_at s c 1 a_context) s w v x ne
+
+blind-facts : (t : ℕ) (c : CallValue) (s : State) (k : EglKind) → Blind t s (λ a. egl_facts a t k c)
+blind-facts t c s CreateWindowSurface w v x ne = blind-window_facts t c s w v x ne
+blind-facts t c s SwapBuffers w v x ne = blind-swap_facts t c s w v x ne
+blind-facts t c s CreatePbufferSurface w v x ne = ap (λ n. record (pbuffer_facts s c) { live_bytes = n }) (blind-live_bytes t s w v x ne)
+blind-facts t c s MakeCurrent w v x ne = blind-current_facts t c s w v x ne
+blind-facts t c s QuerySurface w v x ne = ap (λ y. record (surface_facts s c) { is_attribute = is_some y }) (blind-surface_value t c s w v x ne)
+blind-facts t c s QueryContext w v x ne = ap (λ y. record (context_call_facts s c) { is_attribute = is_some y }) (blind-context_value t c s w v x ne)
+blind-facts t c s CreateSync w v x ne = blind-new_sync t c s w v x ne
+blind-facts t c s WaitSync w v x ne = blind-server t c s w v x ne
+blind-facts t c s GetSyncAttrib w v x ne = ap (λ y. record (sync_facts s c) { is_attribute = is_some y }) (blind-sync_value t c s w v x ne)
+blind-facts t c s k w v x ne = refl
+
+blind-refusal : (t : ℕ) (c : CallValue) (s : State) (k : EglKind) → Blind t s (λ a. egl_refusal a t k c)
+unfolding egl_refusal
+blind-refusal t c s k w v x ne = ap (rules.egl_refusal c) (blind-facts t c s k w v x ne)
+
+blind-gl_refusal : (t n : ℕ) (c : CallValue) (s : State) (k : GlKind) → Blind t s (λ a. gl_refusal a t n k c)
+unfolding gl_refusal
+blind-gl_refusal t n c s TexImage2d w v x ne = ap (λ b. gl_rules.gl_refusal c (record (image_facts s c) { live_bytes = b })) (blind-live_bytes t s w v x ne)
+blind-gl_refusal t n c s TexSubImage2d w v x ne = ap (gl_rules.gl_refusal c) (blind-part_facts t n c s w v x ne)
+blind-gl_refusal t n c s k w v x ne = refl
+
+-- ---- Replies: a line for each call that answers what it reads.
+blind-egl_reply : (t : ℕ) (c : CallValue) (s : State) (k : EglKind) → Blind t s (λ a. done (egl_effect a t k c))
+blind-egl_reply t c s EglGetError w v x ne = ap (λ (r : ThreadRecord). done (valued (pos (egl_code r.error)) s)) (blind-record t s w v x ne)
+blind-egl_reply t c s GetCurrentContext w v x ne = ap (λ (r : ThreadRecord). done (valued (pos (handle_of r.context)) s)) (blind-record t s w v x ne)
+blind-egl_reply t c s GetCurrentSurface w v x ne = ap (λ (r : ThreadRecord). done (valued (pos (if number c 0 == EGL_DRAW then handle_of r.draw else handle_of r.read)) s)) (blind-record t s w v x ne)
+blind-egl_reply t c s GetCurrentDisplay w v x ne = ap (λ o. done (valued (pos (display_at (put_own s v x) o)) s)) (blind-current t s w v x ne) ∙ ap (λ d. done (valued (pos d) s)) (blind-display t (current_context s t) s w v x ne)
+blind-egl_reply t c s QueryApi w v x ne = ap (λ (r : ThreadRecord). done (valued (pos (api_code r.api)) s)) (blind-record t s w v x ne)
+blind-egl_reply t c s QuerySurface w v x ne = ap (λ y. done (valued (unwrap_or y (pos 0)) s)) (blind-surface_value t c s w v x ne)
+blind-egl_reply t c s QueryContext w v x ne = ap (λ y. done (valued (unwrap_or y (pos 0)) s)) (blind-context_value t c s w v x ne)
+blind-egl_reply t c s ClientWaitSync w v x ne = blind-client_wait t c s w v x ne
+blind-egl_reply t c s GetSyncAttrib w v x ne = ap (λ y. done (valued (unwrap_or y (pos 0)) s)) (blind-sync_value t c s w v x ne)
+blind-egl_reply t c s k w v x ne = refl
+
+blind-read_pixels : (t n : ℕ) (c : CallValue) (s : State) → current_context s t ≡ Some n → Blind t s (λ a. read_pixels a t n c)
+blind-read_pixels t n c s e w v x ne =
+    ap (λ (p : Option PartValue). rows_of c (option_map_or (λ q. q.pack_alignment) p 4) (option_and_then (storage_in (put_own s v x).objects) (read_storage (put_own s v x) t))) (blind-own_part t n s e w v x ne)
+    ∙ ap (λ o. rows_of c (pack_alignment s n) (option_and_then (storage_in (put_own s v x).objects) o)) (blind-read t s w v x ne)
+    ∙ ap (λ o. rows_of c (pack_alignment s n) o) (blind-own_storage t (read_storage s t) s (λ n e. read_alone s t n e) w v x ne)
+
+blind-object_reply : (t n : ℕ) (c : CallValue) (s : State) (k : GlKind) → current_context s t ≡ Some n → Blind t s (λ a. done (object_effect a t n k c))
+blind-object_reply t n c s ReadPixels e w v x ne = ap (λ b. done (record { waits = false; value = pos 0; list = []; bytes = b; state = s })) (blind-read_pixels t n c s e w v x ne)
+blind-object_reply t n c s GenTextures e w v x ne =
+    ap (λ g. done (generated (put_own s v x) g textures (number c 0))) (blind-group_of t n s w v x ne)
+    ∙ ap (λ xs. done (record { waits = false; value = pos 0; list = map (λ i. pos i) (given (number c 0) xs); bytes = []; state = s })) (blind-names t (group_of s n) textures s w v x ne)
+blind-object_reply t n c s IsTexture e w v x ne =
+    ap (λ g. done (valued (name_value (object_named (put_own s v x) g textures (number c 0))) s)) (blind-group_of t n s w v x ne)
+    ∙ ap (λ o. done (valued (name_value o) s)) (blind-named t (group_of s n) textures (number c 0) s w v x ne)
+blind-object_reply t n c s k e w v x ne = refl
+
+blind-reply_by : (o : Option ContextCall) (t n : ℕ) (c : CallValue) (s : State) (k : GlKind) → current_context s t ≡ Some n → Blind t s (λ a. done (effect_by o a t n k c))
+blind-reply_by (Some own) t n c s k e w v x ne = ap (λ p. done (valued (local_value p c) s)) (blind-own_part t n s e w v x ne)
+blind-reply_by None t n c s k e w v x ne = blind-object_reply t n c s k e w v x ne
+
+blind-gl_reply : (t n : ℕ) (c : CallValue) (s : State) (k : GlKind) → current_context s t ≡ Some n → Blind t s (λ a. done (gl_effect a t n k c))
+blind-gl_reply t n c s k e w v x ne = blind-reply_by (context_gl_call k) t n c s k e w v x ne
+
+-- ---- Steps.
+abbrev pub stepped : ReplyValue → State → Stepped
+stepped r a = record { reply = r; state = a }
+
+pub answered : (r : ReplyValue) (a b : State) → a ≡ b → stepped r a ≡ stepped r b
+answered r a b e = ap (stepped r) e
+
+both_same : (r q : ReplyValue) (a b : State) → r ≡ q → a ≡ b → stepped r a ≡ stepped q b
+both_same r q a b e f = ap (λ z. stepped z a) e ∙ ap (stepped q) f
+
+by_egl_rules : (t v : ℕ) (x : Own) (s : State) (c : CallValue) (k : EglKind) (o : Option EglError) → v ≢ t → IsWhole (shapes s.objects) s → c.kind ≡ Egl k → egl_refusal s t k c ≡ o →
+    after_egl_rules (put_own s v x) t o (egl_effect (put_own s v x) t k c) ≡ moved_step (put_at (places s v) v x) (after_egl_rules s t o (egl_effect s t k c))
+by_egl_rules t v x s c k (Some e) ne w h r = answered _ _ _ ((acts-error s t e).moved.put w v x ne)
+by_egl_rules t v x s c k None ne w h r = both_same _ _ _ _ (blind-egl_reply t c s k w v x ne) ((acts-egl_done s t c k h r).moved.put w v x ne)
+
+by_gl_rules : (t v n : ℕ) (x : Own) (s : State) (c : CallValue) (k : GlKind) (o : Option GlError) → v ≢ t → IsWhole (shapes s.objects) s → c.kind ≡ Gl k → current_context s t ≡ Some n → gl_refusal s t n k c ≡ o →
+    after_gl_rules (put_own s v x) n o (gl_effect (put_own s v x) t n k c) ≡ moved_step (put_at (places s v) v x) (after_gl_rules s n o (gl_effect s t n k c))
+by_gl_rules t v n x s c k (Some e) ne w q h r = answered _ _ _ ((acts-own_part s t n (noted e) h).moved.put w v x ne)
+by_gl_rules t v n x s c k None ne w q h r = both_same _ _ _ _ (blind-gl_reply t n c s k h w v x ne) ((acts-gl_done s t n c k q r h).moved.put w v x ne)
+
+by_context : (t v : ℕ) (x : Own) (s : State) (c : CallValue) (k : GlKind) (o : Option ℕ) → v ≢ t → IsWhole (shapes s.objects) s → c.kind ≡ Gl k → current_context s t ≡ o → gl_step_on (put_own s v x) t o k c ≡ moved_step (put_at (places s v) v x) (gl_step_on s t o k c)
+by_context t v x s c k None ne w q h = refl
+by_context t v x s c k (Some n) ne w q h =
+    ap (λ o. after_gl_rules (put_own s v x) n o (gl_effect (put_own s v x) t n k c)) (blind-gl_refusal t n c s k w v x ne)
+    ∙ by_gl_rules t v n x s c k (gl_refusal s t n k c) ne w q h refl
+
+by_buffer_rules : (t v n : ℕ) (x : Own) (s : State) (c : CallValue) (o : Option GlError) → v ≢ t → IsWhole (shapes s.objects) s → current_context s t ≡ Some n →
+    after_gl_rules (put_own s v x) n o (buffer_effect (put_own s v x) t n c) ≡ moved_step (put_at (places s v) v x) (after_gl_rules s n o (buffer_effect s t n c))
+by_buffer_rules t v n x s c (Some e) ne w h = answered _ _ _ ((acts-own_part s t n (noted e) h).moved.put w v x ne)
+by_buffer_rules t v n x s c None ne w h = answered _ _ _ ((acts-swept_self s t).moved.put w v x ne)
+
+by_buffer : (t v : ℕ) (x : Own) (s : State) (c : CallValue) (o : Option ℕ) → v ≢ t → IsWhole (shapes s.objects) s → current_context s t ≡ o → buffer_step_on (put_own s v x) t o c ≡ moved_step (put_at (places s v) v x) (buffer_step_on s t o c)
+unfolding buffer_refusal
+by_buffer t v x s c None ne w h = refl
+by_buffer t v x s c (Some n) ne w h = by_buffer_rules t v n x s c (buffer_refusal s t n c) ne w h
+
+by_own : (t v : ℕ) (x : Own) (s : State) (c : CallValue) (k : OwnKind) → v ≢ t → IsWhole (shapes s.objects) s → own_step (put_own s v x) t k c ≡ moved_step (put_at (places s v) v x) (own_step s t k c)
+by_own t v x s c ReadBuffer ne w = ap (λ o. buffer_step_on (put_own s v x) t o c) (blind-current t s w v x ne) ∙ by_buffer t v x s c (current_context s t) ne w refl
+by_own t v x s c Census ne w = ap (λ l. stepped (record { outcome = Done; value = pos 0; list = map pos l; bytes = [] }) (put_own s v x)) (census-written (places s v) x s.objects)
+by_own t v x s c k ne w = refl
+
+by_kind : (t v : ℕ) (x : Own) (s : State) (c : CallValue) (k : Kind) → v ≢ t → IsWhole (shapes s.objects) s → c.kind ≡ k → step_by (put_own s v x) t k c ≡ moved_step (put_at (places s v) v x) (step_by s t k c)
+unfolding egl_step gl_step
+by_kind t v x s c (Egl k) ne w h =
+    ap (λ o. after_egl_rules (put_own s v x) t o (egl_effect (put_own s v x) t k c)) (blind-refusal t c s k w v x ne)
+    ∙ by_egl_rules t v x s c k (egl_refusal s t k c) ne w h refl
+by_kind t v x s c (Gl k) ne w h = ap (λ o. gl_step_on (put_own s v x) t o k c) (blind-current t s w v x ne) ∙ by_context t v x s c k (current_context s t) ne w h refl
+by_kind t v x s c (OwnCall k) ne w h = by_own t v x s c k ne w
+
+by_end : (t v : ℕ) (x : Own) (s : State) (is_end signalled : Bool) → v ≢ t → IsWhole (shapes s.objects) s → wait_step (put_own s v x) t is_end signalled ≡ moved_step (put_at (places s v) v x) (wait_step s t is_end signalled)
+by_end t v x s false signalled ne w = refl
+by_end t v x s true false ne w = refl
+by_end t v x s true true ne w = answered _ _ _ ((acts-wait_done s t).moved.put w v x ne)
+
+by_wait : (t v : ℕ) (x : Own) (s : State) (c : CallValue) (o : Option ℕ) → v ≢ t → IsWhole (shapes s.objects) s → step_in o (put_own s v x) t c ≡ moved_step (put_at (places s v) v x) (step_in o s t c)
+by_wait t v x s c (Some sync) ne w = ap (λ b. wait_step (put_own s v x) t (is_wait_end c.kind) b) (blind-signalled t sync s w v x ne) ∙ by_end t v x s (is_wait_end c.kind) (is_signalled s sync) ne w
+by_wait t v x s c None ne w = by_kind t v x s c c.kind ne w refl
+
+pub step-put_at : (s : State) (t v : ℕ) (x : Own) (c : CallValue) → v ≢ t → IsWhole (shapes s.objects) s → step (put_own s v x) t c ≡ moved_step (put_at (places s v) v x) (step s t c)
+unfolding step
+step-put_at s t v x c ne w = ap (λ (r : ThreadRecord). step_in r.wait (put_own s v x) t c) (blind-record t s w v x ne) ∙ by_wait t v x s c (record_of s t).wait ne w
+
+-- the places of another thread are those that they were
+pub places-step : (s : State) (t v : ℕ) (c : CallValue) → v ≢ t → IsWhole (shapes s.objects) s → places (step s t c).state v ≡ places s v
+places-step s t v c ne w = places-stand s (step s t c).state v ((keeps-step s t c).stands w v ne)
+
+pub step-put : (s : State) (t v : ℕ) (x : Own) (c : CallValue) → v ≢ t → IsWhole (shapes s.objects) s → step (put_own s v x) t c ≡ moved_step (λ a. put_own a v x) (step s t c)
+step-put s t v x c ne w = step-put_at s t v x c ne w ∙ ap (λ (p : Places). moved_step (put_at p v x) (step s t c)) (sym (places-step s t v c ne w))
+
+-- ---- States from which parts are out.
+pub whole-hide : (ts : List ℕ) (s : State) → IsWhole (shapes s.objects) s → IsWhole (shapes (hide ts s).objects) (hide ts s)
+whole-hide [] s w = w
+whole-hide (t ∷ ts) s w = whole-put t nothing (hide ts s) (whole-hide ts s w)
+
+-- a step of a thread whose part is in does the same to what is left where other parts are out
+pub hide-step : (ts : List ℕ) (s : State) (u : ℕ) (c : CallValue) → IsWhole (shapes s.objects) s → IsNone u ts → step (hide ts s) u c ≡ moved_step (hide ts) (step s u c)
+hide-step [] s u c w i = refl
+hide-step (t ∷ ts) s u c w i = step-put (hide ts s) u t nothing c i.0 (whole-hide ts s w) ∙ ap (moved_step (λ a. put_own a t nothing)) (hide-step ts s u c w i.1)

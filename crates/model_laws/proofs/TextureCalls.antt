@@ -1,0 +1,259 @@
+-- What the calls on names and textures keep.
+use Rattle.std.proofs.Common.{◌≡◌, ℕ, zero, suc, ◌+◌, ◌||◌, ◌/◌, ◌^◌, ◌≤◌, ℤ, pos, pow_pos, ltb, true, false, ◌==◌, List, [], ◌∷◌, ◌++◌, refl, sym, ap, subst, ◌∙◌, arith, length, get_or, min, Option, None, Some}
+use Rattle.std.specs.Prelude.{int_lt, unwrap_or, option_to_list}
+use Rattle.std.specs.Option.{option_and_then, option_map, option_map_or}
+use Rattle.std.proofs.lemmas.Bool.{cond_both, eq-eqb, or_parts, ltb-false}
+use Rattle.std.proofs.lemmas.Option.{none-some}
+use Rattle.driver_objects.specs.Objects.{filled}
+use Rattle.std.proofs.lemmas.Nat.{div_below}
+use Rattle.egl_calls.specs.Calls.{CallValue}
+use Rattle.egl_calls.specs.Ranges.{unsigned}
+use Rattle.egl_calls.specs.declared.kinds.Kind.TheVariants.{Gl}
+use Rattle.egl_calls.specs.declared.kinds.GlKind.TheVariants.{TexImage2d}
+use Rattle.egl_calls.specs.Arguments.{signed}
+use Rattle.call_rules.specs.GlAllowed.{ImageAllowed}
+use Rattle.call_rules.specs.TextureRules.{is_no_level_side, longest_side}
+use Rattle.call_rules.proofs.GlLaws.{image_allowed}
+use Rattle.pixel_rows.specs.Images.{frozen}
+use Rattle.pixel_rows.specs.Painting.{painted}
+use Rattle.pixel_rows.specs.Payloads.{loaded}
+use Rattle.texture_objects.specs.Uploads.{uploaded}
+use Rattle.driver_objects.specs.Storages.{StorageValue, rewritten_image, storage_bytes, stored}
+use Rattle.driver_objects.specs.declared.kinds.ObjectKind.TheVariants.{Storage as a_storage, Texture as a_texture}
+use Rattle.driver_objects.specs.declared.objects.Object.{Object}
+use Rattle.driver_objects.specs.declared.objects.Object.TheVariants.{Context, Storage, Texture}
+use Rattle.share_group.specs.Groups.{names_of}
+use Rattle.share_group.specs.Names.{object_of}
+use Rattle.share_group.specs.declared.names.NameKind.{NameKind}
+use Rattle.share_group.specs.declared.names.NameKind.TheVariants.{Texture as textures}
+use Rattle.egl_names.specs.declared.codes.TheConstants.{GL_TEXTURE_BINDING_2D}
+use Rattle.egl_model.specs.Contexts.{new_texture}
+use Rattle.egl_model.specs.Currents.{current_context}
+use Rattle.model_laws.specs.Extents.{quiet}
+use Rattle.model_laws.specs.Full.{Full}
+use Rattle.egl_model.specs.GlFacts.{gl_refusal, image_facts, part_facts, stored_facts}
+use Rattle.egl_model.specs.Graph.{is_in}
+use Rattle.egl_model.specs.Names.{generated, group_of, names_in, object_named, with_more, with_name_of}
+use Rattle.egl_model.specs.Objects.{as_group, as_storage, as_texture, change_context, change_group, change_storage, change_texture, storage_in, texture_in, with_context, with_group, with_texture}
+use Rattle.egl_model.specs.Parts.{put_own}
+use Rattle.model_laws.specs.Shapes.{Goes, IsFree, own_at, pixels_in, shapes}
+use Rattle.model_laws.specs.Sound.{IsWhole}
+use Rattle.egl_model.specs.State.{State, object_at}
+use Rattle.egl_model.specs.Sweep.{live_bytes}
+use Rattle.egl_model.specs.Textures.{bound_anew, bound_at, bound_named, bound_texture, bound_texture_name, deleted_in, deleted_texture, deleted_textures, freed, has_no_side, image_bytes, level_of, level_storage, named_at, new_level, rewritten_part, set_crop, set_parameter, specified, specified_in, storage_at, target_texture, unbound_texture, unpack_alignment, with_crop, with_level, with_value}
+use Rattle.model_laws.proofs.Blinds.{alone_with, blind-context, blind-length, blind-object, blind-own_part}
+use Rattle.model_laws.proofs.Keeps.{Acts, Blind, acts_cond, acts_of, acts_self, acts_then, by_moves, by_quiet_moves}
+use Rattle.model_laws.proofs.GlCalls.{acts-written}
+use Rattle.model_laws.proofs.LinkSetters.{goes_name, setter-bound, setter-group, setter-named, setter-texture, setter-unbound, suits-bound_texture, suits-crop, suits-level, suits-more, suits-name, suits-named, suits-unbound, suits-value}
+use Rattle.model_laws.proofs.Moves.{Add, Change, own_in}
+use Rattle.model_laws.proofs.NewObjects.{free_new, full-uploaded, leads-new_texture, stored-new_texture, without_pixels}
+use Rattle.model_laws.proofs.Places.{new_kind, own_at-shapes}
+use Rattle.model_laws.proofs.Setters.{form-rewritten}
+use Rattle.model_laws.proofs.Slots.{in_left, in_right, no_edge, only_one}
+use Rattle.model_laws.proofs.Writes.{IsBlind}
+
+-- ---- What the calls look at.
+group-blind : IsBlind as_group
+group-blind (Some (Context c)) = refl
+group-blind (Some (Storage v)) = refl
+group-blind o = refl
+
+pub blind-group_of : (t n : ℕ) (s : State) → Blind t s (λ a. group_of a n)
+blind-group_of t n s = blind-context (λ o. option_map_or (λ x. x.group) o 0) (λ c x. refl) t n s
+
+pub blind-named : (t g : ℕ) (k : NameKind) (name : ℕ) (s : State) → Blind t s (λ a. object_named a g k name)
+blind-named t g k name s = blind-object (λ o. object_of name (option_map_or (names_of k) (as_group o) [])) (λ o. ap (λ x. object_of name (option_map_or (names_of k) x [])) (group-blind o)) t g s
+
+pub blind-names : (t g : ℕ) (k : NameKind) (s : State) → Blind t s (λ a. names_in a g k)
+blind-names t g k s = blind-object (λ o. option_map_or (names_of k) (as_group o) []) (λ o. ap (λ x. option_map_or (names_of k) x []) (group-blind o)) t g s
+
+pub blind-target : (t n : ℕ) (s : State) → Blind t s (λ a. target_texture a n)
+blind-target t n s = blind-context (λ o. option_map (λ c. unwrap_or c.bound.texture c.texture) o) (λ c x. refl) t n s
+
+pub blind-alignment : (t n : ℕ) (s : State) → current_context s t ≡ Some n → Blind t s (λ a. unpack_alignment a n)
+blind-alignment t n s i w v x ne = ap (λ p. option_map_or (λ q. q.unpack_alignment) p 4) (blind-own_part t n s i w v x ne)
+
+texture-blind : IsBlind as_texture
+texture-blind (Some (Context c)) = refl
+texture-blind (Some (Storage v)) = refl
+texture-blind o = refl
+
+blind-texture : (t : ℕ) (o : Option ℕ) (s : State) → Blind t s (λ a. option_and_then (texture_in a.objects) o)
+blind-texture t None s w v x ne = refl
+blind-texture t (Some n) s w v x ne = blind-object as_texture texture-blind t n s w v x ne
+
+-- the storage of a level
+pub blind-level : (t n k : ℕ) (s : State) → Blind t s (λ a. level_storage a n k)
+blind-level t n k s w v x ne =
+    ap (λ o. option_and_then (storage_at k) (option_and_then (texture_in (put_own s v x).objects) o)) (blind-target t n s w v x ne)
+    ∙ ap (λ o. option_and_then (storage_at k) o) (blind-texture t (target_texture s n) s w v x ne)
+
+stored-blind : IsBlind (λ o. stored_facts (as_storage o))
+stored-blind (Some (Context c)) = refl
+stored-blind (Some (Storage v)) = refl
+stored-blind o = refl
+
+blind-stored : (t : ℕ) (o : Option ℕ) (s : State) → Blind t s (λ a. stored_facts (option_and_then (storage_in a.objects) o))
+blind-stored t None s w v x ne = refl
+blind-stored t (Some n) s w v x ne = blind-object (λ o. stored_facts (as_storage o)) stored-blind t n s w v x ne
+
+pub blind-part_facts : (t n : ℕ) (c : CallValue) (s : State) → Blind t s (λ a. part_facts a n c)
+blind-part_facts t n c s w v x ne =
+    ap (λ o. stored_facts (option_and_then (storage_in (put_own s v x).objects) o)) (blind-level t n (level_of c) s w v x ne)
+    ∙ blind-stored t (level_storage s n (level_of c)) s w v x ne
+
+-- ---- glGenTextures and its kin.
+acts-more : (s : State) (t g : ℕ) (k : NameKind) (count : ℕ) → Acts quiet t s (λ a. record a { objects = change_group (with_more k count) g a.objects })
+unfolding change_group
+acts-more s t g k count = by_quiet_moves t s (Change g (with_group (with_more k count)) ∷ []) refl (setter-group (with_more k count), tt) (λ w. (suits-more t (shapes s.objects) s g k count, tt))
+
+pub acts-generated : (s : State) (t n : ℕ) (k : NameKind) (count : ℕ) → Acts quiet t s (λ a. (generated a (group_of a n) k count).state)
+acts-generated s t n k count = acts_of quiet t s (λ a. group_of a n) (λ g a. record a { objects = change_group (with_more k count) g a.objects }) (blind-group_of t n s) (acts-more s t (group_of s n) k count)
+
+-- ---- glBindTexture.
+acts-bound : (s : State) (t n : ℕ) (o : Option ℕ) (name : ℕ) → current_context s t ≡ Some n → (IsWhole (shapes s.objects) s → Goes (shapes s.objects) a_texture o) → Acts quiet t s (λ a. record a { objects = bound_texture n o name a.objects })
+unfolding change_context
+acts-bound s t n o name i g = by_quiet_moves t s (Change n (with_context (named_at GL_TEXTURE_BINDING_2D name)) ∷ Change n (with_context (bound_at 2 o)) ∷ []) refl (setter-named GL_TEXTURE_BINDING_2D name, (setter-bound 2 o, tt))
+    (λ w. (suits-named t (shapes s.objects) s n GL_TEXTURE_BINDING_2D name (alone_with s t n i w), λ v. (suits-bound_texture t (shapes s.objects) _ n o (g w), tt)))
+
+acts-anew : (s : State) (t g n name : ℕ) → current_context s t ≡ Some n → Acts quiet t s (λ a. record a { objects = bound_anew g n name a.objects })
+unfolding live_bytes change_context change_group
+acts-anew s t g n name i =
+    let m = length s.objects in let new = Some new_texture ∷ [] in let sh = shapes s.objects ++ shapes new in
+    acts_of quiet t s (λ a. length a.objects) (λ m a. record a { objects = bound_texture n (Some m) name (change_group (with_name_of textures name (Some m)) g (a.objects ++ Some new_texture ∷ [])) }) (blind-length t s)
+    (by_quiet_moves t s (Add new ∷ Change g (with_group (with_name_of textures name (Some m))) ∷ Change n (with_context (named_at GL_TEXTURE_BINDING_2D name)) ∷ Change n (with_context (bound_at 2 (Some m))) ∷ []) refl
+    ((tt, tt), (setter-group (with_name_of textures name (Some m)), (setter-named GL_TEXTURE_BINDING_2D name, (setter-bound 2 (Some m), tt))))
+    (λ w. let made = new_kind s.objects new 0 m a_texture (omega arith) refl in (
+      (leads-new_texture sh, stored-new_texture sh _, tt),
+      λ u. (suits-name t sh _ g textures name (Some m) made, λ v. (suits-named t sh _ n GL_TEXTURE_BINDING_2D name (alone_with s t n i w), λ x. (suits-bound_texture t sh _ n (Some m) made, tt))),
+    )))
+
+acts-named : (s : State) (t g n name : ℕ) (o : Option ℕ) → current_context s t ≡ Some n → (IsWhole (shapes s.objects) s → Goes (shapes s.objects) a_texture o) → Acts quiet t s (λ a. bound_named g n name o a)
+acts-named s t g n name (Some x) i e = acts-bound s t n (Some x) name i e
+acts-named s t g n name None i e = acts-anew s t g n name i
+
+pub acts-bound_name : (s : State) (t n name : ℕ) → current_context s t ≡ Some n → Acts quiet t s (λ a. bound_texture_name a n name)
+acts-bound_name s t n name i = acts_cond quiet t s (name == 0) (λ a. record a { objects = bound_texture n None 0 a.objects }) (λ a. bound_named (group_of a n) n name (object_named a (group_of a n) textures name) a)
+    (λ e. acts-bound s t n None 0 i (λ w. tt))
+    (λ e. let g = group_of s n in
+    acts_of quiet t s (λ a. group_of a n) (λ g a. bound_named g n name (object_named a g textures name) a) (blind-group_of t n s)
+    (acts_of quiet t s (λ a. object_named a g textures name) (λ o a. bound_named g n name o a) (blind-named t g textures name s)
+    (acts-named s t g n name (object_named s g textures name) i (λ w. goes_name (shapes s.objects) (object_at s g) textures name (w.kinds.objects g)))))
+
+-- ---- glDeleteTextures.
+acts-freed : (s : State) (t g n name : ℕ) (o : Option ℕ) → current_context s t ≡ Some n → Acts quiet t s (λ a. record a { objects = freed g n name o a.objects })
+unfolding change_context change_group
+acts-freed s t g n name None i = by_quiet_moves t s (Change g (with_group (with_name_of textures name None)) ∷ []) refl (setter-group _, tt) (λ w. (suits-name t (shapes s.objects) s g textures name None tt, tt))
+acts-freed s t g n name (Some x) i = by_quiet_moves t s (Change n (with_context (unbound_texture x)) ∷ Change g (with_group (with_name_of textures name None)) ∷ []) refl (setter-unbound x, (setter-group _, tt))
+    (λ w. (suits-unbound t (shapes s.objects) s n x (alone_with s t n i w), λ v. (suits-name t (shapes s.objects) _ g textures name None tt, tt)))
+
+acts-deleted : (s : State) (t g n name : ℕ) → current_context s t ≡ Some n → Acts quiet t s (λ a. deleted_texture g n name a)
+acts-deleted s t g n name i = acts_of quiet t s (λ a. object_named a g textures name) (λ o a. record a { objects = freed g n name o a.objects }) (blind-named t g textures name s) (acts-freed s t g n name (object_named s g textures name) i)
+
+acts-deleted_in : (t g n : ℕ) (xs : List ℤ) (s : State) → current_context s t ≡ Some n → Acts quiet t s (λ a. deleted_in g n xs a)
+acts-deleted_in t g n [] s i = acts_self t s
+acts-deleted_in t g n (x ∷ xs) s i = acts_then quiet t s (λ a. deleted_texture g n (unsigned x) a) (λ a. deleted_in g n xs a) (acts-deleted s t g n (unsigned x) i) (acts-deleted_in t g n xs (deleted_texture g n (unsigned x) s) i)
+
+pub acts-delete : (s : State) (t n : ℕ) (xs : List ℤ) → current_context s t ≡ Some n → Acts quiet t s (λ a. deleted_textures a n xs)
+acts-delete s t n xs i = acts_of quiet t s (λ a. group_of a n) (λ g a. deleted_in g n xs a) (blind-group_of t n s) (acts-deleted_in t (group_of s n) n xs s i)
+
+-- ---- glTexParameterx.
+acts-value : (s : State) (t pname value : ℕ) (o : Option ℕ) → Acts quiet t s (λ a. set_parameter pname value o a)
+unfolding change_texture
+acts-value s t pname value None = acts_self t s
+acts-value s t pname value (Some x) = by_quiet_moves t s (Change x (with_texture (with_value pname value)) ∷ []) refl (setter-texture _, tt) (λ w. (suits-value t (shapes s.objects) s x pname value, tt))
+
+pub acts-parameter : (s : State) (t n pname value : ℕ) → Acts quiet t s (λ a. set_parameter pname value (target_texture a n) a)
+acts-parameter s t n pname value = acts_of quiet t s (λ a. target_texture a n) (λ o a. set_parameter pname value o a) (blind-target t n s) (acts-value s t pname value (target_texture s n))
+
+-- ---- glTexParameteriv.
+acts-cropped : (s : State) (t : ℕ) (xs : List ℤ) (o : Option ℕ) → Acts quiet t s (λ a. set_crop xs o a)
+unfolding change_texture
+acts-cropped s t xs None = acts_self t s
+acts-cropped s t xs (Some x) = by_quiet_moves t s (Change x (with_texture (with_crop xs)) ∷ []) refl (setter-texture _, tt) (λ w. (suits-crop t (shapes s.objects) s x xs, tt))
+
+pub acts-crop : (s : State) (t n : ℕ) (xs : List ℤ) → Acts quiet t s (λ a. set_crop xs (target_texture a n) a)
+acts-crop s t n xs = acts_of quiet t s (λ a. target_texture a n) (λ o a. set_crop xs o a) (blind-target t n s) (acts-cropped s t xs (target_texture s n))
+
+-- ---- glTexImage2D.
+longest_few : (level : ℕ) → longest_side level ≤ 1024
+longest_few level = cond_both (ltb 10 level) 0 (1024 / 2 ^ level) (λ n. n ≤ 1024) (λ e. omega arith)
+    (λ e. let p = pow_pos level in let b = div_below 1024 (2 ^ level) 1025 p (omega (arith, p)) in omega (arith, b))
+
+-- a side that a level may have
+pub side_few : (level : ℕ) (z : ℤ) → is_no_level_side level z ≡ false → unsigned z ≤ 1024
+side_few level z h =
+    let a = or_parts (int_lt z (pos 0) || ltb (longest_side level) (unsigned z)) _ h in
+    let b = or_parts (int_lt z (pos 0)) (ltb (longest_side level) (unsigned z)) a.0 in
+    let l = ltb-false _ _ b.1 in let f = longest_few level in omega (arith, l, f)
+
+-- what is known where glTexImage2D isn't refused
+pub specify_allowed : (s : State) (t n : ℕ) (c : CallValue) → c.kind ≡ Gl TexImage2d → gl_refusal s t n TexImage2d c ≡ None → ImageAllowed c (image_facts s c)
+unfolding gl_refusal
+specify_allowed s t n c h r = image_allowed c (image_facts s c) h r
+
+small : (n : ℕ) → n ≤ 1024 → min n 1024 ≡ n
+small n h = omega (arith, h)
+
+new_bytes : (c : CallValue) (align : ℕ) → unsigned (signed c 3) ≤ 1024 → unsigned (signed c 4) ≤ 1024 → storage_bytes (stored (frozen (uploaded c align))) ≡ image_bytes c
+unfolding loaded painted
+new_bytes c align a b = rw (small (unsigned (signed c 3)) a, small (unsigned (signed c 4)) b) refl
+
+acts-new_level : (s : State) (t k x : ℕ) (v : StorageValue) → Full (Some (Storage v)) → live_bytes s.objects + storage_bytes v ≤ s.video → Acts quiet t s (λ a. record a { objects = specified_in k (Some v) x a.objects })
+unfolding live_bytes change_texture
+acts-new_level s t k x v full fit =
+    let m = length s.objects in let new = Some (Storage v) ∷ [] in let sh = shapes s.objects ++ shapes new in
+    acts_of quiet t s (λ a. length a.objects) (λ m a. record a { objects = change_texture (with_level k (Some m)) x (a.objects ++ Some (Storage v) ∷ []) }) (blind-length t s)
+    (by_moves t s (Add new ∷ Change x (with_texture (with_level k (Some m))) ∷ []) ((full, tt), (setter-texture _, tt)) (λ p. omega (arith, fit))
+    (λ w. (
+      (tt, without_pixels _ _ _ refl refl, tt),
+      λ u. (suits-level t sh _ x k (Some m) (new_kind s.objects new 0 m a_storage (omega arith) refl) (λ j h. subst (IsFree sh) (only_one j m h) (free_new s (Some (Storage v)) refl w)), tt),
+    )))
+
+acts-no_level : (s : State) (t k x : ℕ) → Acts quiet t s (λ a. record a { objects = specified_in k None x a.objects })
+unfolding change_texture
+acts-no_level s t k x = by_quiet_moves t s (Change x (with_texture (with_level k None)) ∷ []) refl (setter-texture _, tt) (λ w. (suits-level t (shapes s.objects) s x k None tt (λ j h. no_edge j h), tt))
+
+acts-level : (s : State) (t k : ℕ) (c : CallValue) (align : ℕ) (o : Option ℕ) → ImageAllowed c (image_facts s c) → Acts quiet t s (λ a. specified k (new_level c align) o a)
+acts-level s t k c align None h = acts_self t s
+acts-level s t k c align (Some x) h =
+    let w = side_few _ (signed c 3) h.width in let e = side_few _ (signed c 4) h.height in let room = h.room in
+    cond_both (has_no_side c) None (Some (stored (frozen (uploaded c align)))) (λ v. Acts quiet t s (λ a. specified k v (Some x) a)) (λ _. acts-no_level s t k x)
+    (λ _. acts-new_level s t k x (stored (frozen (uploaded c align))) (full-uploaded c align (omega (arith, w)) (omega (arith, e))) (let b = new_bytes c align w e in omega (arith, b, room)))
+
+pub acts-specified : (s : State) (t n : ℕ) (c : CallValue) → c.kind ≡ Gl TexImage2d → gl_refusal s t n TexImage2d c ≡ None → current_context s t ≡ Some n → Acts quiet t s (λ a. specified (level_of c) (new_level c (unpack_alignment a n)) (target_texture a n) a)
+acts-specified s t n c h r i = acts_of quiet t s (λ a. unpack_alignment a n) (λ align a. specified (level_of c) (new_level c align) (target_texture a n) a) (blind-alignment t n s i)
+    (acts_of quiet t s (λ a. target_texture a n) (λ o a. specified (level_of c) (new_level c (unpack_alignment s n)) o a) (blind-target t n s) (acts-level s t (level_of c) c (unpack_alignment s n) (target_texture s n) (specify_allowed s t n c h r)))
+
+-- ---- glTexSubImage2D.
+in_levels : (n k : ℕ) (xs : List (Option ℕ)) → get_or xs k None ≡ Some n → is_in n (filled xs) ≡ true
+in_levels n k [] h = absurd (none-some n h)
+in_levels n zero (x ∷ xs) h = in_left n (option_to_list x) (filled xs) (ap (λ o. is_in n (option_to_list o)) h ∙ ap (λ b. b || false) (eq-eqb n n refl))
+in_levels n (suc k) (x ∷ xs) h = in_right n (option_to_list x) (filled xs) (in_levels n k xs h)
+
+in_texture : (n k : ℕ) (o : Option Object) → option_and_then (storage_at k) (as_texture o) ≡ Some n → is_in n (pixels_in o) ≡ true
+in_texture n k (Some (Texture x)) h = in_levels n k x.levels h
+in_texture n k o h = absurd (none-some n h)
+
+unowned : (n k : ℕ) (o : Option Object) → option_and_then (storage_at k) (as_texture o) ≡ Some n → own_in o ≡ None
+unowned n k (Some (Texture x)) h = refl
+unowned n k o h = absurd (none-some n h)
+
+-- what a texture has at a level is no surface's
+free_level : (s : State) (n k : ℕ) (o : Option ℕ) → option_and_then (storage_at k) (option_and_then (texture_in s.objects) o) ≡ Some n → IsWhole (shapes s.objects) s → IsFree (shapes s.objects) n
+free_level s n k None h w = absurd (none-some n h)
+free_level s n k (Some x) h w = record {
+  each = λ m e.
+      let same : x ≡ m = w.storages.each m x n e (in_texture n k (object_at s x) h) in
+      none-some n (sym (own_at-shapes s.objects x ∙ unowned n k (object_at s x) h) ∙ ap (own_at (shapes s.objects)) same ∙ e);
+}
+
+acts-rewritten_at : (s : State) (t : ℕ) (c : CallValue) (align : ℕ) (o : Option ℕ) → ((n : ℕ) → o ≡ Some n → IsWhole (shapes s.objects) s → IsFree (shapes s.objects) n) → Acts quiet t s (λ a. rewritten_part c align o a)
+unfolding change_storage
+acts-rewritten_at s t c align None free = acts_self t s
+acts-rewritten_at s t c align (Some n) free = acts-written t n s (rewritten_image c align) (form-rewritten c align) (free n refl)
+
+pub acts-rewritten : (s : State) (t n : ℕ) (c : CallValue) → current_context s t ≡ Some n → Acts quiet t s (λ a. rewritten_part c (unpack_alignment a n) (level_storage a n (level_of c)) a)
+acts-rewritten s t n c i = acts_of quiet t s (λ a. unpack_alignment a n) (λ align a. rewritten_part c align (level_storage a n (level_of c)) a) (blind-alignment t n s i)
+    (acts_of quiet t s (λ a. level_storage a n (level_of c)) (λ o a. rewritten_part c (unpack_alignment s n) o a) (blind-level t n (level_of c) s)
+    (acts-rewritten_at s t c (unpack_alignment s n) (level_storage s n (level_of c)) (λ m e w. free_level s m (level_of c) (target_texture s n) e w)))

@@ -1,0 +1,5 @@
+use Rattle.model_laws.proofs.TextureLaws.{deleted_is_free}
+use Rattle.model_laws.proofs.laws.a_deleted_name_is_free.Goals as goal
+
+pub returns : goal.returns
+returns c = deleted_is_free

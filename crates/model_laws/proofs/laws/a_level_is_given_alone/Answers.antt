@@ -1,0 +1,8 @@
+use Rattle.model_laws.proofs.TextureLaws.{level_alone, pixels_alone}
+use Rattle.model_laws.proofs.laws.a_level_is_given_alone.Goals as goal
+
+pub returns-clause-levels : goal.returns-clause-levels
+returns-clause-levels c = level_alone
+
+pub returns-clause-pixels : goal.returns-clause-pixels
+returns-clause-pixels c = pixels_alone

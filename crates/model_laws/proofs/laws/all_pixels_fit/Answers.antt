@@ -1,0 +1,15 @@
+use Rattle.model_laws.proofs.PixelLaws.{live_bytes-created_context, live_bytes-created_pbuffer}
+use Rattle.model_laws.proofs.StepKeeps.{keeps-step, sound-history}
+use Rattle.model_laws.proofs.laws.all_pixels_fit.Goals as goal
+
+pub returns-clause-pbuffer : goal.returns-clause-pbuffer
+returns-clause-pbuffer c = live_bytes-created_pbuffer
+
+pub returns-clause-context : goal.returns-clause-context
+returns-clause-context c = live_bytes-created_context
+
+pub returns-clause-step : goal.returns-clause-step
+returns-clause-step c = λ s t call. (keeps-step s t call).pixels
+
+pub returns-clause-history : goal.returns-clause-history
+returns-clause-history c = λ windows ok video entries. (sound-history windows ok video entries).pixels

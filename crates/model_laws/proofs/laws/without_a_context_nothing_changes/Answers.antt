@@ -1,0 +1,5 @@
+use Rattle.model_laws.proofs.RefusalLaws.{without_context}
+use Rattle.model_laws.proofs.laws.without_a_context_nothing_changes.Goals as goal
+
+pub returns : goal.returns
+returns c = without_context

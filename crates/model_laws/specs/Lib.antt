@@ -1,0 +1,17 @@
+pub mod Laws
+pub mod Named
+pub mod Kinds
+pub mod DisplayCalls
+pub mod Destroyed
+pub mod CurrentCalls
+pub mod NewHandles
+pub mod Wants
+pub mod Sound
+pub mod Slots
+pub mod Shapes
+pub mod Full
+pub mod Extents
+pub mod Hidden
+pub mod Local
+pub mod Frame
+pub mod Refs

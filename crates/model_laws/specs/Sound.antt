@@ -1,0 +1,58 @@
+-- States that are sound, as each step leaves them.
+use Rattle.std.specs.Prelude.{◌≡◌, ◌≢◌, ℕ, ◌<◌, List, true, All, AllPairs, is_some, Option, Some, IfSome}
+use Rattle.egl_model.specs.declared.records.Bound.{Bound}
+use Rattle.egl_model.specs.State.{State, object_at, record_of}
+use Rattle.egl_model.specs.Currents.{has_context, has_surface}
+use Rattle.model_laws.specs.Laws.{HasNoLitter}
+use Rattle.model_laws.specs.Kinds.{KindsFit}
+use Rattle.egl_model.specs.Graph.{is_in}
+use Rattle.egl_model.specs.Links.{IsLinked}
+use Rattle.model_laws.specs.Shapes.{Shape, own_at, pixels_in, shapes}
+use Rattle.model_laws.specs.Full.{IsFull}
+use Rattle.model_laws.specs.Wants.{PixelsFit}
+
+-- a context may be current to at most one thread, and so may a surface, whether it is drawn to or read from (EGL 1.5, section 3.7.3)
+pub record IsAlone (s : State) : Type 0 where
+  pub contexts : (t u n : ℕ) → has_context n (record_of s t) ≡ true → has_context n (record_of s u) ≡ true → t ≡ u
+  pub surfaces : (t u n : ℕ) → has_surface n (record_of s t) ≡ true → has_surface n (record_of s u) ≡ true → t ≡ u
+
+-- a thread has a surface to draw to and one to read from exactly where it has a current context (section 3.7.3)
+pub record HasBothOrNone (s : State) : Type 0 where
+  pub draw : (t : ℕ) → is_some (record_of s t).draw ≡ is_some (record_of s t).context
+  pub read : (t : ℕ) → is_some (record_of s t).read ≡ is_some (record_of s t).context
+
+-- a number that no handle made from now on will have
+abbrev pub IsBelowNext : State → ℕ → Type 0
+IsBelowNext s number = number < s.next_handle
+
+-- nothing is bound, or it was bound by a handle with such a number
+abbrev pub IsBoundBelowNext : State → Option Bound → Type 0
+IsBoundBelowNext s bound = IfSome bound (λ b. IsBelowNext s b.handle)
+
+-- each valid handle has a number below the next one, and no two have one (section 2.1); so has each handle by which a thread's context or surfaces are bound, even where it isn't valid any more
+pub record NumbersAreBelow (s : State) : Type 0 where
+  pub handles : All (λ h. IsBelowNext s h.number) s.handles
+  pub apart : AllPairs (λ g h. g.number ≢ h.number) s.handles
+  pub context : (t : ℕ) → IsBoundBelowNext s (record_of s t).context
+  pub draw : (t : ℕ) → IsBoundBelowNext s (record_of s t).draw
+  pub read : (t : ℕ) → IsBoundBelowNext s (record_of s t).read
+
+-- what refers to a surface's storage is that surface (section 3.5.2)
+pub record StoragesAreOwn (sh : List (Option Shape)) (s : State) : Type 0 where
+  pub each : (m n k : ℕ) → own_at sh m ≡ Some k → is_in k (pixels_in (object_at s n)) ≡ true → n ≡ m
+
+-- what each change of a state keeps, seen with the shapes of its objects
+pub record IsWhole (sh : List (Option Shape)) (s : State) : Type 0 where
+  pub kinds : KindsFit sh s
+  pub storages : StoragesAreOwn sh s
+  pub alone : IsAlone s
+  pub both : HasBothOrNone s
+  pub numbers : NumbersAreBelow s
+
+-- all of this holds; each object is reached, each reference leads to an object, no part of a context and no image is out, and all pixels fit
+pub record IsSound (s : State) : Type 0 where
+  pub litter : HasNoLitter s
+  pub linked : IsLinked s
+  pub whole : IsWhole (shapes s.objects) s
+  pub full : IsFull s
+  pub pixels : PixelsFit s

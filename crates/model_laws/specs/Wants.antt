@@ -1,0 +1,86 @@
+-- Where EGL_BAD_ALLOC (EGL 1.5, sections 3.5.1, 3.5.2, 3.7.1 and 3.8.1) and GL_OUT_OF_MEMORY (OpenGL ES 1.1, section 3.7.1) come, in the words of the state before the call.
+use Rattle.std.specs.Prelude.{◌≡◌, ◌+◌, ◌<◌, ◌≤◌, ◌⊎◌, ℕ, pos, ◌<ℤ◌, Bool, true, false, ◌==◌, ◌&&◌, is_some}
+use Rattle.egl_calls.specs.Calls.{CallValue}
+use Rattle.egl_calls.specs.declared.errors.EglError.{EglError}
+use Rattle.egl_calls.specs.declared.errors.GlError.{GlError}
+use Rattle.egl_calls.specs.declared.errors.Outcome.TheVariants.{Egl as RefusedEgl, Gl as RefusedGl}
+use Rattle.egl_calls.specs.declared.places.TheConstants.{CONFIG, DISPLAY, SYNC_TYPE}
+use Rattle.egl_calls.specs.Arguments.{signed}
+use Rattle.egl_names.specs.declared.codes.TheConstants.{EGL_SYNC_FENCE}
+use Rattle.attrib_lists.specs.declared.allowed.Allowed.TheVariants.{Window}
+use Rattle.config_match.specs.Table.{is_config}
+use Rattle.call_rules.specs.EglAllowed.{ContextAsked, HasDisplay, PbufferAsked}
+use Rattle.call_rules.specs.EglRules.{has_attributes, has_code}
+use Rattle.egl_model.specs.State.{State}
+use Rattle.egl_model.specs.Arguments.{number}
+use Rattle.egl_model.specs.Configs.{is_list_allowed}
+use Rattle.egl_model.specs.Contexts.{context_facts}
+use Rattle.egl_model.specs.Currents.{current_context, display_at}
+use Rattle.egl_model.specs.Displays.{display_facts}
+use Rattle.egl_model.specs.Windows.{is_used_at, is_window_config, named_place, named_spec}
+use Rattle.egl_model.specs.Surfaces.{asked_height, asked_width, asks_for_largest, surface_bytes, pbuffer_facts, side_of}
+use Rattle.egl_model.specs.Sweep.{live_bytes}
+use Rattle.egl_model.specs.Step.{bare, step}
+use Rattle.egl_model.specs.Textures.{image_bytes}
+
+-- the reply to a call is this error
+abbrev pub Answers : State → ℕ → CallValue → EglError → Type 0
+Answers s t c e = (step s t c).reply ≡ bare (RefusedEgl e)
+
+abbrev pub AnswersGl : State → ℕ → CallValue → GlError → Type 0
+AnswersGl s t c e = (step s t c).reply ≡ bare (RefusedGl e)
+
+-- nothing is wrong with what the call asks for
+abbrev pub IsFaultlessPbuffer : State → CallValue → Type 0
+IsFaultlessPbuffer s c = PbufferAsked (pbuffer_facts s c)
+
+abbrev pub IsFaultlessContext : State → CallValue → Type 0
+IsFaultlessContext s c = ContextAsked (context_facts s c)
+
+-- the config has windows, the list is allowed, and the window is declared
+pub record IsFaultlessWindow (s : State) (c : CallValue) : Type 0 where
+  pub on : HasDisplay (display_facts s c)
+  pub config : is_config (signed c CONFIG) ≡ true
+  pub list : is_list_allowed Window c ≡ true
+  pub windows : is_window_config (signed c CONFIG) ≡ true
+  pub declared : is_some (named_place s c) ≡ true
+
+-- a fence without attributes, and a context of the display is current to the thread
+pub record IsFaultlessSync (s : State) (t : ℕ) (c : CallValue) : Type 0 where
+  pub on : HasDisplay (display_facts s c)
+  pub fence : has_code c SYNC_TYPE EGL_SYNC_FENCE ≡ true
+  pub list : has_attributes c ≡ false
+  pub current : is_some (current_context s t) ≡ true
+  pub here : (display_at s (current_context s t) == number c DISPLAY) ≡ true
+
+-- the window has a surface
+abbrev pub IsWindowUsed : State → CallValue → Type 0
+IsWindowUsed s c = is_used_at s.objects (named_place s c) ≡ true
+
+-- the pixels that live and those of a surface of the window's sides are more than there may be
+abbrev pub WantsWindowPixels : State → CallValue → Type 0
+WantsWindowPixels s c = s.video < live_bytes s.objects + surface_bytes (signed c CONFIG) (named_spec s c).w (named_spec s c).h
+
+-- a side above 2,048 is asked for, without EGL_LARGEST_PBUFFER
+abbrev pub AsksTooLarge : CallValue → Type 0
+AsksTooLarge c = ((pos 2048 <ℤ asked_width c) ⊎ (pos 2048 <ℤ asked_height c)) × (asks_for_largest c ≡ false)
+
+-- the bytes of the new pixels
+abbrev pub asked_bytes : CallValue → ℕ
+asked_bytes c = surface_bytes (signed c CONFIG) (side_of (asked_width c)) (side_of (asked_height c))
+
+-- the pixels that live and the new ones are more than there may be
+abbrev pub WantsVideo : State → CallValue → Type 0
+WantsVideo s c = s.video < live_bytes s.objects + asked_bytes c
+
+-- the same for the level that a glTexImage2D gives
+abbrev pub WantsImage : State → CallValue → Type 0
+WantsImage s c = s.video < live_bytes s.objects + image_bytes c
+
+-- the numbers for handles are used up
+abbrev pub WantsNumber : State → Type 0
+WantsNumber s = 2147483648 ≤ s.next_handle
+
+-- all pixels fit
+abbrev pub PixelsFit : State → Type 0
+PixelsFit s = live_bytes s.objects ≤ s.video

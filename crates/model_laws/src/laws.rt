@@ -1,0 +1,317 @@
+//! What is true of every sweep, step and history: the contracts of functions that do nothing.
+ghost use Rattle.std.specs.Prelude.{◌≡◌, ◌≢◌, ◌<◌, ◌+◌, ◌⊎◌, ◌↔◌, ℕ, ℤ, pos, ◌&&◌, ◌==◌, true, false, All, AllPairs, ◌≤◌, if◌then◌else◌, length, List, ◌++◌, None, Some, Contains};
+ghost use Rattle.display_table.specs.declared.handles.Handle.{Handle};
+ghost use Rattle.model_laws.specs.Destroyed.{IsRemoved, KeepsCurrents};
+ghost use Rattle.egl_calls.specs.Calls.{CallValue};
+ghost use Rattle.egl_calls.specs.declared.entries.Entry.{Entry};
+ghost use Rattle.egl_calls.specs.declared.kinds.Kind.TheVariants.{Egl, Own};
+ghost use Rattle.egl_calls.specs.declared.kinds.EglKind.{EglKind};
+ghost use Rattle.egl_calls.specs.declared.kinds.EglKind.TheVariants.{Initialize, Terminate, CreatePbufferSurface, CreateContext, DestroySurface, DestroyContext, ReleaseThread, CreateWindowSurface, CreateSync, DestroySync, ClientWaitSync};
+ghost use Rattle.egl_calls.specs.declared.kinds.GlKind.{GlKind};
+ghost use Rattle.egl_calls.specs.declared.kinds.GlKind.TheVariants.{DeleteTextures, TexImage2d};
+ghost use Rattle.egl_calls.specs.Ranges.{unsigned};
+ghost use Rattle.egl_calls.specs.declared.kinds.OwnKind.{OwnKind};
+ghost use Rattle.egl_calls.specs.declared.kinds.OwnKind.TheVariants.{ReadBuffer, WaitEnd};
+ghost use Rattle.egl_calls.specs.declared.errors.EglError.{EglError as AnEglError};
+ghost use Rattle.egl_calls.specs.declared.errors.EglError.TheVariants.{BadAlloc};
+ghost use Rattle.egl_calls.specs.declared.errors.GlError.{GlError as AGlError};
+ghost use Rattle.egl_calls.specs.declared.errors.GlError.TheVariants.{NoError, OutOfMemory};
+ghost use Rattle.egl_calls.specs.declared.errors.Outcome.TheVariants.{Done, InWait, NoWait, Waiting, Egl as RefusedEgl, Gl as RefusedGl};
+ghost use Rattle.context_state.specs.Parts.{PartValue};
+ghost use Rattle.call_rules.specs.EglAllowed.{makes_handle};
+ghost use Rattle.call_rules.specs.GlAllowed.{ImageAsked};
+ghost use Rattle.call_rules.specs.EglRules.{is_release};
+ghost use Rattle.display_table.specs.declared.handles.HandleKind.TheVariants.{Context, Surface, Sync};
+ghost use Rattle.surface_store.specs.Windows.{windows_ok};
+ghost use Rattle.surface_store.specs.declared.windows.WindowSpec.{WindowSpec};
+ghost use Rattle.egl_model.specs.State.{State, object_at, opening, record_of, set_error, initial, has_object};
+ghost use Rattle.egl_model.specs.Currents.{current_context, part_of_context};
+ghost use Rattle.egl_model.specs.Sweep.{is_reached, live_bytes, sweep};
+ghost use Rattle.egl_model.specs.Flushes.{flushed};
+ghost use Rattle.egl_model.specs.Objects.{fence_in, storage_in, texture_in};
+ghost use Rattle.egl_model.specs.Names.{group_of, names_in};
+ghost use Rattle.egl_model.specs.Textures.{level_of, storage_at, target_texture};
+ghost use Rattle.driver_objects.specs.Storages.{StorageValue};
+ghost use Rattle.driver_objects.specs.declared.textures.BackedTexture.{BackedTexture};
+ghost use Rattle.share_group.specs.Names.{is_used};
+ghost use Rattle.share_group.specs.declared.names.NameKind.TheVariants.{Texture as a_texture_name};
+ghost use Rattle.model_laws.specs.Shapes.{shapes};
+ghost use Rattle.driver_objects.specs.declared.fences.Fence.{Fence as AFence};
+ghost use Rattle.driver_objects.specs.declared.kinds.ObjectKind.TheVariants.{Context as ContextKind};
+ghost use Rattle.egl_model.specs.EglFacts.{egl_refusal};
+ghost use Rattle.egl_model.specs.GlFacts.{gl_refusal};
+ghost use Rattle.egl_model.specs.Step.{bare, done, note_error, step};
+ghost use Rattle.egl_model.specs.Waits.{ended, is_signalled};
+ghost use Rattle.egl_model.specs.History.{replay_from, IsLegalFrom};
+ghost use Rattle.model_laws.specs.Laws.{HasNoLitter, IsAllowedEgl, IsAllowedGl, IsEglCall, IsGlCall, IsRefusedEgl, IsRefusedGl, HandlesAreNew, ObjectsAreNew, StayValid};
+ghost use Rattle.egl_model.specs.Surfaces.{created_pbuffer};
+ghost use Rattle.egl_model.specs.Contexts.{created_context};
+ghost use Rattle.egl_model.specs.Links.{IsHeld, IsLinked};
+ghost use Rattle.model_laws.specs.Named.{Exists, IsHandled, IsHeldByThread, IsUsed};
+ghost use Rattle.model_laws.specs.Kinds.{IsA, KindsFit};
+ghost use Rattle.model_laws.specs.DisplayCalls.{IsInitialized, IsTerminated};
+ghost use Rattle.model_laws.specs.CurrentCalls.{HasNoneCurrent, IsBoundBy, IsMadeCurrent};
+ghost use Rattle.model_laws.specs.NewHandles.{HasNewHandle};
+ghost use Rattle.egl_model.specs.Displays.{is_initialized};
+ghost use Rattle.egl_model.specs.Arguments.{number};
+ghost use Rattle.model_laws.specs.Sound.{IsSound};
+ghost use Rattle.model_laws.specs.Refs.{AreNamesApart, size, objects_gone, refs_gone};
+ghost use Rattle.egl_model.specs.Syncs.{flush_for, sync_handle, waits_forever};
+ghost use Rattle.egl_names.specs.declared.codes.TheConstants.{EGL_CONDITION_SATISFIED, EGL_TIMEOUT_EXPIRED};
+ghost use Rattle.model_laws.specs.Wants.{Answers, AnswersGl, AsksTooLarge, IsFaultlessContext, IsFaultlessPbuffer, IsFaultlessSync, IsFaultlessWindow, IsWindowUsed, PixelsFit, WantsImage, WantsNumber, WantsVideo, WantsWindowPixels, asked_bytes};
+
+/// A sweep leaves each object that chains of references reach as it is, and no other; it changes what is reached for none.
+pub fn a_sweep_keeps_what_is_reached()
+    ensures object { (s : State) (n : ℕ) → object_at (sweep s) n ≡ (if is_reached s n then object_at s n else None) }
+    ensures reached { (s : State) (n : ℕ) → is_reached (sweep s) n ≡ is_reached s n }
+    ensures exists { (s : State) (n : ℕ) → has_object (sweep s) n ≡ (has_object s n && is_reached (sweep s) n) }
+    ensures places { (s : State) → length (sweep s).objects ≡ length s.objects }
+{}
+
+/// To sweep twice is to sweep once.
+pub fn a_sweep_is_done_at_once()
+    ensures { (s : State) → sweep (sweep s) ≡ sweep s }
+{}
+
+/// Each object is reached: after a sweep, before the first call, and after a step wherever it was so before. So it's so in each history.
+pub fn no_litter_is_left()
+    ensures sweep { (s : State) → HasNoLitter (sweep s) }
+    ensures opening { (windows : List WindowSpec) → windows_ok windows ≡ true → (video : ℕ) → HasNoLitter (opening windows video) }
+    ensures step { (s : State) (t : ℕ) (c : CallValue) → HasNoLitter s → HasNoLitter (step s t c).state }
+    ensures history { (windows : List WindowSpec) → windows_ok windows ≡ true → (video : ℕ) (entries : List Entry) → HasNoLitter (replay_from (opening windows video) entries) }
+{}
+
+/// Each root and each reference leads to an object, before the first call and after a step wherever it was so before; then no chain is longer than those that a sweep follows.
+pub fn references_lead_to_objects()
+    ensures opening { (windows : List WindowSpec) → windows_ok windows ≡ true → (video : ℕ) → IsLinked (opening windows video) }
+    ensures step { (s : State) (t : ℕ) (c : CallValue) → IsSound s → IsLinked (step s t c).state }
+    ensures chains { (s : State) (n : ℕ) → IsLinked s → IsHeld s n → is_reached s n ≡ true }
+{}
+
+/// In each history an object exists exactly where a chain of references leads to it.
+pub fn an_object_exists_exactly_where_it_is_held()
+    ensures { (windows : List WindowSpec) → windows_ok windows ≡ true → (video : ℕ) (entries : List Entry) (n : ℕ) → (has_object (replay_from (opening windows video) entries) n ≡ true) ↔ IsHeld (replay_from (opening windows video) entries) n }
+{}
+
+/// Handles name objects of their kind; a context and surfaces are current to threads; a context has a group and a texture, and a surface a storage. So it's before the first call, and after a step wherever it was so before.
+pub fn names_lead_to_objects_of_their_kind()
+    ensures opening { (windows : List WindowSpec) → windows_ok windows ≡ true → (video : ℕ) → let s = opening windows video in KindsFit (shapes s.objects) s }
+    ensures step { (s : State) (t : ℕ) (c : CallValue) → IsSound s → let a = (step s t c).state in KindsFit (shapes a.objects) a }
+    ensures history { (windows : List WindowSpec) → windows_ok windows ≡ true → (video : ℕ) (entries : List Entry) → let s = replay_from (opening windows video) entries in KindsFit (shapes s.objects) s }
+{}
+
+/// In each history what exists has a handle, or is current to a thread, or is used by a context or a surface.
+pub fn what_exists_is_named()
+    ensures { (windows : List WindowSpec) → windows_ok windows ≡ true → (video : ℕ) (entries : List Entry) (n : ℕ) → let s = replay_from (opening windows video) entries in Exists s n → IsHandled s n ⊎ (IsHeldByThread s n ⊎ IsUsed s n) }
+{}
+
+/// A refused call of EGL answers its error, and changes its thread's error and nothing else (EGL 1.5, section 3.1).
+pub fn a_refused_egl_call_sets_its_error_alone()
+    ensures reply { (s : State) (t : ℕ) (k : EglKind) (c : CallValue) (e : AnEglError) → IsRefusedEgl s t k c e → (step s t c).reply ≡ bare (RefusedEgl e) }
+    ensures state { (s : State) (t : ℕ) (k : EglKind) (c : CallValue) (e : AnEglError) → IsRefusedEgl s t k c e → (step s t c).state ≡ set_error s t e }
+    ensures thread { (s : State) (t : ℕ) (e : AnEglError) → t < length s.threads → record_of (set_error s t e) t ≡ record (record_of s t) { error = e } }
+    ensures others { (s : State) (t u : ℕ) (e : AnEglError) → u ≢ t → record_of (set_error s t e) u ≡ record_of s u }
+    ensures rest { (s : State) (t : ℕ) (e : AnEglError) → record (set_error s t e) { threads = s.threads } ≡ s }
+{}
+
+/// A refused call of OpenGL ES answers its error, and changes the error that its context keeps and nothing else; where one is kept it changes nothing (OpenGL ES 1.1, section 2.5).
+pub fn a_refused_gl_call_sets_its_error_alone()
+    ensures reply { (s : State) (t n : ℕ) (k : GlKind) (c : CallValue) (e : AGlError) → IsRefusedGl s t n k c e → (step s t c).reply ≡ bare (RefusedGl e) }
+    ensures state { (s : State) (t n : ℕ) (k : GlKind) (c : CallValue) (e : AGlError) → IsRefusedGl s t n k c e → (step s t c).state ≡ note_error s n e }
+    ensures first { (s : State) (n : ℕ) (e : AGlError) (p : PartValue) → part_of_context s n ≡ Some p → p.error ≡ NoError → part_of_context (note_error s n e) n ≡ Some (record p { error = e }) }
+    ensures later { (s : State) (n : ℕ) (e : AGlError) (p : PartValue) → part_of_context s n ≡ Some p → p.error ≢ NoError → note_error s n e ≡ s }
+    ensures others { (s : State) (n m : ℕ) (e : AGlError) → m ≢ n → object_at (note_error s n e) m ≡ object_at s m }
+    ensures rest { (s : State) (n : ℕ) (e : AGlError) → record (note_error s n e) { objects = s.objects } ≡ s }
+{}
+
+/// Without a current context a call of OpenGL ES changes nothing.
+pub fn without_a_context_nothing_changes()
+    ensures { (s : State) (t : ℕ) (k : GlKind) (c : CallValue) → IsGlCall s t k c → current_context s t ≡ None → step s t c ≡ record { reply = bare Done; state = s } }
+{}
+
+/// A thread that waits for a sync makes no call but the end of its wait: any other is held up and changes nothing. The end comes once the sync is signalled; then the thread waits no more, and what nothing else holds is gone. Without a wait there is none to end (EGL 1.5, section 3.8.1).
+pub fn a_wait_holds_up_until_its_end()
+    ensures held_up { (s : State) (t : ℕ) (c : CallValue) (sync : ℕ) → (record_of s t).wait ≡ Some sync → c.kind ≢ Own WaitEnd → step s t c ≡ record { reply = bare InWait; state = s } }
+    ensures waits { (s : State) (t : ℕ) (c : CallValue) (sync : ℕ) → (record_of s t).wait ≡ Some sync → c.kind ≡ Own WaitEnd → is_signalled s sync ≡ false → step s t c ≡ record { reply = bare Waiting; state = s } }
+    ensures ends { (s : State) (t : ℕ) (c : CallValue) (sync : ℕ) → (record_of s t).wait ≡ Some sync → c.kind ≡ Own WaitEnd → is_signalled s sync ≡ true → step s t c ≡ record { reply = done (ended s t); state = sweep (ended s t).state } }
+    ensures none { (s : State) (t : ℕ) (c : CallValue) → (record_of s t).wait ≡ None → c.kind ≡ Own WaitEnd → step s t c ≡ record { reply = bare NoWait; state = s } }
+{}
+
+/// This project's own calls change nothing, but for the end of a wait, and readBuffer, whose context keeps its error.
+pub fn own_calls_change_nothing()
+    ensures { (s : State) (t : ℕ) (k : OwnKind) (c : CallValue) → c.kind ≡ Own k → k ≢ ReadBuffer → k ≢ WaitEnd → (step s t c).state ≡ s }
+{}
+
+/// A fence whose context is gone is signalled, so the context of one that isn't signalled is there; a flush signals the fences that its context has made, and leaves those of other contexts (EGL 1.5, section 3.8.1).
+pub fn a_fence_is_signalled_by_its_context()
+    ensures ended { (s : State) (n : ℕ) (x : AFence) → fence_in s.objects n ≡ Some x → has_object s x.context ≡ false → is_signalled s n ≡ true }
+    ensures there { (s : State) (n : ℕ) (x : AFence) → fence_in s.objects n ≡ Some x → is_signalled s n ≡ false → IsA ContextKind s x.context }
+    ensures flush { (s : State) (n c : ℕ) (x : AFence) → fence_in s.objects n ≡ Some x → x.context ≡ c → is_signalled (flushed (Some c) s) n ≡ true }
+    ensures others { (s : State) (n c : ℕ) (x : AFence) → fence_in s.objects n ≡ Some x → x.context ≢ c → is_signalled (flushed (Some c) s) n ≡ is_signalled s n }
+{}
+
+/// A call of one thread leaves what is kept for another, and there are as many records as before.
+pub fn a_step_keeps_other_threads()
+    ensures others { (s : State) (t u : ℕ) (c : CallValue) → t ≢ u → record_of (step s u c).state t ≡ record_of s t }
+    ensures count { (s : State) (t : ℕ) (c : CallValue) → length (step s t c).state.threads ≡ length s.threads }
+{}
+
+/// A handle stays valid but by eglTerminate, which takes those of its display alone, and by the calls that destroy, which take the one that they are given alone (EGL 1.5, section 2.1).
+pub fn handles_stay_valid()
+    ensures other_calls { (s : State) (t : ℕ) (c : CallValue) → c.kind ≢ Egl Terminate → c.kind ≢ Egl DestroySurface → c.kind ≢ Egl DestroyContext → c.kind ≢ Egl DestroySync → StayValid s (step s t c).state }
+    ensures terminated { (s : State) (t : ℕ) (c : CallValue) (h : Handle) → IsTerminated s t c → (h.display == number c 0) ≡ false → Contains s.handles h → Contains (step s t c).state.handles h }
+    ensures surface { (s : State) (t : ℕ) (c : CallValue) → IsAllowedEgl s t DestroySurface c → IsRemoved s (step s t c).state (number c 1) }
+    ensures context { (s : State) (t : ℕ) (c : CallValue) → IsAllowedEgl s t DestroyContext c → IsRemoved s (step s t c).state (number c 1) }
+    ensures sync { (s : State) (t : ℕ) (c : CallValue) → IsAllowedEgl s t DestroySync c → IsRemoved s (step s t c).state (number c 1) }
+{}
+
+/// What is destroyed stays current to each thread to which it is (sections 3.5.5 and 3.7.2).
+pub fn what_is_destroyed_stays_current()
+    ensures surface { (s : State) (t : ℕ) (c : CallValue) → IsAllowedEgl s t DestroySurface c → KeepsCurrents s (step s t c).state }
+    ensures context { (s : State) (t : ℕ) (c : CallValue) → IsAllowedEgl s t DestroyContext c → KeepsCurrents s (step s t c).state }
+{}
+
+/// A thread that is released is as it was before its first call (section 3.12).
+pub fn a_released_thread_is_as_new()
+    ensures { (s : State) (t : ℕ) (c : CallValue) → IsAllowedEgl s t ReleaseThread c → t < length s.threads → record_of (step s t c).state t ≡ initial }
+{}
+
+/// Only eglInitialize and eglTerminate change whether a display is initialised, and each only its own (EGL 1.5, section 3.2).
+pub fn two_calls_change_displays()
+    ensures first { (s : State) (t : ℕ) (c : CallValue) → c.kind ≢ Egl Initialize → c.kind ≢ Egl Terminate → (step s t c).state.first ≡ s.first }
+    ensures second { (s : State) (t : ℕ) (c : CallValue) → c.kind ≢ Egl Initialize → c.kind ≢ Egl Terminate → (step s t c).state.second ≡ s.second }
+    ensures initialized { (s : State) (t : ℕ) (c : CallValue) → IsInitialized s t c → is_initialized (step s t c).state (number c 0) ≡ true }
+    ensures terminated { (s : State) (t : ℕ) (c : CallValue) → IsTerminated s t c → is_initialized (step s t c).state (number c 0) ≡ false }
+    ensures initialized_other { (s : State) (t d : ℕ) (c : CallValue) → IsInitialized s t c → d ≢ number c 0 → is_initialized (step s t c).state d ≡ is_initialized s d }
+    ensures terminated_other { (s : State) (t d : ℕ) (c : CallValue) → IsTerminated s t c → d ≢ number c 0 → is_initialized (step s t c).state d ≡ is_initialized s d }
+{}
+
+/// eglTerminate leaves no handle of its display, and leaves what is current to each thread (EGL 1.5, section 3.2).
+pub fn terminate_takes_handles_and_leaves_currents()
+    ensures handles { (s : State) (t : ℕ) (c : CallValue) → IsTerminated s t c → All (λ h. (h.display == number c 0) ≡ false) (step s t c).state.handles }
+    ensures context { (s : State) (t u : ℕ) (c : CallValue) → IsTerminated s t c → (record_of (step s t c).state u).context ≡ (record_of s u).context }
+    ensures draw { (s : State) (t u : ℕ) (c : CallValue) → IsTerminated s t c → (record_of (step s t c).state u).draw ≡ (record_of s u).draw }
+    ensures read { (s : State) (t u : ℕ) (c : CallValue) → IsTerminated s t c → (record_of (step s t c).state u).read ≡ (record_of s u).read }
+{}
+
+/// Where no rule refuses an eglMakeCurrent of a thread that has a record, the thread has the context and the surfaces that valid handles of the call's display with the given numbers name, each under that number; where it is given none of the three, the thread has none (EGL 1.5, section 3.7.3). Handles stay as they were, and the thread waits for nothing.
+pub fn make_current_binds_what_it_is_given()
+    ensures released { (s : State) (t : ℕ) (c : CallValue) → IsMadeCurrent s t c → t < length s.threads → is_release c ≡ true → HasNoneCurrent (record_of (step s t c).state t) }
+    ensures context { (s : State) (t : ℕ) (c : CallValue) → IsMadeCurrent s t c → t < length s.threads → is_release c ≡ false → IsBoundBy s (number c 0) (number c 3) Context (record_of (step s t c).state t).context }
+    ensures draw { (s : State) (t : ℕ) (c : CallValue) → IsMadeCurrent s t c → t < length s.threads → is_release c ≡ false → IsBoundBy s (number c 0) (number c 1) Surface (record_of (step s t c).state t).draw }
+    ensures read { (s : State) (t : ℕ) (c : CallValue) → IsMadeCurrent s t c → t < length s.threads → is_release c ≡ false → IsBoundBy s (number c 0) (number c 2) Surface (record_of (step s t c).state t).read }
+    ensures handles { (s : State) (t : ℕ) (c : CallValue) → IsMadeCurrent s t c → (step s t c).state.handles ≡ s.handles }
+    ensures wait { (s : State) (t : ℕ) (c : CallValue) → IsMadeCurrent s t c → (record_of (step s t c).state t).wait ≡ None }
+{}
+
+/// Where no rule refuses an eglCreateWindowSurface, an eglCreatePbufferSurface, an eglCreateContext or an eglCreateSync, it answers the number of a new handle, which names a new object of its kind, and the next number rises by one (EGL 1.5, sections 3.5.1, 3.5.2, 3.7.1 and 3.8.1). It rises at no other call, and at none that isn't done.
+pub fn a_new_handle_names_its_object()
+    ensures window { (s : State) (t : ℕ) (c : CallValue) → IsAllowedEgl s t CreateWindowSurface c → HasNewHandle s (step s t c).state (number c 0) Surface }
+    ensures window_reply { (s : State) (t : ℕ) (c : CallValue) → IsAllowedEgl s t CreateWindowSurface c → (step s t c).reply.value ≡ pos s.next_handle }
+    ensures pbuffer { (s : State) (t : ℕ) (c : CallValue) → IsAllowedEgl s t CreatePbufferSurface c → HasNewHandle s (step s t c).state (number c 0) Surface }
+    ensures pbuffer_reply { (s : State) (t : ℕ) (c : CallValue) → IsAllowedEgl s t CreatePbufferSurface c → (step s t c).reply.value ≡ pos s.next_handle }
+    ensures context { (s : State) (t : ℕ) (c : CallValue) → IsAllowedEgl s t CreateContext c → HasNewHandle s (step s t c).state (number c 0) Context }
+    ensures context_reply { (s : State) (t : ℕ) (c : CallValue) → IsAllowedEgl s t CreateContext c → (step s t c).reply.value ≡ pos s.next_handle }
+    ensures sync { (s : State) (t : ℕ) (c : CallValue) → IsAllowedEgl s t CreateSync c → HasNewHandle s (step s t c).state (number c 0) Sync }
+    ensures sync_reply { (s : State) (t : ℕ) (c : CallValue) → IsAllowedEgl s t CreateSync c → (step s t c).reply.value ≡ pos s.next_handle }
+    ensures others { (s : State) (t : ℕ) (c : CallValue) → c.kind ≢ Egl CreateWindowSurface → c.kind ≢ Egl CreatePbufferSurface → c.kind ≢ Egl CreateContext → c.kind ≢ Egl CreateSync → (step s t c).state.next_handle ≡ s.next_handle }
+    ensures undone { (s : State) (t : ℕ) (c : CallValue) → (step s t c).reply.outcome ≢ Done → (step s t c).state.next_handle ≡ s.next_handle }
+{}
+
+/// No number is given to a second handle, in a step or in a history, whatever became of the first.
+pub fn handle_numbers_are_new()
+    ensures step { (s : State) (t : ℕ) (c : CallValue) → HandlesAreNew s (step s t c).state }
+    ensures history { (s : State) (entries : List Entry) → HandlesAreNew s (replay_from s entries) }
+{}
+
+/// Places of objects are never fewer, an empty one stays empty, and an object that stays is of the kind that it was, in a step or in a history: the number of an object that is gone isn't given again.
+pub fn object_numbers_are_new()
+    ensures step { (s : State) (t : ℕ) (c : CallValue) → ObjectsAreNew s (step s t c).state }
+    ensures history { (s : State) (entries : List Entry) → ObjectsAreNew s (replay_from s entries) }
+{}
+
+/// To replay one list and then another is to replay both in a row, and the row is legal where each part is.
+pub fn replay_goes_on()
+    ensures state { (s : State) (before after : List Entry) → replay_from s (before ++ after) ≡ replay_from (replay_from s before) after }
+    ensures legal { (s : State) (before after : List Entry) → IsLegalFrom s before → IsLegalFrom (replay_from s before) after → IsLegalFrom s (before ++ after) }
+{}
+
+/// A call that no wait holds up answers an error exactly where a rule refuses it (of OpenGL ES where a context is current), and else it is done; but eglClientWaitSync may wait.
+pub fn a_reply_tells_its_refusal()
+    ensures egl { (s : State) (t : ℕ) (k : EglKind) (c : CallValue) (e : AnEglError) → IsEglCall s t k c → Answers s t c e ↔ (egl_refusal s t k c ≡ Some e) }
+    ensures gl { (s : State) (t n : ℕ) (k : GlKind) (c : CallValue) (e : AGlError) → IsGlCall s t k c → current_context s t ≡ Some n → AnswersGl s t c e ↔ (gl_refusal s t n k c ≡ Some e) }
+    ensures egl_done { (s : State) (t : ℕ) (k : EglKind) (c : CallValue) → IsEglCall s t k c → k ≢ ClientWaitSync → egl_refusal s t k c ≡ None → (step s t c).reply.outcome ≡ Done }
+    ensures gl_done { (s : State) (t n : ℕ) (k : GlKind) (c : CallValue) → IsGlCall s t k c → current_context s t ≡ Some n → gl_refusal s t n k c ≡ None → (step s t c).reply.outcome ≡ Done }
+{}
+
+/// eglCreatePbufferSurface answers EGL_BAD_ALLOC exactly where nothing else is wrong, and a side is too large, or the pixels that live before the call and the new ones are too many, or no number is left for its handle (EGL 1.5, section 3.5.2).
+pub fn a_pbuffer_wants_size_pixels_or_a_number()
+    ensures faultless { (s : State) (t : ℕ) (c : CallValue) → IsEglCall s t CreatePbufferSurface c → Answers s t c BadAlloc → IsFaultlessPbuffer s c }
+    ensures wants { (s : State) (t : ℕ) (c : CallValue) → IsEglCall s t CreatePbufferSurface c → IsFaultlessPbuffer s c → Answers s t c BadAlloc ↔ (AsksTooLarge c ⊎ (WantsVideo s c ⊎ WantsNumber s)) }
+{}
+
+/// glTexImage2D answers GL_OUT_OF_MEMORY exactly where nothing is wrong with its own numbers and the pixels that live before the call and the new ones are too many (OpenGL ES 1.1, section 3.7.1).
+pub fn an_image_wants_pixels()
+    ensures { (s : State) (t n : ℕ) (c : CallValue) → IsGlCall s t TexImage2d c → current_context s t ≡ Some n → AnswersGl s t c OutOfMemory ↔ (ImageAsked c × WantsImage s c) }
+{}
+
+/// A glTexImage2D gives one level of one texture: each other level of a texture that is still there has the storage that it had, and each storage that is still there is as it was (section 3.7.1).
+pub fn a_level_is_given_alone()
+    ensures levels { (s : State) (t n : ℕ) (c : CallValue) (x j : ℕ) (y z : BackedTexture) → IsAllowedGl s t n TexImage2d c → (target_texture s n ≡ Some x → j ≢ level_of c) → texture_in s.objects x ≡ Some y → texture_in (step s t c).state.objects x ≡ Some z → storage_at j z ≡ storage_at j y }
+    ensures pixels { (s : State) (t n : ℕ) (c : CallValue) (x : ℕ) (v : StorageValue) → IsAllowedGl s t n TexImage2d c → storage_in s.objects x ≡ Some v → has_object (step s t c).state x ≡ true → storage_in (step s t c).state.objects x ≡ Some v }
+{}
+
+/// A name that a glDeleteTextures is given is free at once, whoever still has its texture bound (section 3.7.11). The texture is gone with the last reference to it, as each object is.
+pub fn a_deleted_name_is_free()
+    ensures { (s : State) (t n : ℕ) (c : CallValue) (x : ℤ) → IsAllowedGl s t n DeleteTextures c → Contains c.list x → is_used (unsigned x) (names_in (step s t c).state (group_of s n) a_texture_name) ≡ false }
+{}
+
+/// eglCreateContext answers EGL_BAD_ALLOC exactly where nothing else is wrong, and no number is left for its handle (section 3.7.1).
+pub fn a_context_wants_a_number()
+    ensures faultless { (s : State) (t : ℕ) (c : CallValue) → IsEglCall s t CreateContext c → Answers s t c BadAlloc → IsFaultlessContext s c }
+    ensures wants { (s : State) (t : ℕ) (c : CallValue) → IsEglCall s t CreateContext c → IsFaultlessContext s c → Answers s t c BadAlloc ↔ WantsNumber s }
+{}
+
+/// eglCreateWindowSurface answers EGL_BAD_ALLOC only where nothing else is wrong, and then exactly where the window has a surface, its pixels and those that live are too many, or the numbers of handles are used up (EGL 1.5, section 3.5.1).
+pub fn a_window_wants_to_be_free_pixels_or_a_number()
+    ensures faultless { (s : State) (t : ℕ) (c : CallValue) → IsEglCall s t CreateWindowSurface c → Answers s t c BadAlloc → IsFaultlessWindow s c }
+    ensures wants { (s : State) (t : ℕ) (c : CallValue) → IsEglCall s t CreateWindowSurface c → IsFaultlessWindow s c → Answers s t c BadAlloc ↔ (IsWindowUsed s c ⊎ (WantsWindowPixels s c ⊎ WantsNumber s)) }
+{}
+
+/// eglCreateSync answers EGL_BAD_ALLOC only where nothing else is wrong, and then exactly where the numbers of handles are used up (section 3.8.1).
+pub fn a_sync_wants_a_number()
+    ensures faultless { (s : State) (t : ℕ) (c : CallValue) → IsEglCall s t CreateSync c → Answers s t c BadAlloc → IsFaultlessSync s t c }
+    ensures wants { (s : State) (t : ℕ) (c : CallValue) → IsEglCall s t CreateSync c → IsFaultlessSync s t c → Answers s t c BadAlloc ↔ WantsNumber s }
+{}
+
+/// An eglClientWaitSync that no rule refuses is satisfied exactly where the sync is signalled behind the flush that it asks for; else it waits where its timeout is for ever, and where it isn't its time is over at once (section 3.8.1.1).
+pub fn a_client_wait_is_satisfied_waits_or_expires()
+    ensures satisfied { (s : State) (t : ℕ) (c : CallValue) (h : Handle) → IsAllowedEgl s t ClientWaitSync c → sync_handle s c ≡ Some h → is_signalled (flush_for c t h.object s) h.object ≡ true → (step s t c).reply ≡ record (bare Done) { value = pos EGL_CONDITION_SATISFIED } }
+    ensures waits { (s : State) (t : ℕ) (c : CallValue) (h : Handle) → IsAllowedEgl s t ClientWaitSync c → sync_handle s c ≡ Some h → is_signalled (flush_for c t h.object s) h.object ≡ false → waits_forever c ≡ true → (step s t c).reply ≡ bare Waiting }
+    ensures expires { (s : State) (t : ℕ) (c : CallValue) (h : Handle) → IsAllowedEgl s t ClientWaitSync c → sync_handle s c ≡ Some h → is_signalled (flush_for c t h.object s) h.object ≡ false → waits_forever c ≡ false → (step s t c).reply ≡ record (bare Done) { value = pos EGL_TIMEOUT_EXPIRED } }
+{}
+
+/// Only calls that make a handle answer EGL_BAD_ALLOC.
+pub fn creations_alone_want()
+    ensures { (s : State) (t : ℕ) (k : EglKind) (c : CallValue) → IsEglCall s t k c → Answers s t c BadAlloc → makes_handle k ≡ true }
+{}
+
+/// A new pbuffer takes the bytes that its refusal counts, and a new context none; so in each history all pixels that live fit.
+pub fn all_pixels_fit()
+    ensures pbuffer { (s : State) (c : CallValue) → live_bytes (created_pbuffer s c).objects ≡ live_bytes s.objects + asked_bytes c }
+    ensures context { (s : State) (c : CallValue) → live_bytes (created_context s c).objects ≡ live_bytes s.objects }
+    ensures step { (s : State) (t : ℕ) (c : CallValue) → PixelsFit s → PixelsFit (step s t c).state }
+    ensures history { (windows : List WindowSpec) → windows_ok windows ≡ true → (video : ℕ) (entries : List Entry) → PixelsFit (replay_from (opening windows video) entries) }
+{}
+
+/// The state is sound before the first call, after a step wherever it was so before, and so in each history: no object is litter and no reference leads nowhere; a context or a surface is current to at most one thread, and a thread has both surfaces and a context or none (EGL 1.5, section 3.7.3); each valid or bound handle's number is below the next one, and no two valid handles have one; each surface has a storage of its own; and all pixels fit.
+pub fn the_state_is_sound()
+    ensures opening { (windows : List WindowSpec) → windows_ok windows ≡ true → (video : ℕ) → IsSound (opening windows video) }
+    ensures step { (s : State) (t : ℕ) (c : CallValue) → IsSound s → IsSound (step s t c).state }
+    ensures history { (windows : List WindowSpec) → windows_ok windows ≡ true → (video : ℕ) (entries : List Entry) → IsSound (replay_from (opening windows video) entries) }
+{}
+
+/// What goes by any change of a state whose handles have numbers of their own, and in whose groups no name stands twice, bounds by how much the state shrinks.
+pub fn what_goes_bounds_the_size()
+    ensures { (s new : State) → AllPairs (λ g h. g.number ≢ h.number) s.handles → AreNamesApart s → size s ≤ size new + objects_gone s new + refs_gone s new }
+{}

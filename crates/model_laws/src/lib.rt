@@ -1,0 +1,9 @@
+//! What is true of the one-thread specification: laws over the definitions of `egl_model`, and the words in which they are said.
+//!
+//! The functions of this crate do nothing. Their clauses are the laws.
+//!
+//! Its tests are in `play_rows`.
+#![tactic(auto)]
+
+pub mod laws;
+pub mod part_laws;

@@ -1,0 +1,8 @@
+//! Tables of refusals: the rows of a call, each a condition and the error that it makes, in the order of the tests.
+//!
+//! Its tests are in `rule_check`.
+#![tactic(auto)]
+
+mod rows;
+
+pub use rows::first_error;
