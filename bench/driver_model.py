@@ -29,6 +29,10 @@ MIPMAP_FILTERS = ["GL_NEAREST_MIPMAP_NEAREST", "GL_LINEAR_MIPMAP_NEAREST", "GL_N
 WRAPS = ["GL_REPEAT", "GL_CLAMP_TO_EDGE"]
 PARAMETERS = {"GL_TEXTURE_MIN_FILTER": FILTERS + MIPMAP_FILTERS, "GL_TEXTURE_MAG_FILTER": FILTERS, "GL_TEXTURE_WRAP_S": WRAPS, "GL_TEXTURE_WRAP_T": WRAPS}
 BOXES = ["GL_VIEWPORT", "GL_SCISSOR_BOX"]
+SWITCHES = ["GL_TEXTURE_2D", "GL_SCISSOR_TEST", "GL_DITHER"]
+# What is off for good.
+NEVER_ON = ["GL_BLEND", "GL_DEPTH_TEST", "GL_ALPHA_TEST", "GL_STENCIL_TEST", "GL_CULL_FACE", "GL_LIGHTING", "GL_FOG"]
+ENVIRONMENTS = ["GL_MODULATE", "GL_REPLACE"]
 ENUM, VALUE, OPERATION, MEMORY = "GL_INVALID_ENUM", "GL_INVALID_VALUE", "GL_INVALID_OPERATION", "GL_OUT_OF_MEMORY"
 
 
@@ -102,8 +106,14 @@ class Surface:
     render_buffer: str = "EGL_BACK_BUFFER"
     behavior: str = BEHAVIORS[0]
 
-    def fill(self, colour):
-        self.storage.pixels = [stored(colour, self.config)] * (self.storage.width * self.storage.height)
+    def blank(self):
+        """Each pixel becomes zeros."""
+        self.storage.pixels = [stored((0, 0, 0, 0), self.config)] * (self.storage.width * self.storage.height)
+
+    def fill(self, colour, covers, mask):
+        """Each pixel that is covered takes the components of the colour that the mask has; a component without bits stays."""
+        written, width = stored(colour, self.config), self.storage.width
+        self.storage.pixels = [bytes(new if on else old for new, old, on in zip(written, pixel, mask)) if covers(k % width, k // width) else pixel for k, pixel in enumerate(self.storage.pixels)]
 
     def pixel(self, x, y):
         """A pixel of 8 bits a component; zeros outside."""
@@ -135,7 +145,15 @@ class Context:
     error: str = "GL_NO_ERROR"
     pack: int = 4
     unpack: int = 4
-    box: tuple = None
+    # The viewport and the scissor box, once it was current.
+    boxes: dict = field(default_factory=dict)
+    mask: list = field(default_factory=lambda: [True] * 4)
+    on: set = field(default_factory=set)
+
+    def covers(self, x, y):
+        """Whether the scissor test lets a pixel through."""
+        left, bottom, width, height = self.boxes["GL_SCISSOR_BOX"]
+        return "GL_SCISSOR_TEST" not in self.on or left <= x < left + width and bottom <= y < bottom + height
 
     def target(self):
         """The texture on which calls work."""
@@ -214,7 +232,7 @@ class EglCalls(Objects):
 
     def create_surface(self, display, surface):
         refuse((self.wants(surface.storage), "EGL_BAD_ALLOC"))
-        surface.fill((0, 0, 0, 0))
+        surface.blank()
         return self.named(display, surface)
 
     def eglCreateWindowSurface(self, display, config, number, attributes):
@@ -258,7 +276,8 @@ class EglCalls(Objects):
         refuse((any(number and not surface for number, surface in zip((draw, read), surfaces)), "EGL_BAD_SURFACE"), (context and not drawer, "EGL_BAD_CONTEXT"), (0 in (draw, read, context), "EGL_BAD_MATCH"))
         refuse((any(CONFIGS[surface.config] != CONFIGS[drawer.config] for surface in surfaces), "EGL_BAD_MATCH"))
         self.current = [(drawer, context), (surfaces[0], draw), (surfaces[1], read)]
-        drawer.box = drawer.box or (0, 0, surfaces[0].storage.width, surfaces[0].storage.height)
+        if not drawer.boxes:
+            drawer.boxes = {box: [0, 0, surfaces[0].storage.width, surfaces[0].storage.height] for box in BOXES}
         return 1
 
     def eglSurfaceAttrib(self, display, number, attribute, value):
@@ -281,7 +300,7 @@ class EglCalls(Objects):
         if surface.window:
             surface.window.front = surface.storage.pixels
             if surface.behavior != BEHAVIORS[0]:
-                surface.fill((0, 0, 0, 0))
+                surface.blank()
         return 1
 
     def eglInitialize(self, display):
@@ -321,10 +340,47 @@ class GlCalls(Objects):
         context.colour = tuple(clamped(number) for number in colour)
         return 0
 
+    def glEnable(self, context, switch):
+        refuse((switch not in SWITCHES, ENUM))
+        context.on.add(switch)
+        return 0
+
+    def glDisable(self, context, switch):
+        refuse((switch not in SWITCHES + NEVER_ON, ENUM))
+        context.on.discard(switch)
+        return 0
+
+    def glScissor(self, context, *box):
+        refuse((box[2] < 0 or box[3] < 0, VALUE))
+        context.boxes["GL_SCISSOR_BOX"] = list(box)
+        return 0
+
+    def glViewport(self, context, *box):
+        refuse((box[2] < 0 or box[3] < 0, VALUE))
+        context.boxes["GL_VIEWPORT"] = list(box)
+        return 0
+
+    def glColorMask(self, context, *components):
+        context.mask = [component != 0 for component in components]
+        return 0
+
+    def glColor4x(self, context, *colour):
+        return 0
+
+    def glClearDepthx(self, context, depth):
+        return 0
+
+    def glClearStencil(self, context, stencil):
+        return 0
+
+    def glTexEnvx(self, context, target, which, value):
+        refuse(((target, which) != ("GL_TEXTURE_ENV", "GL_TEXTURE_ENV_MODE") or value not in ENVIRONMENTS, ENUM))
+        return 0
+
     def glClear(self, context, mask):
         refuse((mask not in CLEARED, VALUE))
         if "COLOR" in mask:
-            self.current[1][0].fill(context.colour)
+            self.current[1][0].fill(context.colour, context.covers, context.mask)
         return 0
 
     def glReadPixels(self, context, left, bottom, width, height, form, kind):
@@ -343,7 +399,7 @@ class GlCalls(Objects):
         return 0
 
     def glGetIntegerv(self, context, which, index):
-        values = {box: context.box for box in BOXES}
+        values = dict(context.boxes)
         values |= {"GL_PACK_ALIGNMENT": [context.pack], "GL_UNPACK_ALIGNMENT": [context.unpack], "GL_MAX_TEXTURE_SIZE": [LONGEST], "GL_TEXTURE_BINDING_2D": [context.name]}
         values |= {binding: [0] for binding in ("GL_ARRAY_BUFFER_BINDING", "GL_ELEMENT_ARRAY_BUFFER_BINDING", "GL_FRAMEBUFFER_BINDING_OES", "GL_RENDERBUFFER_BINDING_OES")}
         refuse((which not in values, ENUM))
