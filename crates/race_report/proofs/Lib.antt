@@ -1,0 +1,6 @@
+pub mod ClockLaws
+pub mod RaceLaws
+pub mod OneList
+pub mod EventLaws
+pub mod WordLaws
+pub mod WriteLaws

@@ -1,0 +1,459 @@
+-- What a call changes of textures, storages and windows is among what it writes.
+use Rattle.std.proofs.Common.{◌≡◌, ℕ, ◌<◌, ◌≤◌, ◌⊎◌, inl, inr, ℤ, pos, Bool, true, false, List, [], ◌∷◌, ◌++◌, length, get_or, set, refl, sym, ap, ◌∙◌, arith, subst, Option, None, Some}
+use Rattle.std.specs.Prelude.{if◌then◌else◌, ◌==◌, ◌&&◌, not}
+use Rattle.std.specs.List.{Contains}
+use Rattle.std.specs.Option.{option_map_or}
+use Rattle.std.proofs.lemmas.Bool.{cases_eq, eqb-true}
+use Rattle.std.proofs.lemmas.List.{get_or-set_other, get_or-set_same, get_or_append_left, length-append, length-set}
+use Rattle.std.proofs.lemmas.List.Quantifiers.{position-Some}
+use Rattle.egl_calls.specs.Calls.{CallValue}
+use Rattle.egl_calls.specs.Ranges.{unsigned}
+use Rattle.egl_calls.specs.declared.errors.EglError.{EglError}
+use Rattle.egl_calls.specs.declared.errors.GlError.{GlError}
+use Rattle.egl_calls.specs.declared.errors.Outcome.TheVariants.{Done, Waiting}
+use Rattle.egl_calls.specs.declared.kinds.Kind.{Kind}
+use Rattle.egl_calls.specs.declared.kinds.Kind.TheVariants.{Egl, Gl, Own}
+use Rattle.egl_calls.specs.declared.kinds.EglKind.{EglKind}
+use Rattle.egl_calls.specs.declared.kinds.EglKind.TheVariants.{ClientWaitSync, CreateContext, CreatePbufferSurface, CreateSync, CreateWindowSurface, MakeCurrent, ReleaseThread, SurfaceAttrib, SwapBuffers, WaitClient, WaitSync}
+use Rattle.egl_calls.specs.declared.kinds.GlKind.{GlKind}
+use Rattle.egl_calls.specs.declared.kinds.GlKind.TheVariants.{BindTexture, Clear, DeleteTextures, Finish, Flush, GenTextures, ReadPixels, TexImage2d, TexParameterx, TexParameteriv, TexSubImage2d}
+use Rattle.egl_calls.specs.declared.kinds.OwnKind.{OwnKind}
+use Rattle.egl_calls.specs.declared.kinds.OwnKind.TheVariants.{ReadBuffer, WaitEnd}
+use Rattle.call_rules.specs.EglRules.{is_release}
+use Rattle.context_state.specs.Calls.{apply}
+use Rattle.context_state.specs.Kinds.{context_gl_call}
+use Rattle.context_state.specs.declared.kinds.ContextCall.{ContextCall}
+use Rattle.context_state.specs.Parts.{PartValue, noted}
+use Rattle.pixel_rows.specs.Images.{ImageValue}
+use Rattle.share_group.specs.Groups.{GroupValue}
+use Rattle.share_group.specs.declared.names.NameKind.TheVariants.{Texture as textures}
+use Rattle.surface_store.specs.Surfaces.{SurfaceValue}
+use Rattle.surface_store.specs.Windows.{WindowValue, posted}
+use Rattle.surface_store.specs.WindowTables.{fits, no_window, place_of, posted_to, swapped_windows, window_at}
+use Rattle.driver_objects.specs.Storages.{StorageValue, shown_by}
+use Rattle.driver_objects.specs.declared.contexts.Context.{Context as ContextObject}
+use Rattle.driver_objects.specs.declared.fences.Fence.{Fence}
+use Rattle.driver_objects.specs.declared.objects.Object.{Object}
+use Rattle.driver_objects.specs.declared.objects.Object.TheVariants.{Context, Group, Texture, Surface, Storage, Sync}
+use Rattle.driver_objects.specs.declared.surfaces.BackedSurface.{BackedSurface}
+use Rattle.driver_objects.specs.declared.textures.BackedTexture.{BackedTexture}
+use Rattle.display_table.specs.declared.handles.Handle.{Handle}
+use Rattle.egl_model.specs.Arguments.{number}
+use Rattle.egl_model.specs.Currents.{bound_surface, current_context, draw_storage, part_of_context}
+use Rattle.egl_model.specs.Drawing.{clear_storage, clears_colour}
+use Rattle.egl_model.specs.EglEffects.{egl_effect}
+use Rattle.egl_model.specs.EglFacts.{egl_refusal}
+use Rattle.egl_model.specs.Effects.{outcome_of}
+use Rattle.egl_model.specs.Flushes.{flush_in}
+use Rattle.egl_model.specs.GlEffects.{effect_by, gl_effect, object_effect}
+use Rattle.egl_model.specs.GlFacts.{gl_refusal}
+use Rattle.egl_model.specs.Graph.{reached}
+use Rattle.egl_model.specs.MakeCurrent.{bind, bound_anew, bound_by, context_handle, draw_handle, first_use, read_handle, unbound}
+use Rattle.egl_model.specs.Names.{group_of, object_named}
+use Rattle.egl_model.specs.Objects.{as_storage, as_texture, change_context, change_fence, change_group, change_part, change_storage, change_surface, change_texture, with_context, with_fence, with_group, with_part, with_surface}
+use Rattle.egl_model.specs.OwnCalls.{buffer_effect, buffer_refusal}
+use Rattle.egl_model.specs.State.{State, record_of}
+use Rattle.egl_model.specs.Step.{Stepped, after_egl_rules, after_gl_rules, buffer_step_on, egl_step, gl_step, gl_step_on, own_step, step, step_by, step_in, wait_step}
+use Rattle.egl_model.specs.Surfaces.{with_behavior}
+use Rattle.egl_model.specs.Sweep.{edges_at, sweep, swept}
+use Rattle.egl_model.specs.Syncs.{add_sync, asks_for_flush, client_waited, flush_for, has_to_wait, serve, sync_handle}
+use Rattle.egl_model.specs.Textures as calls
+use Rattle.egl_model.specs.Waits.{is_signalled, is_wait_end, waiting}
+use Rattle.egl_model.specs.Windows.{swapped_surface, swapped_with}
+use Rattle.model_laws.proofs.SweepLaws.{length-swept, object_at-swept}
+use Rattle.race_report.specs.Leading.{is_done}
+use Rattle.race_report.specs.Touches.{egl_touches, front, gl_touches, gl_touches_on, nothing, object, object_touches, own_touches, swap_of, swap_with, touches_by, touches_by_class, touches_of, unbuilt, writing}
+use Rattle.race_report.specs.Writes.{IsAsItWas, IsWrittenBy, Shows, Spares}
+use Rattle.race_report.specs.declared.touched.Touches.{Touches}
+use Rattle.race_report.proofs.WordLaws.{contains_first, contains_later}
+
+-- ---- One object.
+as_it_was : (o : Option Object) → IsAsItWas o o
+as_it_was o = (inl refl, inl refl)
+
+one_then : {A : Type 0} (x y z : Option A) → (y ≡ x) ⊎ (y ≡ None) → (z ≡ y) ⊎ (z ≡ None) → (z ≡ x) ⊎ (z ≡ None)
+one_then x y z f g = elim g [
+  | inl e ↦ (elim f [ inl d ↦ inl (e ∙ d) | inr d ↦ inr (e ∙ d) ])
+  | inr e ↦ inr e
+]
+
+was_then : (o p q : Option Object) → IsAsItWas o p → IsAsItWas p q → IsAsItWas o q
+was_then o p q f g = (one_then (as_texture o) (as_texture p) (as_texture q) f.0 g.0, one_then (as_storage o) (as_storage p) (as_storage q) f.1 g.1)
+
+gone_or_not : (b : Bool) (o : Option Object) → IsAsItWas o (if b then o else None)
+gone_or_not true o = as_it_was o
+gone_or_not false o = (inr refl, inr refl)
+
+-- no change of an object of another kind is one of a texture or a storage
+abbrev Spared : (Option Object → Option Object) → Type 0
+Spared f = (o : Option Object) → IsAsItWas o (f o)
+
+spared-context : (f : ContextObject → ContextObject) → Spared (with_context f)
+spared-context f None = (inl refl, inl refl)
+spared-context f (Some (Context x)) = (inl refl, inl refl)
+spared-context f (Some (Group x)) = (inl refl, inl refl)
+spared-context f (Some (Texture x)) = (inl refl, inl refl)
+spared-context f (Some (Surface x)) = (inl refl, inl refl)
+spared-context f (Some (Storage x)) = (inl refl, inl refl)
+spared-context f (Some (Sync x)) = (inl refl, inl refl)
+
+spared-part : (f : PartValue → PartValue) → Spared (with_part f)
+spared-part f None = (inl refl, inl refl)
+spared-part f (Some (Context x)) = (inl refl, inl refl)
+spared-part f (Some (Group x)) = (inl refl, inl refl)
+spared-part f (Some (Texture x)) = (inl refl, inl refl)
+spared-part f (Some (Surface x)) = (inl refl, inl refl)
+spared-part f (Some (Storage x)) = (inl refl, inl refl)
+spared-part f (Some (Sync x)) = (inl refl, inl refl)
+
+spared-group : (f : GroupValue → GroupValue) → Spared (with_group f)
+spared-group f None = (inl refl, inl refl)
+spared-group f (Some (Context x)) = (inl refl, inl refl)
+spared-group f (Some (Group x)) = (inl refl, inl refl)
+spared-group f (Some (Texture x)) = (inl refl, inl refl)
+spared-group f (Some (Surface x)) = (inl refl, inl refl)
+spared-group f (Some (Storage x)) = (inl refl, inl refl)
+spared-group f (Some (Sync x)) = (inl refl, inl refl)
+
+spared-fence : (f : Fence → Fence) → Spared (with_fence f)
+spared-fence f None = (inl refl, inl refl)
+spared-fence f (Some (Context x)) = (inl refl, inl refl)
+spared-fence f (Some (Group x)) = (inl refl, inl refl)
+spared-fence f (Some (Texture x)) = (inl refl, inl refl)
+spared-fence f (Some (Surface x)) = (inl refl, inl refl)
+spared-fence f (Some (Storage x)) = (inl refl, inl refl)
+spared-fence f (Some (Sync x)) = (inl refl, inl refl)
+
+spared-surface : (f : SurfaceValue → SurfaceValue) → Spared (with_surface f)
+spared-surface f None = (inl refl, inl refl)
+spared-surface f (Some (Context x)) = (inl refl, inl refl)
+spared-surface f (Some (Group x)) = (inl refl, inl refl)
+spared-surface f (Some (Texture x)) = (inl refl, inl refl)
+spared-surface f (Some (Surface x)) = (inl refl, inl refl)
+spared-surface f (Some (Storage x)) = (inl refl, inl refl)
+spared-surface f (Some (Sync x)) = (inl refl, inl refl)
+
+-- ---- Objects.
+record Kept (ws : List ℤ) (os ps : List (Option Object)) : Type 0 where
+  long : length os ≤ length ps
+  each : Spares ws os ps
+
+kept_self : (ws : List ℤ) (os : List (Option Object)) → Kept ws os os
+kept_self ws os = record { long = omega arith; each = λ n l. inr (as_it_was (get_or os n None)) }
+
+kept_then : (ws : List ℤ) (os ps qs : List (Option Object)) → Kept ws os ps → Kept ws ps qs → Kept ws os qs
+kept_then ws os ps qs f g = record {
+  long = let a = f.long in let b = g.long in omega (arith, a, b);
+  each = λ n l. elim (f.each n l) [
+    | inl w ↦ inl w
+    | inr a ↦ (elim (g.each n (let b = f.long in omega (arith, l, b))) [
+      | inl w ↦ inl w
+      | inr b ↦ inr (was_then (get_or os n None) (get_or ps n None) (get_or qs n None) a b)
+    ])
+  ];
+}
+
+kept_set : (ws : List ℤ) (os : List (Option Object)) (n : ℕ) (x : Option Object) → Contains ws (pos n) ⊎ IsAsItWas (get_or os n None) x → Kept ws os (set os n x)
+kept_set ws os n x h = record {
+  long = let e = length-set os n x in omega (arith, e);
+  each = λ m l. elim (cases_eq m n) [
+    | inl e ↦ subst (λ i. Contains ws (pos i) ⊎ IsAsItWas (get_or os i None) (get_or (set os n x) i None)) (sym e) (here (subst (λ i. i < length os) e l))
+    | inr ne ↦ inr (subst (λ p. IsAsItWas (get_or os m None) p) (sym (get_or-set_other os n m x None ne)) (as_it_was (get_or os m None)))
+  ];
+}
+  where
+    here : n < length os → Contains ws (pos n) ⊎ IsAsItWas (get_or os n None) (get_or (set os n x) n None)
+    here l = elim h [ inl w ↦ inl w | inr a ↦ inr (subst (λ p. IsAsItWas (get_or os n None) p) (sym (get_or-set_same os n x None l)) a) ]
+
+kept_more : (ws : List ℤ) (os more : List (Option Object)) → Kept ws os (os ++ more)
+kept_more ws os more = record {
+  long = let e = length-append os more in omega (arith, e);
+  each = λ n l. inr (subst (λ p. IsAsItWas (get_or os n None) p) (sym (get_or_append_left os more None n l)) (as_it_was (get_or os n None)));
+}
+
+kept_swept : (ws : List ℤ) (rs : List ℕ) (os : List (Option Object)) → Kept ws os (swept rs os)
+kept_swept ws rs os = record {
+  long = let e = length-swept rs os in omega (arith, e);
+  each = λ n l. inr (subst (λ p. IsAsItWas (get_or os n None) p) (sym (object_at-swept rs os n)) (gone_or_not (reached rs (edges_at os) n) (get_or os n None)));
+}
+
+kept-context : (ws : List ℤ) (f : ContextObject → ContextObject) (n : ℕ) (os : List (Option Object)) → Kept ws os (change_context f n os)
+unfolding change_context
+kept-context ws f n os = kept_set ws os n (with_context f (get_or os n None)) (inr (spared-context f (get_or os n None)))
+
+kept-part : (ws : List ℤ) (f : PartValue → PartValue) (n : ℕ) (os : List (Option Object)) → Kept ws os (change_part f n os)
+unfolding change_part
+kept-part ws f n os = kept_set ws os n (with_part f (get_or os n None)) (inr (spared-part f (get_or os n None)))
+
+kept-group : (ws : List ℤ) (f : GroupValue → GroupValue) (n : ℕ) (os : List (Option Object)) → Kept ws os (change_group f n os)
+unfolding change_group
+kept-group ws f n os = kept_set ws os n (with_group f (get_or os n None)) (inr (spared-group f (get_or os n None)))
+
+kept-fence : (ws : List ℤ) (f : Fence → Fence) (n : ℕ) (os : List (Option Object)) → Kept ws os (change_fence f n os)
+unfolding change_fence
+kept-fence ws f n os = kept_set ws os n (with_fence f (get_or os n None)) (inr (spared-fence f (get_or os n None)))
+
+kept-surface : (ws : List ℤ) (f : SurfaceValue → SurfaceValue) (n : ℕ) (os : List (Option Object)) → Kept ws os (change_surface f n os)
+unfolding change_surface
+kept-surface ws f n os = kept_set ws os n (with_surface f (get_or os n None)) (inr (spared-surface f (get_or os n None)))
+
+-- what is written may change
+kept-texture : (ws : List ℤ) (f : BackedTexture → BackedTexture) (n : ℕ) (os : List (Option Object)) → Contains ws (pos n) → Kept ws os (change_texture f n os)
+unfolding change_texture
+kept-texture ws f n os w = kept_set ws os n _ (inl w)
+
+kept-storage : (ws : List ℤ) (f : StorageValue → StorageValue) (n : ℕ) (os : List (Option Object)) → Contains ws (pos n) → Kept ws os (change_storage f n os)
+unfolding change_storage
+kept-storage ws f n os w = kept_set ws os n _ (inl w)
+
+kept-flush : (ws : List ℤ) (o : Option ℕ) (os : List (Option Object)) → Kept ws os (flush_in o os)
+kept-flush ws None os = kept_self ws os
+kept-flush ws (Some n) os = kept-context ws _ n os
+
+-- ---- Objects and windows.
+record Tells (ws : List ℤ) (os : List (Option Object)) (vs : List WindowValue) (ps : List (Option Object)) (us : List WindowValue) : Type 0 where
+  kept : Kept ws os ps
+  shows : Shows ws vs us
+
+abbrev Told : List ℤ → State → State → Type 0
+Told ws s a = Tells ws s.objects s.windows a.objects a.windows
+
+with_objects : (ws : List ℤ) (os ps : List (Option Object)) (vs : List WindowValue) → Kept ws os ps → Tells ws os vs ps vs
+with_objects ws os ps vs k = record { kept = k; shows = λ n. inr refl }
+
+tells_self : (ws : List ℤ) (os : List (Option Object)) (vs : List WindowValue) → Tells ws os vs os vs
+tells_self ws os vs = with_objects ws os os vs (kept_self ws os)
+
+tells_then : (ws : List ℤ) (os ps qs : List (Option Object)) (vs us : List WindowValue) → Tells ws os vs ps us → Kept ws ps qs → Tells ws os vs qs us
+tells_then ws os ps qs vs us f k = record { kept = kept_then ws os ps qs f.kept k; shows = f.shows }
+
+-- ---- Calls of EGL.
+shows_set : (ws : List ℤ) (id : ℕ) (vs : List WindowValue) (i : ImageValue) (o : Option ℕ) → place_of id vs ≡ o → Contains ws (front id) → Shows ws vs (option_map_or (λ k. set vs k (posted i (window_at vs k))) o vs)
+shows_set ws id vs i None e w = λ k. inr refl
+shows_set ws id vs i (Some p) e w = λ k. elim (cases_eq k p) [
+  | inl same ↦ inl (subst (λ n. Contains ws (front n)) (sym (ap (λ j. unsigned (window_at vs j).id) same ∙ eqb-true (unsigned (window_at vs p).id) id (position-Some (λ (v : WindowValue). unsigned v.id == id) vs p no_window e).1)) w)
+  | inr ne ↦ inr (get_or-set_other vs p k (posted i (window_at vs p)) no_window ne)
+]
+
+shows_fit : (ws : List ℤ) (id : ℕ) (vs : List WindowValue) (i : ImageValue) (b : Bool) → Contains ws (front id) → Shows ws vs (if b then posted_to id i vs else vs)
+shows_fit ws id vs i true w = shows_set ws id vs i (place_of id vs) refl w
+shows_fit ws id vs i false w = λ k. inr refl
+
+shows_owned : (ws : List ℤ) (id : ℕ) (vs : List WindowValue) (i : ImageValue) (b : Bool) → Contains ws (front id) → Shows ws vs (if b then swapped_windows id i vs else vs)
+shows_owned ws id vs i true w = shows_fit ws id vs i (fits id i vs) w
+shows_owned ws id vs i false w = λ k. inr refl
+
+shows_swap : (ws : List ℤ) (id : ℕ) (o : Option ImageValue) (vs : List WindowValue) → Contains ws (front id) → Shows ws vs (shown_by id o vs)
+shows_swap ws id None vs w = λ k. inr refl
+shows_swap ws id (Some i) vs w = shows_owned ws id vs i i.owned w
+
+told-window : (s : State) (x : BackedSurface) (o : Option ℤ) → Told (swap_with x o).writes s (swapped_with x o s)
+told-window s x None = tells_self [] s.objects s.windows
+told-window s x (Some id) = let ws = pos x.storage ∷ front (unsigned id) ∷ [] in record {
+  kept = kept-storage ws _ x.storage s.objects (contains_first (pos x.storage) (front (unsigned id) ∷ []));
+  shows = shows_swap ws (unsigned id) _ s.windows (contains_later (pos x.storage) (front (unsigned id) ∷ []) (front (unsigned id)) (contains_first (front (unsigned id)) []));
+}
+
+told-swap : (s : State) (o : Option BackedSurface) → Told (swap_of o).writes s (swapped_surface o s)
+told-swap s None = tells_self [] s.objects s.windows
+told-swap s (Some x) = told-window s x x.surface.window
+
+told-behavior : (s : State) (c : CallValue) (o : Option Handle) → Told [] s (with_behavior s c o)
+told-behavior s c None = tells_self [] s.objects s.windows
+told-behavior s c (Some h) = with_objects [] s.objects _ s.windows (kept-surface [] _ h.object s.objects)
+
+told-sync : (s : State) (d : ℕ) (o : Option ℕ) → Told [] s (add_sync s d o)
+told-sync s d None = tells_self [] s.objects s.windows
+told-sync s d (Some n) = with_objects [] s.objects _ s.windows (kept_more [] s.objects _)
+
+told-serve : (s : State) (o : Option Handle) → Told [] s (serve o s)
+told-serve s None = tells_self [] s.objects s.windows
+told-serve s (Some h) = with_objects [] s.objects _ s.windows (kept-fence [] _ h.object s.objects)
+
+kept-first_use : (o draw : Option Handle) (os : List (Option Object)) → Kept [] os (first_use o draw os)
+kept-first_use None draw os = kept_self [] os
+kept-first_use (Some h) draw os = kept-part [] _ h.object os
+
+told-bound : (s : State) (t : ℕ) (c : CallValue) (b : Bool) → Told [] s (if b then unbound s t else bind (record s { objects = first_use (context_handle s c) (draw_handle s c) s.objects }) t (bound_by (context_handle s c)) (bound_by (draw_handle s c)) (bound_by (read_handle s c)))
+told-bound s t c true = tells_self [] s.objects s.windows
+told-bound s t c false = with_objects [] s.objects _ s.windows (kept-first_use (context_handle s c) (draw_handle s c) s.objects)
+
+kept-flush_if : (b : Bool) (o : Option ℕ) (os : List (Option Object)) → Kept [] os (if b then flush_in o os else os)
+kept-flush_if true o os = kept-flush [] o os
+kept-flush_if false o os = kept_self [] os
+
+told-waits : (os : List (Option Object)) (vs : List WindowValue) (a b : State) (w : Bool) → Tells [] os vs a.objects a.windows → Tells [] os vs b.objects b.windows → Tells [] os vs (if w then a else b).objects (if w then a else b).windows
+told-waits os vs a b true f g = f
+told-waits os vs a b false f g = g
+
+told-client : (s : State) (c : CallValue) (t : ℕ) (o : Option Handle) → Told [] s (client_waited c t o s).state
+told-client s c t None = tells_self [] s.objects s.windows
+told-client s c t (Some h) =
+    let b = flush_for c t h.object s in
+    let k : Told [] s b = with_objects [] s.objects b.objects s.windows (kept-flush_if (asks_for_flush c && not (is_signalled s h.object)) (current_context s t) s.objects) in
+    told-waits s.objects s.windows (waiting b t (Some h.object)) b (has_to_wait c h.object b) k k
+
+told-egl : (s : State) (t : ℕ) (c : CallValue) (k : EglKind) → Told (egl_touches s t k).writes s (egl_effect s t k c).state
+told-egl s t c CreateWindowSurface = with_objects [] s.objects _ s.windows (kept_more [] s.objects _)
+told-egl s t c CreatePbufferSurface = with_objects [] s.objects _ s.windows (kept_more [] s.objects _)
+told-egl s t c CreateContext = with_objects [] s.objects _ s.windows (kept_more [] s.objects _)
+told-egl s t c SurfaceAttrib = told-behavior s c _
+told-egl s t c MakeCurrent = tells_then [] s.objects (bound_anew s t c).objects _ s.windows _ (told-bound s t c (is_release c)) (kept-flush [] (current_context s t) (bound_anew s t c).objects)
+told-egl s t c SwapBuffers = let o = bound_surface s (record_of s t).draw in tells_then (swap_of o).writes s.objects (swapped_surface o s).objects _ s.windows _ (told-swap s o) (kept-flush (swap_of o).writes _ (swapped_surface o s).objects)
+told-egl s t c WaitClient = with_objects [] s.objects _ s.windows (kept-flush [] (current_context s t) s.objects)
+told-egl s t c CreateSync = told-sync s (number c 0) (current_context s t)
+told-egl s t c ClientWaitSync = told-client s c t (sync_handle s c)
+told-egl s t c WaitSync = told-serve s (sync_handle s c)
+told-egl s t c ReleaseThread = with_objects [] s.objects _ s.windows (kept-flush [] (current_context s t) s.objects)
+told-egl s t c k = tells_self [] s.objects s.windows
+
+-- ---- Calls of OpenGL ES.
+has_object : (n : ℕ) → Contains (object (Some n)) (pos n)
+has_object n = contains_first (pos n) []
+
+told-clear : (s : State) (p : Option PartValue) (o : Option ℕ) (b : Bool) → Told (if b then writing (object o) else nothing).writes s (if b then clear_storage p o s else s)
+told-clear s p o false = tells_self [] s.objects s.windows
+told-clear s None o true = tells_self (object o) s.objects s.windows
+told-clear s (Some p) None true = tells_self [] s.objects s.windows
+told-clear s (Some p) (Some n) true = with_objects (object (Some n)) s.objects _ s.windows (kept-storage (object (Some n)) _ n s.objects (has_object n))
+
+kept-bound : (ws : List ℤ) (n : ℕ) (o : Option ℕ) (name : ℕ) (os : List (Option Object)) → Kept ws os (calls.bound_texture n o name os)
+kept-bound ws n o name os = kept_then ws os _ _ (kept-context ws _ n os) (kept-context ws _ n _)
+
+told-named : (s : State) (g n name : ℕ) (o : Option ℕ) → Told [] s (calls.bound_named g n name o s)
+told-named s g n name (Some x) = with_objects [] s.objects _ s.windows (kept-bound [] n (Some x) name s.objects)
+told-named s g n name None = with_objects [] s.objects _ s.windows (kept_then [] s.objects _ _ (kept_then [] s.objects _ _ (kept_more [] s.objects _) (kept-group [] _ g _)) (kept-bound [] n _ name _))
+
+told-bind : (s : State) (n name : ℕ) (b : Bool) → Told [] s (if b then record s { objects = calls.bound_texture n None 0 s.objects } else calls.bound_named (group_of s n) n name (object_named s (group_of s n) textures name) s)
+told-bind s n name true = with_objects [] s.objects _ s.windows (kept-bound [] n None 0 s.objects)
+told-bind s n name false = told-named s (group_of s n) n name (object_named s (group_of s n) textures name)
+
+kept-unbound : (ws : List ℤ) (n : ℕ) (o : Option ℕ) (os : List (Option Object)) → Kept ws os (calls.unbound_in n o os)
+kept-unbound ws n None os = kept_self ws os
+kept-unbound ws n (Some x) os = kept-context ws _ n os
+
+kept-freed : (ws : List ℤ) (g n name : ℕ) (o : Option ℕ) (os : List (Option Object)) → Kept ws os (calls.freed g n name o os)
+kept-freed ws g n name o os = kept_then ws os _ _ (kept-unbound ws n o os) (kept-group ws _ g _)
+
+tells_before : (ws : List ℤ) (os ps qs : List (Option Object)) (vs us : List WindowValue) → Kept ws os ps → Tells ws ps vs qs us → Tells ws os vs qs us
+tells_before ws os ps qs vs us k f = record { kept = kept_then ws os ps qs k f.kept; shows = f.shows }
+
+told-deleted : (ws : List ℤ) (g n : ℕ) (xs : List ℤ) (s : State) → Told ws s (calls.deleted_in g n xs s)
+told-deleted ws g n [] s = tells_self ws s.objects s.windows
+told-deleted ws g n (x ∷ xs) s =
+    let a = calls.deleted_texture g n (unsigned x) s in
+    tells_before ws s.objects a.objects _ s.windows _ (kept-freed ws g n (unsigned x) (object_named s g textures (unsigned x)) s.objects) (told-deleted ws g n xs a)
+
+told-parameter : (s : State) (pname value : ℕ) (o : Option ℕ) → Told (object o) s (calls.set_parameter pname value o s)
+told-parameter s pname value None = tells_self [] s.objects s.windows
+told-parameter s pname value (Some x) = with_objects (object (Some x)) s.objects _ s.windows (kept-texture (object (Some x)) _ x s.objects (has_object x))
+
+told-crop : (s : State) (xs : List ℤ) (o : Option ℕ) → Told (object o) s (calls.set_crop xs o s)
+told-crop s xs None = tells_self [] s.objects s.windows
+told-crop s xs (Some x) = with_objects (object (Some x)) s.objects _ s.windows (kept-texture (object (Some x)) _ x s.objects (has_object x))
+
+kept-specified : (k : ℕ) (v : Option StorageValue) (x : ℕ) (os : List (Option Object)) → Kept (object (Some x)) os (calls.specified_in k v x os)
+kept-specified k None x os = kept-texture (object (Some x)) _ x os (has_object x)
+kept-specified k (Some v) x os = kept_then (object (Some x)) os _ _ (kept_more (object (Some x)) os _) (kept-texture (object (Some x)) _ x _ (has_object x))
+
+told-specified : (s : State) (k : ℕ) (v : Option StorageValue) (o : Option ℕ) → Told (object o) s (calls.specified k v o s)
+told-specified s k v None = tells_self [] s.objects s.windows
+told-specified s k v (Some x) = with_objects (object (Some x)) s.objects _ s.windows (kept-specified k v x s.objects)
+
+told-rewritten : (s : State) (c : CallValue) (align : ℕ) (o : Option ℕ) → Told (object o) s (calls.rewritten_part c align o s)
+told-rewritten s c align None = tells_self [] s.objects s.windows
+told-rewritten s c align (Some n) = with_objects (object (Some n)) s.objects _ s.windows (kept-storage (object (Some n)) _ n s.objects (has_object n))
+
+told-part : (ws : List ℤ) (s : State) (n : ℕ) (f : PartValue → PartValue) → Told ws s (record s { objects = change_part f n s.objects })
+told-part ws s n f = with_objects ws s.objects _ s.windows (kept-part ws f n s.objects)
+
+told-object : (s : State) (t n : ℕ) (c : CallValue) (k : GlKind) → Told (object_touches s t n k c).writes s (object_effect s t n k c).state
+told-object s t n c Flush = with_objects [] s.objects _ s.windows (kept-flush [] (Some n) s.objects)
+told-object s t n c Finish = with_objects [] s.objects _ s.windows (kept-flush [] (Some n) s.objects)
+told-object s t n c Clear = told-clear s (part_of_context s n) (draw_storage s t) (clears_colour c)
+told-object s t n c GenTextures = with_objects [] s.objects _ s.windows (kept-group [] _ (group_of s n) s.objects)
+told-object s t n c DeleteTextures = told-deleted _ (group_of s n) n c.list s
+told-object s t n c BindTexture = told-bind s n (number c 1) (number c 1 == 0)
+told-object s t n c TexParameterx = told-parameter s (number c 1) (number c 2) (calls.target_texture s n)
+told-object s t n c TexParameteriv = told-crop s c.list (calls.target_texture s n)
+told-object s t n c TexImage2d = told-specified s (calls.level_of c) (calls.new_level c (calls.unpack_alignment s n)) (calls.target_texture s n)
+told-object s t n c TexSubImage2d = told-rewritten s c (calls.unpack_alignment s n) (calls.level_storage s n (calls.level_of c))
+told-object s t n c k = tells_self _ s.objects s.windows
+
+told_by-gl : (o : Option ContextCall) (s : State) (t n : ℕ) (c : CallValue) (k : GlKind) → Told (touches_by_class o s t n k c).writes s (effect_by o s t n k c).state
+told_by-gl (Some own) s t n c k = told-part [] s n (λ p. (apply c p).part)
+told_by-gl None s t n c k = told-object s t n c k
+
+told-gl : (s : State) (t n : ℕ) (c : CallValue) (k : GlKind) → Told (gl_touches s t n k c).writes s (gl_effect s t n k c).state
+told-gl s t n c k = told_by-gl (context_gl_call k) s t n c k
+
+-- ---- Steps.
+abbrev ToldBy : Touches → State → Stepped → Type 0
+ToldBy x s a = Told (if is_done a.reply.outcome then x else nothing).writes s a.state
+
+idle : (b : Bool) (os ps : List (Option Object)) (vs us : List WindowValue) → Tells [] os vs ps us → Tells (if b then nothing else nothing).writes os vs ps us
+idle true os ps vs us f = f
+idle false os ps vs us f = f
+
+egl_done : (s : State) (t : ℕ) (c : CallValue) (k : EglKind) → ToldBy (egl_touches s t k) s (after_egl_rules s t None (egl_effect s t k c))
+egl_done s t c SwapBuffers = let a = (egl_effect s t SwapBuffers c).state in let ws = (egl_touches s t SwapBuffers).writes in tells_then ws s.objects a.objects _ s.windows _ (told-egl s t c SwapBuffers) (kept_swept ws _ a.objects)
+egl_done s t c k = let a = (egl_effect s t k c).state in idle (is_done (outcome_of (egl_effect s t k c))) s.objects _ s.windows _ (tells_then [] s.objects a.objects _ s.windows _ (told-egl s t c k) (kept_swept [] _ a.objects))
+
+egl_ruled : (s : State) (t : ℕ) (c : CallValue) (k : EglKind) (o : Option EglError) → ToldBy (egl_touches s t k) s (after_egl_rules s t o (egl_effect s t k c))
+egl_ruled s t c k (Some e) = tells_self [] s.objects s.windows
+egl_ruled s t c k None = egl_done s t c k
+
+object_never_waits : (s : State) (t n : ℕ) (c : CallValue) (k : GlKind) → (object_effect s t n k c).waits ≡ false
+object_never_waits s t n c ReadPixels = refl
+object_never_waits s t n c k = refl
+
+waits_by : (o : Option ContextCall) (s : State) (t n : ℕ) (c : CallValue) (k : GlKind) → (effect_by o s t n k c).waits ≡ false
+waits_by (Some own) s t n c k = refl
+waits_by None s t n c k = object_never_waits s t n c k
+
+gl_never_waits : (s : State) (t n : ℕ) (c : CallValue) (k : GlKind) → (gl_effect s t n k c).waits ≡ false
+gl_never_waits s t n c k = waits_by (context_gl_call k) s t n c k
+
+gl_ruled : (s : State) (t n : ℕ) (c : CallValue) (k : GlKind) (o : Option GlError) → ToldBy (gl_touches s t n k c) s (after_gl_rules s n o (gl_effect s t n k c))
+gl_ruled s t n c k (Some e) = told-part [] s n (noted e)
+gl_ruled s t n c k None =
+    let a = (gl_effect s t n k c).state in
+    let x = gl_touches s t n k c in
+    let P : Bool → Type 0 = λ b. Told (if is_done (if b then Waiting else Done) then x else nothing).writes s (sweep a) in
+    subst P (sym (gl_never_waits s t n c k)) (tells_then x.writes s.objects a.objects _ s.windows _ (told-gl s t n c k) (kept_swept x.writes _ a.objects))
+
+gl_on : (s : State) (t : ℕ) (c : CallValue) (k : GlKind) (o : Option ℕ) → ToldBy (gl_touches_on s t o k c) s (gl_step_on s t o k c)
+gl_on s t c k None = tells_self [] s.objects s.windows
+gl_on s t c k (Some n) = gl_ruled s t n c k (gl_refusal s t n k c)
+
+buffer_ruled : (s : State) (t n : ℕ) (c : CallValue) (o : Option GlError) → ToldBy unbuilt s (after_gl_rules s n o (buffer_effect s t n c))
+buffer_ruled s t n c (Some e) = told-part [] s n (noted e)
+buffer_ruled s t n c None = with_objects unbuilt.writes s.objects _ s.windows (kept_swept unbuilt.writes _ s.objects)
+
+buffer_on : (s : State) (t : ℕ) (c : CallValue) (o : Option ℕ) → ToldBy unbuilt s (buffer_step_on s t o c)
+buffer_on s t c None = tells_self unbuilt.writes s.objects s.windows
+buffer_on s t c (Some n) = buffer_ruled s t n c (buffer_refusal s t n c)
+
+own_told : (s : State) (t : ℕ) (c : CallValue) (k : OwnKind) → ToldBy (own_touches s k c) s (own_step s t k c)
+own_told s t c ReadBuffer = buffer_on s t c (current_context s t)
+own_told s t c WaitEnd = tells_self [] s.objects s.windows
+own_told s t c k = tells_self (own_touches s k c).writes s.objects s.windows
+
+kind_told : (s : State) (t : ℕ) (c : CallValue) (k : Kind) → ToldBy (touches_by s t k c) s (step_by s t k c)
+unfolding egl_step gl_step
+kind_told s t c (Egl k) = egl_ruled s t c k (egl_refusal s t k c)
+kind_told s t c (Gl k) = gl_on s t c k (current_context s t)
+kind_told s t c (Own k) = own_told s t c k
+
+wait_told : (s : State) (t : ℕ) (x : Touches) (is_end signalled : Bool) → ToldBy x s (wait_step s t is_end signalled)
+wait_told s t x false signalled = tells_self [] s.objects s.windows
+wait_told s t x true false = tells_self [] s.objects s.windows
+wait_told s t x true true = with_objects x.writes s.objects _ s.windows (kept_swept x.writes _ s.objects)
+
+told_in : (s : State) (t : ℕ) (c : CallValue) (o : Option ℕ) → ToldBy (touches_by s t c.kind c) s (step_in o s t c)
+told_in s t c (Some sync) = wait_told s t (touches_by s t c.kind c) (is_wait_end c.kind) (is_signalled s sync)
+told_in s t c None = kind_told s t c c.kind
+
+pub written_by : (s : State) (t : ℕ) (c : CallValue) → IsWrittenBy (touches_of s t c) s (step s t c).state
+unfolding step touches_of
+written_by s t c = let f = told_in s t c (record_of s t).wait in record { objects = f.kept.each; windows = f.shows }

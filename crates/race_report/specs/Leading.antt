@@ -1,0 +1,102 @@
+-- Which places of a journal lead to an entry: by a variable, by a post, or by a sync.
+use Rattle.std.specs.Prelude.{◌≡◌, ℕ, ◌+◌, ◌<◌, length, Bool, true, false, ◌&&◌, ◌==◌, ℤ, pos, List, [], ◌∷◌, ◌++◌, if◌then◌else◌, find, slice_index_or, Option, None, Some}
+use Rattle.std.specs.List.{filter_map, position_from}
+use Rattle.std.specs.Option.{option_or, option_to_list}
+use Rattle.std.specs.Ordering.{int_eq}
+use Rattle.egl_calls.specs.Calls.{CallValue, ReplyValue}
+use Rattle.egl_calls.specs.declared.entries.Entry.{Entry}
+use Rattle.egl_calls.specs.declared.errors.Outcome.{Outcome}
+use Rattle.egl_calls.specs.declared.errors.Outcome.TheVariants.{Done}
+use Rattle.egl_calls.specs.declared.kinds.Kind.{Kind}
+use Rattle.egl_calls.specs.declared.kinds.Kind.TheVariants.{Egl, Own}
+use Rattle.egl_calls.specs.declared.kinds.EglKind.TheVariants.{CreateSync, ClientWaitSync, WaitSync}
+use Rattle.egl_calls.specs.declared.kinds.OwnKind.TheVariants.{WaitEnd}
+use Rattle.egl_names.specs.declared.codes.TheConstants.{EGL_CONDITION_SATISFIED}
+use Rattle.egl_calls.specs.declared.places.TheConstants.{NAMED, POSTED}
+use Rattle.egl_model.specs.Arguments.{number}
+use Rattle.trace_reader.specs.declared.traces.Line.{Line}
+use Rattle.trace_reader.specs.declared.traces.Reference.{Reference}
+use Rattle.trace_model.specs.Resolve.{is_waiting, answers, assigns}
+use Rattle.trace_model.specs.Turns.{is_await, posts}
+
+-- ---- Variables.
+-- the last place at which a test passes, counted from a number on
+unfoldable pub last_from : {X : Type 0} → (X → Bool) → ℕ → List X → Option ℕ
+last_from test k [] = None
+last_from test k (x ∷ xs) = option_or (last_from test (k + 1) xs) (if test x then Some k else None)
+
+abbrev pub answer_place : List Entry → Option Line → Option ℕ
+answer_place journal None = None
+answer_place journal (Some l) = last_from (answers l.thread l.number) 0 journal
+
+-- the place of a variable's answer: the last that answers the line which assigns it
+unfoldable pub variable_place : List Line → List Entry → ℕ → Option ℕ
+variable_place lines journal v = answer_place journal (find (assigns v) lines)
+
+-- the places of the answers of the first variables
+abbrev pub ArePlaces : List Line → List Entry → List (Option ℕ) → Type 0
+ArePlaces lines journal places = (v : ℕ) → v < length places → slice_index_or places v None ≡ variable_place lines journal v
+
+-- the line that an entry plays, or ends the wait of
+abbrev pub is_played_by : Entry → Line → Bool
+is_played_by e l = l.number == e.mark
+
+abbrev pub uses_of : Option Line → List Reference
+uses_of None = []
+uses_of (Some l) = l.uses
+
+-- the places of the answers of the variables that a line uses
+unfoldable pub used_places : List Line → List Entry → List Reference → List ℕ
+used_places lines journal uses = filter_map (λ r. variable_place lines journal r.variable) uses
+
+-- ---- Posts.
+-- the place of the first post of the number that an entry awaits
+abbrev pub awaited_place : List Entry → CallValue → Option ℕ
+awaited_place journal c = if is_await c.kind then position_from (posts (number c POSTED)) 0 journal else None
+
+-- ---- Syncs.
+abbrev pub is_done : Outcome → Bool
+is_done Done = true
+is_done o = false
+
+abbrev pub is_create_sync : Kind → Bool
+is_create_sync (Egl CreateSync) = true
+is_create_sync k = false
+
+-- an entry made the sync with this handle, which no other has
+abbrev pub makes : ℤ → Entry → Bool
+makes handle e = is_create_sync e.call.kind && is_done e.reply.outcome && int_eq e.reply.value handle
+
+-- an entry began the wait that another ends
+abbrev pub begins : Entry → Entry → Bool
+begins e b = (b.thread == e.thread) && (b.mark == e.mark) && is_waiting b.reply.outcome
+
+-- the handle that a call names after its display
+abbrev pub named : CallValue → ℤ
+named c = slice_index_or c.args NAMED (pos 0)
+
+abbrev pub is_satisfied : ReplyValue → Bool
+is_satisfied r = is_done r.outcome && int_eq r.value (pos EGL_CONDITION_SATISFIED)
+
+abbrev pub named_by : Option Entry → Option ℤ
+named_by None = None
+named_by (Some b) = Some (named b.call)
+
+-- the sync behind whose signal an entry stands: a client wait that was answered so, the end of one, or a wait of the server
+abbrev pub waited_by : List Entry → Entry → Kind → Option ℤ
+waited_by journal e (Egl ClientWaitSync) = if is_satisfied e.reply then Some (named e.call) else None
+waited_by journal e (Egl WaitSync) = if is_done e.reply.outcome then Some (named e.call) else None
+waited_by journal e (Own WaitEnd) = if is_done e.reply.outcome then named_by (find (begins e) journal) else None
+waited_by journal e k = None
+
+abbrev pub maker_place : List Entry → Option ℤ → Option ℕ
+maker_place journal None = None
+maker_place journal (Some handle) = position_from (makes handle) 0 journal
+
+-- ---- All of them.
+-- the places that lead to an entry beside those of its thread
+abbrev pub behind_of : List Line → List Entry → Entry → List ℕ
+behind_of lines journal e =
+    used_places lines journal (uses_of (find (is_played_by e) lines))
+    ++ option_to_list (awaited_place journal e.call)
+    ++ option_to_list (maker_place journal (waited_by journal e e.call.kind))

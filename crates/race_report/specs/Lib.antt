@@ -1,0 +1,9 @@
+pub mod Order
+pub mod Conflicts
+pub mod Clocks
+pub mod Races
+pub mod Leading
+pub mod Events
+pub mod Words
+pub mod Touches
+pub mod Writes

@@ -1,0 +1,115 @@
+-- What a call reads and writes, beside what its thread has for itself: objects, and what windows show.
+use Rattle.std.specs.Prelude.{ℕ, ℤ, pos, neg_ℤ, List, [], ◌∷◌, map, if◌then◌else◌, is_some, option_to_list, Option, None, Some}
+use Rattle.std.specs.List.{filter_map}
+use Rattle.egl_calls.specs.Calls.{CallValue}
+use Rattle.egl_calls.specs.Ranges.{unsigned}
+use Rattle.egl_calls.specs.declared.kinds.Kind.{Kind}
+use Rattle.egl_calls.specs.declared.kinds.Kind.TheVariants.{Egl, Gl, Own}
+use Rattle.egl_calls.specs.declared.kinds.EglKind.{EglKind}
+use Rattle.egl_calls.specs.declared.kinds.EglKind.TheVariants.{SwapBuffers}
+use Rattle.egl_calls.specs.declared.kinds.GlKind.{GlKind}
+use Rattle.egl_calls.specs.declared.kinds.GlKind.TheVariants.{Flush, Finish, Clear, ReadPixels, GenTextures, DeleteTextures, IsTexture, BindTexture, TexParameterx, TexParameteriv, TexImage2d, TexSubImage2d}
+use Rattle.egl_calls.specs.declared.kinds.OwnKind.{OwnKind}
+use Rattle.egl_calls.specs.declared.kinds.OwnKind.TheVariants.{ReadBuffer, ReadFront}
+use Rattle.egl_calls.specs.declared.places.TheConstants.{FRONT}
+use Rattle.context_state.specs.Kinds.{context_gl_call}
+use Rattle.context_state.specs.declared.kinds.ContextCall.{ContextCall}
+use Rattle.share_group.specs.declared.names.NameKind.TheVariants.{Texture as textures}
+use Rattle.driver_objects.specs.declared.surfaces.BackedSurface.{BackedSurface}
+use Rattle.egl_model.specs.Arguments.{number}
+use Rattle.egl_model.specs.Currents.{bound_surface, current_context, draw_storage, read_storage}
+use Rattle.egl_model.specs.Drawing.{clears_colour}
+use Rattle.egl_model.specs.Names.{group_of, object_named}
+use Rattle.egl_model.specs.State.{State, record_of}
+use Rattle.egl_model.specs.Step.{step}
+use Rattle.egl_model.specs.Textures.{level_of, level_storage, target_texture}
+use Rattle.egl_model.specs.Windows.{front_of}
+use Rattle.race_report.specs.Leading.{is_done}
+use Rattle.race_report.specs.declared.touched.Touches.{Touches}
+
+abbrev pub nothing : Touches
+nothing = record { reads = []; writes = [] }
+
+-- what a call touches that isn't built: nothing can be proved of it, so no code can be proved to answer it
+pub unbuilt : Touches
+unbuilt = nothing
+
+abbrev pub reading : List ℤ → Touches
+reading xs = record { reads = xs; writes = [] }
+
+abbrev pub writing : List ℤ → Touches
+writing xs = record { reads = []; writes = xs }
+
+-- an object by its number, where there is one
+abbrev pub object : Option ℕ → List ℤ
+object o = map pos (option_to_list o)
+
+-- what the window of an id shows; no id is 0, so no object has this number
+abbrev pub front : ℕ → ℤ
+front id = neg_ℤ (pos id)
+
+-- ---- Calls of EGL. Only a swap touches what others may touch: the back buffer of a window's surface, and what the window shows.
+abbrev pub swap_with : BackedSurface → Option ℤ → Touches
+swap_with x None = nothing
+swap_with x (Some id) = writing (pos x.storage ∷ front (unsigned id) ∷ [])
+
+abbrev pub swap_of : Option BackedSurface → Touches
+swap_of None = nothing
+swap_of (Some x) = swap_with x x.surface.window
+
+abbrev pub egl_touches : State → ℕ → EglKind → Touches
+egl_touches s t SwapBuffers = swap_of (bound_surface s (record_of s t).draw)
+egl_touches s t k = nothing
+
+-- ---- Calls of OpenGL ES, of thread t, whose current context is n.
+-- the objects that names of textures have
+abbrev pub textures_named : State → ℕ → List ℤ → List ℤ
+textures_named s n xs = map pos (filter_map (λ x. object_named s (group_of s n) textures (unsigned x)) xs)
+
+abbrev pub object_touches : State → ℕ → ℕ → GlKind → CallValue → Touches
+-- pixels of the surfaces
+object_touches s t n Clear c = if clears_colour c then writing (object (draw_storage s t)) else nothing
+object_touches s t n ReadPixels c = reading (object (read_storage s t))
+-- the texture on which calls work, and the pixels of its levels
+object_touches s t n TexImage2d c = writing (object (target_texture s n))
+object_touches s t n TexParameterx c = writing (object (target_texture s n))
+object_touches s t n TexParameteriv c = writing (object (target_texture s n))
+object_touches s t n TexSubImage2d c = record { reads = object (target_texture s n); writes = object (level_storage s n (level_of c)) }
+-- what is deleted
+object_touches s t n DeleteTextures c = writing (textures_named s n c.list)
+-- nothing but names, and what the context has flushed
+object_touches s t n Flush c = nothing
+object_touches s t n Finish c = nothing
+object_touches s t n GenTextures c = nothing
+object_touches s t n IsTexture c = nothing
+object_touches s t n BindTexture c = nothing
+object_touches s t n k c = unbuilt
+
+-- a call of its context's own state touches nothing else
+abbrev pub touches_by_class : Option ContextCall → State → ℕ → ℕ → GlKind → CallValue → Touches
+touches_by_class (Some own) s t n k c = nothing
+touches_by_class None s t n k c = object_touches s t n k c
+
+abbrev pub gl_touches : State → ℕ → ℕ → GlKind → CallValue → Touches
+gl_touches s t n k c = touches_by_class (context_gl_call k) s t n k c
+
+-- without a current context nothing is done
+abbrev pub gl_touches_on : State → ℕ → Option ℕ → GlKind → CallValue → Touches
+gl_touches_on s t None k c = nothing
+gl_touches_on s t (Some n) k c = gl_touches s t n k c
+
+-- ---- This project's own calls.
+abbrev pub own_touches : State → OwnKind → CallValue → Touches
+own_touches s ReadFront c = if is_some (front_of (number c FRONT) s) then reading (front (number c FRONT) ∷ []) else nothing
+own_touches s ReadBuffer c = unbuilt
+own_touches s k c = nothing
+
+-- ---- All calls.
+abbrev pub touches_by : State → ℕ → Kind → CallValue → Touches
+touches_by s t (Egl k) c = egl_touches s t k
+touches_by s t (Gl k) c = gl_touches_on s t (current_context s t) k c
+touches_by s t (Own k) c = own_touches s k c
+
+-- what a call of thread t touches: nothing where it is refused or waits
+unfoldable pub touches_of : State → ℕ → CallValue → Touches
+touches_of s t c = if is_done (step s t c).reply.outcome then touches_by s t c.kind c else nothing

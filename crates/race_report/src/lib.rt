@@ -1,0 +1,17 @@
+//! Which entries of a journal touch one thing though nothing in it orders them: the races of a run.
+//!
+//! Its tests are in `reports.rt`.
+#![tactic(auto)]
+
+mod clocks;
+mod events;
+mod journals;
+pub mod laws;
+mod leading;
+mod reports;
+mod touched;
+
+pub use events::Event;
+pub use journals::races_of;
+pub use reports::{Pair, races};
+pub use touched::Touches;

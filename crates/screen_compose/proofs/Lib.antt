@@ -1,0 +1,6 @@
+pub mod RowLaws
+pub mod Changing
+pub mod ScreenLaws
+pub mod ShownLaws
+pub mod QueueLaws
+pub mod Blending

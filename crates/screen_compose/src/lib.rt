@@ -1,0 +1,23 @@
+//! A screen compositor: it stacks what windows show on a screen, and hands frames of it from thread to thread.
+//!
+//! Its tests are in `screen_check`.
+#![tactic(auto)]
+
+mod composing;
+mod frames;
+mod fronts;
+mod layers;
+mod placed;
+mod queues;
+mod rests;
+mod rows;
+mod screens;
+mod shown;
+
+pub use composing::compose_row;
+pub use frames::{FrameEnds, Frames, PutEnd, TakeEnd};
+pub use fronts::Fronts;
+pub use placed::{Placed, screen_ok};
+pub use rests::Rest;
+pub use rows::Row;
+pub use screens::{Frame, Screen};
