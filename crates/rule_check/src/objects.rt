@@ -94,7 +94,7 @@ fn a_row_is_read_in_another_format_and_padded(rt: HostRuntime) {
     let short = storage
         .read(rt.alloc(), LAST, Format::Rgb565, 8)
         .expect(&rt, "memory is ample");
-    assert_eq!(rt; short.as_slice(), [0, 248, 0, 0, 0, 0, 0, 0].as_slice());
+    assert_eq!(rt; short.as_slice(), [16, 248, 0, 0, 0, 0, 0, 0].as_slice());
 }
 
 fn context(bound: BoundObjects) -> Object {
