@@ -1,5 +1,5 @@
 //! Payloads: bytes in hexadecimal digits, or the null pointer.
-ghost use Rattle.std.specs.Prelude.{◌≡◌, ◌*◌, ◌/◌, ◌<◌, ◌≤◌, ◌++◌, [], length, position, Some, true, IfOk, IfSome, OnOk};
+ghost use Rattle.std.specs.Prelude.{◌≡◌, ◌+◌, ◌*◌, ◌/◌, ◌%◌, ◌<◌, ◌≤◌, ◌++◌, [], length, position, slice_index, Some, true, IfOk, IfSome, OnOk};
 ghost use Rattle.std.specs.List.{list_all};
 ghost use Rattle.std.specs.Option.{option_map};
 ghost use Rattle.trace_reader.specs.Hexadecimals.{is_hex_digit, hex_digit};
@@ -14,6 +14,9 @@ use std::marker::Model;
 
 /// How many times a payload may give its bytes.
 const MOST_REPEATS: u64 = 4_294_967_295;
+
+/// How many bytes are doubled up to before they are copied: beside so many, a copy's call costs little.
+const BLOCK: usize = 4_096;
 
 /// A payload as a word says it: the null pointer, or the digits of bytes and how many times they stand. Its value are the bytes, which aren't in memory yet.
 #[derive(Drop)]
@@ -34,10 +37,15 @@ impl<'a> Model for PayloadWord<'a> {
     ghost invariant = { λ p. (p.count ≤ most_repeats) × IfSome p.digits (λ d. (are_byte_digits d.now ≡ true) × (length d.now < 2 ^ 64)) };
 }
 
+/// Whether each byte is a digit. No byte ends the loop, so it runs over vectors of bytes.
 fn are_hex_digits(text: &[u8]) -> bool
     ensures { result ≡ list_all is_hex_digit text.now }
 {
-    text.iter().all(|b| is_hex_digit(*b))
+    let mut all = true;
+    for b in text {
+        all &= is_hex_digit(*b);
+    }
+    all
 }
 
 fn are_byte_digits(digits: &[u8]) -> bool
@@ -103,14 +111,51 @@ pub fn payload_word(word: &[u8]) -> Option<PayloadWord<'_>>
     None
 }
 
-/// Adds the bytes of digits.
-fn push_bytes(bytes: &mut Bytes, digits: &[u8]) -> Result<(), NoMemory>
-    requires { are_byte_digits digits.now ≡ true }
-    ensures { OnOk result (bytes.new ≡ bytes.old ++ hex_bytes digits.now) }
+/// The byte of two digits, of which the first counts sixteen. Bytes that are no digits have one too, so that a loop tests none.
+fn byte_of(pair: &[u8; 2]) -> u8
+    ensures { result ≡ (16 * hex_digit (slice_index pair.now 0) + hex_digit (slice_index pair.now 1)) % 256 }
 {
-    for k in 0..digits.len() / 2 {
-        let byte = 16 * hex_digit(digits[2 * k]) + hex_digit(digits[2 * k + 1]);
-        bytes.push(byte as u8)?;
+    hex_digit(pair[0])
+        .wrapping_mul(16)
+        .wrapping_add(hex_digit(pair[1]))
+}
+
+/// The bytes of digits.
+fn decoded(alloc: Global, digits: &[u8]) -> Result<Vec<u8>, NoMemory>
+    requires { are_byte_digits digits.now ≡ true }
+    ensures { IfOk result (λ v. v.items ≡ hex_bytes digits.now) }
+{
+    let (pairs, _) = digits.as_chunks::<2>();
+    match pairs.iter().map(byte_of).collect(alloc) {
+        Ok(bytes) => Ok(bytes),
+        Err(_) => Err(NoMemory),
+    }
+}
+
+/// Doubles bytes while a block has room for them and they are wanted so often. Answers how often they stand there.
+#[tactic(auto, using(crate::proofs::PayloadLaws::repeated_once))]
+fn double_to_block(bytes: &mut Vec<u8>, count: u64) -> Result<u64, NoMemory>
+    requires { 0 < count }
+    ensures bytes { IfOk result (λ n. bytes.new.items ≡ repeated n bytes.old.items) }
+    ensures some { IfOk result (λ n. 0 < n) }
+    ensures few { IfOk result (λ n. n ≤ count) }
+{
+    let mut times = 1u64;
+    'doublings: while bytes.len() <= BLOCK / 2 && times <= count / 2 {
+        let Ok(()) = bytes.extend_from_within(..) else {
+            return Err(NoMemory);
+        };
+        times *= 2;
+    }
+    Ok(times)
+}
+
+/// Adds bytes so many times.
+fn push_copies(to: &mut Bytes, count: u64, bytes: &[u8]) -> Result<(), NoMemory>
+    ensures { OnOk result (to.new ≡ to.old ++ repeated count bytes.now) }
+{
+    'copies: for _ in 0..count {
+        to.extend(bytes)?;
     }
     Ok(())
 }
@@ -125,20 +170,26 @@ fn no_bytes(alloc: Global, room: usize) -> Result<Bytes, NoMemory>
     }
 }
 
-/// The bytes of digits, so many times. They are decoded in their place, once room for all of them is taken.
-#[tactic(auto, using(crate::proofs::PayloadLaws::repeated_nothing, crate::proofs::PayloadLaws::repeated_more))]
+/// The bytes of digits, so many times. They are decoded once and doubled up to a block, which is copied to where room for all of them is taken.
+#[tactic(auto, using(crate::proofs::PayloadLaws::repeated_nothing))]
 fn repeated(alloc: Global, count: u64, digits: &[u8]) -> Result<Bytes, NoMemory>
     requires digits { are_byte_digits digits.now ≡ true }
     requires few { count * (length digits.now / 2) ≤ most_line_payload }
     ensures { IfOk result (λ b. b ≡ repeated count (hex_bytes digits.now)) }
 {
-    if digits.is_empty() {
+    if count == 0 || digits.is_empty() {
         return Ok(Bytes::new(alloc));
     }
-    let mut bytes = no_bytes(alloc, count as usize * (digits.len() / 2))?;
-    'times: for _ in 0..count {
-        push_bytes(&mut bytes, digits)?;
+    let mut block = decoded(alloc, digits)?;
+    let times = double_to_block(&mut block, count)?;
+    if times == count {
+        return Ok(Bytes::from_vec(block));
     }
+    let size = digits.len() / 2;
+    let mut bytes = no_bytes(alloc, count as usize * size)?;
+    push_copies(&mut bytes, count / times, &block)?;
+    let (rest, _) = block.split_at((count % times) as usize * size);
+    bytes.extend(rest)?;
     Ok(bytes)
 }
 
