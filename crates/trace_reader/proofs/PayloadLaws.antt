@@ -1,5 +1,5 @@
 -- Payloads, byte after byte.
-use Rattle.std.proofs.Common.{◌≡◌, ℕ, zero, suc, ◌+◌, ◌-◌, ◌*◌, ◌/◌, ◌%◌, ◌^◌, ◌<◌, ◌≤◌, Bool, true, ◌&&◌, List, [], ◌∷◌, ◌++◌, map, length, take, drop, take_all, slice_range, get_or, refl, sym, ap, ap₂, ◌∙◌, arith, append_assoc, append-nil, add-one, add_comm, zero-add, suc-add, zero-mul, suc-mul, mul_comm, mod-lt, le_refl, length-append}
+use Rattle.std.proofs.Common.{◌≡◌, ℕ, zero, suc, ◌+◌, ◌-◌, ◌*◌, ◌/◌, ◌%◌, ◌^◌, ◌<◌, ◌≤◌, true, ◌&&◌, List, [], ◌∷◌, ◌++◌, map, length, take, take_all, slice_range, get_or, refl, sym, ap, ap₂, ◌∙◌, arith, append_assoc, append-nil, add-one, add_comm, zero-add, suc-add, zero-mul, suc-mul, mul_comm, mod-lt, le_refl, length-append}
 use Rattle.std.proofs.Math.Nat.{div-add-mod}
 use Rattle.std.proofs.Math.Seq.{take-append_seam}
 use Rattle.std.proofs.lemmas.Bool.{and_parts}

@@ -1,11 +1,10 @@
 //! Payloads: bytes in hexadecimal digits, or the null pointer.
 ghost use Rattle.std.specs.Prelude.{◌≡◌, ◌+◌, ◌*◌, ◌/◌, ◌%◌, ◌<◌, ◌≤◌, ◌++◌, [], length, position, slice_index, Some, true, IfOk, IfSome, OnOk};
-ghost use Rattle.std.specs.List.{list_all};
 ghost use Rattle.std.specs.Option.{option_map};
-ghost use Rattle.trace_reader.specs.Hexadecimals.{is_hex_digit, hex_digit};
+ghost use Rattle.trace_reader.specs.Hexadecimals.{hex_digit};
 ghost use Rattle.trace_reader.specs.Payloads.{are_byte_digits, counted, given_bytes, hex_bytes, is_colon, most_line_payload, most_repeats, payload, payload_bytes, payload_size, repeated, repeats};
 
-use crate::hexadecimals::{hex_digit, is_hex_digit};
+use crate::hexadecimals::{are_hex_digits, hex_digit};
 use crate::numerals::numeral;
 use crate::word_cuts::begins_with;
 use egl_calls::{Bytes, Call, NoMemory, Payload};
@@ -35,17 +34,6 @@ impl<'a> Model for PayloadWord<'a> {
     ghost view = { λ p. option_map (λ d. repeated p.count (hex_bytes d.now)) p.digits };
 
     ghost invariant = { λ p. (p.count ≤ most_repeats) × IfSome p.digits (λ d. (are_byte_digits d.now ≡ true) × (length d.now < 2 ^ 64)) };
-}
-
-/// Whether each byte is a digit. No byte ends the loop, so it runs over vectors of bytes.
-fn are_hex_digits(text: &[u8]) -> bool
-    ensures { result ≡ list_all is_hex_digit text.now }
-{
-    let mut all = true;
-    for b in text {
-        all &= is_hex_digit(*b);
-    }
-    all
 }
 
 fn are_byte_digits(digits: &[u8]) -> bool

@@ -1,5 +1,5 @@
 use Rattle.std.proofs.Common.{◌≡◌, ℕ, ◌*◌, ◌/◌, ◌%◌, List, ◌++◌, length, take, ap, ◌∙◌}
-use Rattle.trace_reader.specs.Payloads.{hex_bytes, repeated}
+use Rattle.trace_reader.specs.Payloads.{repeated}
 use Rattle.trace_reader.proofs.PayloadLaws.{front_within, joined_blocks}
 use Rattle.trace_reader.proofs.payloads.repeated.Goals as goal
 
