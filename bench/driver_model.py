@@ -17,6 +17,10 @@ VERSIONS = {"[]": None, "[EGL_CONTEXT_CLIENT_VERSION,1,EGL_CONTEXT_MINOR_VERSION
 CLEARED = ["GL_COLOR_BUFFER_BIT", "GL_DEPTH_BUFFER_BIT", "GL_COLOR_BUFFER_BIT|GL_STENCIL_BUFFER_BIT"]
 # By a format and a type that go together: the bytes of a pixel.
 FORMS = {("GL_ALPHA", "GL_UNSIGNED_BYTE"): 1, ("GL_RGB", "GL_UNSIGNED_BYTE"): 3, ("GL_RGBA", "GL_UNSIGNED_BYTE"): 4, ("GL_LUMINANCE", "GL_UNSIGNED_BYTE"): 1, ("GL_LUMINANCE_ALPHA", "GL_UNSIGNED_BYTE"): 2, ("GL_RGB", "GL_UNSIGNED_SHORT_5_6_5"): 2, ("GL_RGBA", "GL_UNSIGNED_SHORT_4_4_4_4"): 2, ("GL_RGBA", "GL_UNSIGNED_SHORT_5_5_5_1"): 2}
+# By a format: which of red, green, blue and alpha its data has, in order; a luminance is all three colours.
+COMPONENTS = {"GL_ALPHA": ["a"], "GL_RGB": ["r", "g", "b"], "GL_RGBA": ["r", "g", "b", "a"], "GL_LUMINANCE": ["rgb"], "GL_LUMINANCE_ALPHA": ["rgb", "a"]}
+# By a type whose components share two bytes: their bits, the highest first.
+SHORTS = {"GL_UNSIGNED_SHORT_5_6_5": (5, 6, 5), "GL_UNSIGNED_SHORT_4_4_4_4": (4, 4, 4, 4), "GL_UNSIGNED_SHORT_5_5_5_1": (5, 5, 5, 1)}
 FORMATS = {form for form, _ in FORMS}
 TYPES = {kind for _, kind in FORMS}
 LEVELS = 11
@@ -61,6 +65,64 @@ def stored(colour, config):
     return bytes(read)
 
 
+def widened(number, bits):
+    """A component of so many bits at 8 bits, to the nearest, halves upward."""
+    most = (1 << bits) - 1
+    return (2 * number * 255 + most) // (2 * most)
+
+
+def narrowed(number, bits):
+    """A component of 8 bits as one of so many keeps it, at 8 bits again."""
+    most = (1 << bits) - 1
+    return widened((2 * number * most + 255) // 510, bits)
+
+
+def of_components(form, values):
+    """A pixel of 8 bits a component: what a format hasn't is 0, and alpha 255."""
+    pixel = {"r": 0, "g": 0, "b": 0, "a": 255}
+    for name, value in zip(COMPONENTS[form], values):
+        pixel |= dict.fromkeys(name, value)
+    return bytes(pixel[name] for name in "rgba")
+
+
+def unpacked(data, form, kind):
+    """A pixel of data at 8 bits a component."""
+    if kind not in SHORTS:
+        return of_components(form, data)
+    number, values = int.from_bytes(data, "little"), []
+    for bits in reversed(SHORTS[kind]):
+        values.insert(0, widened(number & (1 << bits) - 1, bits))
+        number >>= bits
+    return of_components(form, values)
+
+
+def kept(pixel, form, kind):
+    """A pixel of 8 bits a component as a storage of this form keeps it, at 8 bits again; a luminance is red."""
+    values = [pixel["rgba".index(name[0])] for name in COMPONENTS[form]]
+    if kind in SHORTS:
+        values = [narrowed(value, bits) for value, bits in zip(values, SHORTS[kind])]
+    return of_components(form, values)
+
+
+def spelled_out(payload, wanted):
+    """The bytes of a payload, and zeros past its end."""
+    data = b""
+    if payload.startswith("#"):
+        data = bytes.fromhex(payload[1:])
+    elif payload.startswith("*"):
+        count, repeated = payload[1:].split(":")
+        data = bytes.fromhex(repeated) * int(count)
+    return data[:wanted] + bytes(max(wanted - len(data), 0))
+
+
+def transferred(payload, width, height, form, kind, alignment):
+    """The pixels of a payload, row by row; each row is aligned."""
+    size = FORMS[form, kind]
+    row = -(-size * width // alignment) * alignment
+    data = spelled_out(payload, row * height)
+    return [unpacked(data[y * row + size * x:][:size], form, kind) for y in range(height) for x in range(width)]
+
+
 def packed(pixel):
     """A pixel of 8 bits a component in two bytes of 5, 6 and 5 bits, the lower byte first."""
     red, green, blue = ((2 * c * most + 255) // 510 for c, most in zip(pixel, (31, 63, 31)))
@@ -76,6 +138,40 @@ def is_outside(first, size, side):
     return first < 0 or size < 0 or first + size > side
 
 
+def is_covered(first, size, place):
+    """Whether a draw in fixed point covers the centre of a column or a row."""
+    return 2 * first <= (2 * place + 1) * ONE < 2 * (first + size)
+
+
+def along(place, first, size, crop, extent, side, base, wrap):
+    """The column, or the row, of the texel that the pixel in a column or row shows."""
+    k = (2 * size * crop + ((2 * place + 1) * ONE - 2 * first) * extent) * side // (2 * size * base)
+    return k % side if wrap == "GL_REPEAT" else min(max(k, 0), side - 1)
+
+
+def texel(texture, level, corner, sides, x, y):
+    """The texel of a level that a pixel of a draw shows."""
+    base, (u, v, wide, high) = texture.levels[0], texture.crop
+    column = along(x, corner[0], sides[0], u, wide, level.width, base.width, texture.values["GL_TEXTURE_WRAP_S"])
+    row = along(y, corner[1], sides[1], v, high, level.height, base.height, texture.values["GL_TEXTURE_WRAP_T"])
+    return level.pixels[row * level.width + column]
+
+
+def product(a, b):
+    return (2 * a * b + 255) // 510
+
+
+def combined(context, level, shown):
+    """What the texture environment makes of the colour of a context and a texel."""
+    colour, replaces = context.fragment(), context.environment == "GL_REPLACE"
+    joined = [t if replaces else product(f, t) for f, t in zip(colour, shown)]
+    if level.base == "GL_ALPHA":
+        joined[:3] = colour[:3]
+    if level.base in ("GL_RGB", "GL_LUMINANCE"):
+        joined[3] = colour[3]
+    return joined
+
+
 @dataclass(eq=False)
 class Window:
     id: int
@@ -86,12 +182,13 @@ class Window:
 
 @dataclass(eq=False)
 class Storage:
-    """Pixels. What those of textures are isn't kept, since nothing shows them."""
+    """Pixels of 8 bits a component, row by row from below; those of a texture have a format and a type."""
 
     width: int
     height: int
     pixel_bytes: int
     base: str = None
+    kind: str = None
     pixels: list = field(default_factory=list)
 
     def bytes(self):
@@ -115,6 +212,11 @@ class Surface:
         written, width = stored(colour, self.config), self.storage.width
         self.storage.pixels = [bytes(new if on else old for new, old, on in zip(written, pixel, mask)) if covers(k % width, k // width) else pixel for k, pixel in enumerate(self.storage.pixels)]
 
+    def write(self, k, pixel, mask):
+        """Writes the components of a pixel that a mask has, as the config keeps them."""
+        bits, former = CONFIGS[self.config][0], self.storage.pixels[k]
+        self.storage.pixels[k] = bytes((narrowed(new, b) if b else 255 * (place == 3)) if on else old for place, (new, old, on, b) in enumerate(zip(pixel, former, mask, bits)))
+
     def pixel(self, x, y):
         """A pixel of 8 bits a component; zeros outside."""
         storage = self.storage
@@ -123,7 +225,30 @@ class Surface:
 
 @dataclass(eq=False)
 class Texture:
+    crop: list = field(default_factory=lambda: [0] * 4)
+    values: dict = field(default_factory=lambda: {"GL_TEXTURE_MIN_FILTER": "GL_NEAREST_MIPMAP_LINEAR", "GL_TEXTURE_MAG_FILTER": "GL_LINEAR", "GL_TEXTURE_WRAP_S": "GL_REPEAT", "GL_TEXTURE_WRAP_T": "GL_REPEAT"})
     levels: list = field(default_factory=lambda: [None] * LEVELS)
+
+
+    def is_complete(self):
+        """Whether level 0 has pixels, and where the filter uses mipmaps each further one those of half the sides."""
+        base = self.levels[0]
+        if not base or self.values["GL_TEXTURE_MIN_FILTER"] not in MIPMAP_FILTERS:
+            return bool(base)
+        for level in range(1, max(base.width, base.height).bit_length()):
+            below = self.levels[level]
+            if not below or (below.width, below.height, below.base, below.kind) != (max(base.width >> level, 1), max(base.height >> level, 1), base.base, base.kind):
+                return False
+        return True
+
+    def sampled(self, width, height):
+        """The level that a draw of these sides samples, in fixed point: one for all four mipmap filters."""
+        base = self.levels[0]
+        if self.values["GL_TEXTURE_MIN_FILTER"] not in MIPMAP_FILTERS:
+            return base
+        last = max(base.width, base.height).bit_length() - 1
+        enough = [level for level in range(1, last + 1) if width << level <= abs(self.crop[2]) * ONE or height << level <= abs(self.crop[3]) * ONE]
+        return self.levels[max(enough, default=0)]
 
 
 @dataclass(eq=False)
@@ -149,6 +274,12 @@ class Context:
     boxes: dict = field(default_factory=dict)
     mask: list = field(default_factory=lambda: [True] * 4)
     on: set = field(default_factory=set)
+    color: tuple = (ONE,) * 4
+    environment: str = "GL_MODULATE"
+
+    def fragment(self):
+        """The colour of draws at 8 bits a component."""
+        return [(number * 255 + ONE // 2) // ONE for number in self.color]
 
     def covers(self, x, y):
         """Whether the scissor test lets a pixel through."""
@@ -298,7 +429,7 @@ class EglCalls(Objects):
         surface = self.of(display, number, Surface)
         refuse((not surface or not self.current or self.current[1][0] is not surface, "EGL_BAD_SURFACE"))
         if surface.window:
-            surface.window.front = surface.storage.pixels
+            surface.window.front = list(surface.storage.pixels)
             if surface.behavior != BEHAVIORS[0]:
                 surface.blank()
         return 1
@@ -365,6 +496,7 @@ class GlCalls(Objects):
         return 0
 
     def glColor4x(self, context, *colour):
+        context.color = tuple(clamped(number) for number in colour)
         return 0
 
     def glClearDepthx(self, context, depth):
@@ -375,6 +507,7 @@ class GlCalls(Objects):
 
     def glTexEnvx(self, context, target, which, value):
         refuse(((target, which) != ("GL_TEXTURE_ENV", "GL_TEXTURE_ENV_MODE") or value not in ENVIRONMENTS, ENUM))
+        context.environment = value
         return 0
 
     def glClear(self, context, mask):
@@ -440,16 +573,19 @@ class TextureCalls(Objects):
 
     def glTexParameterx(self, context, target, which, value):
         refuse((target != "GL_TEXTURE_2D", ENUM), (value not in PARAMETERS.get(which, []), ENUM))
+        context.target().values[which] = value
         return 0
 
     def glTexParameteriv(self, context, target, which, numbers):
         refuse((target != "GL_TEXTURE_2D", ENUM), (which != "GL_TEXTURE_CROP_RECT_OES", ENUM), (len(numbers) != 4, VALUE))
+        context.target().crop = list(numbers)
         return 0
 
     def glTexImage2D(self, context, target, level, internal, width, height, border, form, kind, payload):
         refuse((target != "GL_TEXTURE_2D", ENUM), (form not in FORMATS or kind not in TYPES, ENUM), (internal not in FORMATS, VALUE), (not 0 <= level < LEVELS, VALUE), (is_no_side(width, level) or is_no_side(height, level), VALUE), (border != 0, VALUE), (internal != form, OPERATION), ((form, kind) not in FORMS, OPERATION))
-        storage = Storage(width, height, FORMS[form, kind], form)
+        storage = Storage(width, height, FORMS[form, kind], form, kind)
         refuse((self.wants(storage), MEMORY))
+        storage.pixels = transferred(payload, width, height, form, kind, context.unpack)
         context.target().levels[level] = storage if width and height else None
         return 0
 
@@ -458,6 +594,58 @@ class TextureCalls(Objects):
         storage = context.target().levels[level]
         refuse((not storage, OPERATION))
         refuse((is_outside(left, width, storage.width) or is_outside(bottom, height, storage.height), VALUE), (form != storage.base, OPERATION), ((form, kind) not in FORMS, OPERATION))
+        given = iter(transferred(payload, width, height, form, kind, context.unpack))
+        for y in range(bottom, bottom + height):
+            for x in range(left, left + width):
+                storage.pixels[y * storage.width + x] = kept(next(given), storage.base, storage.kind)
+        return 0
+
+    def has_alpha(self):
+        """Whether the read surface has alpha."""
+        return CONFIGS[self.current[2][0].config][0][3] > 0
+
+    def copied(self, left, bottom, width, height, base, kind):
+        """The pixels of a rectangle of the read surface as a storage of this form keeps them, row by row; zeros outside."""
+        surface = self.current[2][0]
+        return [kept(surface.pixel(x, y), base, kind) for y in range(bottom, bottom + height) for x in range(left, left + width)]
+
+    def glCopyTexImage2D(self, context, target, level, internal, left, bottom, width, height, border):
+        refuse((target != "GL_TEXTURE_2D", ENUM), (internal not in FORMATS, VALUE), (not 0 <= level < LEVELS, VALUE), (is_no_side(width, level) or is_no_side(height, level), VALUE), (border != 0, VALUE), ("a" in COMPONENTS[internal] and not self.has_alpha() if internal in FORMATS else False, OPERATION))
+        storage = Storage(width, height, FORMS[internal, "GL_UNSIGNED_BYTE"], internal, "GL_UNSIGNED_BYTE")
+        refuse((self.wants(storage), MEMORY))
+        storage.pixels = self.copied(left, bottom, width, height, internal, "GL_UNSIGNED_BYTE")
+        context.target().levels[level] = storage if width and height else None
+        return 0
+
+    def glCopyTexSubImage2D(self, context, target, level, left, bottom, from_left, from_bottom, width, height):
+        refuse((target != "GL_TEXTURE_2D", ENUM), (not 0 <= level < LEVELS, VALUE))
+        storage = context.target().levels[level]
+        refuse((not storage, OPERATION))
+        refuse((is_outside(left, width, storage.width) or is_outside(bottom, height, storage.height), VALUE), ("a" in COMPONENTS[storage.base] and not self.has_alpha(), OPERATION))
+        copied = iter(self.copied(from_left, from_bottom, width, height, storage.base, storage.kind))
+        for y in range(bottom, bottom + height):
+            for x in range(left, left + width):
+                storage.pixels[y * storage.width + x] = next(copied)
+        return 0
+
+    def glDrawTexiOES(self, context, left, bottom, depth, width, height):
+        return self.draw(context, *(ONE * number for number in (left, bottom, width, height)))
+
+    def glDrawTexxOES(self, context, left, bottom, depth, width, height):
+        return self.draw(context, left, bottom, width, height)
+
+    def draw(self, context, left, bottom, width, height):
+        """Draws a rectangle in fixed point: each pixel whose centre it covers shows the colour, or what the environment makes of that and a texel from before the draw."""
+        refuse((width < 1 or height < 1, VALUE))
+        surface, texture = self.current[1][0], context.target()
+        level = texture.sampled(width, height) if "GL_TEXTURE_2D" in context.on and texture.is_complete() else None
+        drawn = {}
+        for k in range(surface.storage.width * surface.storage.height):
+            y, x = divmod(k, surface.storage.width)
+            if is_covered(left, width, x) and is_covered(bottom, height, y) and context.covers(x, y):
+                drawn[k] = combined(context, level, texel(texture, level, (left, bottom), (width, height), x, y)) if level else context.fragment()
+        for k, fragment in drawn.items():
+            surface.write(k, fragment, context.mask)
         return 0
 
 

@@ -8,7 +8,7 @@ use Rattle.egl_calls.specs.Calls.{CallValue}
 use Rattle.egl_calls.specs.declared.kinds.Kind.{Kind}
 use Rattle.egl_calls.specs.declared.kinds.Kind.TheVariants.{Gl}
 use Rattle.egl_calls.specs.declared.kinds.GlKind.{GlKind}
-use Rattle.egl_calls.specs.declared.kinds.GlKind.TheVariants.{Clear, ReadPixels, TexImage2d, TexSubImage2d}
+use Rattle.egl_calls.specs.declared.kinds.GlKind.TheVariants.{Clear, ReadPixels, TexImage2d, TexSubImage2d, CopyTexImage2d, CopyTexSubImage2d}
 use Rattle.egl_calls.specs.declared.errors.GlError.{GlError}
 use Rattle.egl_calls.specs.declared.errors.GlError.TheVariants.{OutOfMemory}
 use Rattle.egl_calls.specs.Ranges.{unsigned}
@@ -19,7 +19,8 @@ use Rattle.egl_calls.specs.Arguments.{number, signed}
 use Rattle.pixel_rows.specs.Rects.{IsInSide}
 use Rattle.call_rules.specs.GlRules.{buffer_bits, is_no_side, is_read_format, is_read_type, is_read_pair, read_format, read_type, gl_rows, gl_refusal_by, gl_refusal}
 use Rattle.call_rules.specs.TextureRules.{asked_image_rows, is_no_level_side, is_no_part, memory_row}
-use Rattle.call_rules.specs.GlAllowed.{ClearAllowed, ImageAllowed, ImageAsked, IsSide, PartAllowed, ReadAllowed}
+use Rattle.call_rules.specs.CopyRules.{asked_copy_rows}
+use Rattle.call_rules.specs.GlAllowed.{ClearAllowed, CopyAllowed, CopyAsked, CopyPartAllowed, ImageAllowed, ImageAsked, IsSide, PartAllowed, ReadAllowed}
 use Rattle.refusal_rows.proofs.RowLaws.{all_off, first_is, first_of, from_others, none_on, past_off}
 use Rattle.call_rules.proofs.TestLaws.{not_below, is_not_below, within, past, is_past}
 
@@ -150,6 +151,41 @@ part_allowed c f h n =
       stored = not-false _ a.1.1.1.0;
       inside = record { columns = part_inside f.stored_width (signed c 2) (signed c 4) sides.0; rows = part_inside f.stored_height (signed c 3) (signed c 5) sides.1 };
       form = not-false _ a.1.1.1.1.1.1.0;
+    }
+
+-- ---- Pixels that are copied.
+pub copy_allowed : (c : CallValue) (f : GlFacts) → c.kind ≡ Gl CopyTexImage2d → gl_refusal c f ≡ None → CopyAllowed c f
+copy_allowed c f h n =
+    let a = rows_off c f CopyTexImage2d h n in
+    let sides = or_parts (is_no_level_side (number c 1) (signed c 5)) (is_no_level_side (number c 1) (signed c 6)) a.1.1.1.0 in
+    record {
+      level = a.1.1.0;
+      width = sides.0;
+      height = sides.1;
+      complete = not-false _ a.1.1.1.1.1.0;
+      room = within f.video_limit (f.live_bytes + f.new_bytes) a.1.1.1.1.1.1.1.0;
+    }
+
+pub copy_wants : (c : CallValue) (f : GlFacts) → c.kind ≡ Gl CopyTexImage2d → gl_refusal c f ≡ Some OutOfMemory → CopyAsked c f × (f.video_limit < f.live_bytes + f.new_bytes)
+copy_wants c f h n =
+    let o = from_others is_out_of_memory OutOfMemory (asked_copy_rows c f) (memory_row f ∷ []) refl (refl, (refl, (refl, (refl, (refl, (refl, (refl, tt))))))) (sym (of_kind c f CopyTexImage2d h) ∙ n) in
+    (o.0, past f.video_limit (f.live_bytes + f.new_bytes) (last (nat_lt f.video_limit (f.live_bytes + f.new_bytes)) OutOfMemory o.1))
+
+pub wanting_copy : (c : CallValue) (f : GlFacts) → c.kind ≡ Gl CopyTexImage2d → CopyAsked c f × (f.video_limit < f.live_bytes + f.new_bytes) → gl_refusal c f ≡ Some OutOfMemory
+wanting_copy c f h w =
+    of_kind c f CopyTexImage2d h ∙ past_off (asked_copy_rows c f) (memory_row f ∷ []) w.0
+    ∙ ap (λ b. first_error ((b ⇒ OutOfMemory) ∷ [])) (is_past f.video_limit (f.live_bytes + f.new_bytes) w.1)
+
+pub copy_part_allowed : (c : CallValue) (f : GlFacts) → c.kind ≡ Gl CopyTexSubImage2d → gl_refusal c f ≡ None → CopyPartAllowed c f
+copy_part_allowed c f h n =
+    let a = rows_off c f CopyTexSubImage2d h n in
+    let sides = or_parts (is_no_part f.stored_width (signed c 2) (signed c 6)) (is_no_part f.stored_height (signed c 3) (signed c 7)) a.1.1.1.0 in
+    record {
+      level = a.1.0;
+      stored = not-false _ a.1.1.0;
+      columns = part_inside f.stored_width (signed c 2) (signed c 6) sides.0;
+      rows = part_inside f.stored_height (signed c 3) (signed c 7) sides.1;
+      complete = not-false _ a.1.1.1.1.0;
     }
 
 -- ---- Any call, by its rows.

@@ -3,13 +3,14 @@ use Rattle.std.specs.Prelude.{◌≡◌, ◌+◌, ◌≤◌, ℤ, pos, ◌≤ℤ
 use Rattle.egl_calls.specs.Calls.{CallValue}
 use Rattle.egl_calls.specs.Ranges.{unsigned}
 use Rattle.egl_names.specs.declared.codes.TheConstants.{GL_RGB, GL_RGBA, GL_UNSIGNED_BYTE, GL_UNSIGNED_SHORT_5_6_5}
-use Rattle.egl_calls.specs.declared.places.TheConstants.{HEIGHT, IMAGE_HEIGHT, IMAGE_WIDTH, LEVEL, MASK, WIDTH}
-use Rattle.pixel_rows.specs.Rects.{IsInside}
+use Rattle.egl_calls.specs.declared.places.TheConstants.{COPIED_HEIGHT, COPIED_PART_HEIGHT, COPIED_PART_WIDTH, COPIED_WIDTH, HEIGHT, IMAGE_HEIGHT, IMAGE_WIDTH, LEVEL, MASK, WIDTH, X_OFFSET, Y_OFFSET}
+use Rattle.pixel_rows.specs.Rects.{IsInSide, IsInside}
 use Rattle.texture_objects.specs.Uploads.{given_form, part_rect}
 use Rattle.call_rules.specs.declared.gl_facts.GlFacts.{GlFacts}
 use Rattle.egl_calls.specs.Arguments.{number, signed}
 use Rattle.call_rules.specs.GlRules.{buffer_bits, read_format, read_type}
 use Rattle.refusal_rows.specs.Rows.{AllOff}
+use Rattle.call_rules.specs.CopyRules.{asked_copy_rows}
 use Rattle.call_rules.specs.TextureRules.{asked_image_rows, is_no_level, is_no_level_side}
 
 -- glClear (OpenGL ES 1.1, section 4.2.3): the mask adds no bit to those of the buffers
@@ -54,3 +55,23 @@ pub record PartAllowed (c : CallValue) (f : GlFacts) : Type 0 where
   pub stored : f.is_stored ≡ true
   pub inside : IsInside (part_rect c) f.stored_width f.stored_height
   pub form : IsSome (given_form c)
+
+-- glCopyTexImage2D (section 3.7.2): nothing is wrong but, it may be, the bytes of the new pixels
+abbrev pub CopyAsked : CallValue → GlFacts → Type 0
+CopyAsked c f = AllOff (asked_copy_rows c f)
+
+-- a level and sides that it may have, and bytes for the pixels
+pub record CopyAllowed (c : CallValue) (f : GlFacts) : Type 0 where
+  pub level : is_no_level (signed c LEVEL) ≡ false
+  pub width : is_no_level_side (number c LEVEL) (signed c COPIED_WIDTH) ≡ false
+  pub height : is_no_level_side (number c LEVEL) (signed c COPIED_HEIGHT) ≡ false
+  pub complete : f.is_framebuffer_complete ≡ true
+  pub room : f.live_bytes + f.new_bytes ≤ f.video_limit
+
+-- glCopyTexSubImage2D (section 3.7.2): a level and a part of its storage
+pub record CopyPartAllowed (c : CallValue) (f : GlFacts) : Type 0 where
+  pub level : is_no_level (signed c LEVEL) ≡ false
+  pub stored : f.is_stored ≡ true
+  pub columns : IsInSide (signed c X_OFFSET) (signed c COPIED_PART_WIDTH) f.stored_width
+  pub rows : IsInSide (signed c Y_OFFSET) (signed c COPIED_PART_HEIGHT) f.stored_height
+  pub complete : f.is_framebuffer_complete ≡ true

@@ -6,15 +6,17 @@ use Rattle.egl_calls.specs.Calls.{CallValue}
 use Rattle.egl_calls.specs.declared.kinds.Kind.{Kind}
 use Rattle.egl_calls.specs.declared.kinds.Kind.TheVariants.{Gl}
 use Rattle.egl_calls.specs.declared.kinds.GlKind.{GlKind}
-use Rattle.egl_calls.specs.declared.kinds.GlKind.TheVariants.{Flush, Finish, Clear, ReadPixels, GenTextures, DeleteTextures, IsTexture, BindTexture, TexParameterx, TexParameteriv, TexImage2d, TexSubImage2d}
+use Rattle.egl_calls.specs.declared.kinds.GlKind.TheVariants.{Flush, Finish, Clear, ReadPixels, DrawTexi, DrawTexx, GenTextures, DeleteTextures, IsTexture, BindTexture, TexParameterx, TexParameteriv, TexImage2d, TexSubImage2d, CopyTexImage2d, CopyTexSubImage2d}
 use Rattle.egl_calls.specs.declared.errors.GlError.{GlError}
-use Rattle.egl_calls.specs.declared.errors.GlError.TheVariants.{InvalidEnum, InvalidValue, InvalidOperation, InvalidFramebufferOperation}
+use Rattle.egl_calls.specs.declared.errors.GlError.TheVariants.{InvalidEnum, InvalidValue, InvalidOperation}
 use Rattle.egl_calls.specs.Ranges.{unsigned}
 use Rattle.egl_names.specs.declared.codes.TheConstants.{GL_RGB, GL_RGBA, GL_UNSIGNED_BYTE, GL_UNSIGNED_SHORT_5_6_5, GL_COLOR_BUFFER_BIT, GL_DEPTH_BUFFER_BIT, GL_STENCIL_BUFFER_BIT}
-use Rattle.egl_calls.specs.declared.places.TheConstants.{FORMAT, HEIGHT, MASK, TYPE, WIDTH}
+use Rattle.egl_calls.specs.declared.places.TheConstants.{DRAWN_HEIGHT, DRAWN_WIDTH, FORMAT, HEIGHT, MASK, TYPE, WIDTH}
 use Rattle.call_rules.specs.declared.gl_facts.GlFacts.{GlFacts}
 use Rattle.refusal_rows.specs.Rows.{Row, ◌⇒◌, first_error}
 use Rattle.call_rules.specs.Unbuilt.{unbuilt}
+use Rattle.call_rules.specs.FramebufferRules.{framebuffer_row}
+use Rattle.call_rules.specs.CopyRules.{copy_part_rows, copy_rows}
 use Rattle.call_rules.specs.TextureRules.{count_row, crop_length_row, crop_row, image_rows, name_row, parameter_row, part_rows, texture_row}
 use Rattle.context_state.specs.Kinds.{context_gl_call}
 use Rattle.context_state.specs.Refusals.{context_rows}
@@ -28,6 +30,7 @@ no_gl_facts = record {
   new_bytes = 0;
   video_limit = 0;
   is_framebuffer_complete = false;
+  has_read_alpha = false;
   is_stored = false;
   stored_width = 0;
   stored_height = 0;
@@ -67,9 +70,16 @@ read_format c = unsigned (signed c FORMAT)
 abbrev pub read_type : CallValue → ℕ
 read_type c = unsigned (signed c TYPE)
 
--- OES_framebuffer_object: no framebuffer that isn't complete is written or read
-abbrev pub framebuffer_row : GlFacts → Row GlError
-framebuffer_row f = not f.is_framebuffer_complete ⇒ InvalidFramebufferOperation
+-- a draw has a width and a height (OES_draw_texture)
+abbrev pub draws_nothing : CallValue → Bool
+draws_nothing c = int_lt (signed c DRAWN_WIDTH) (pos 1) || int_lt (signed c DRAWN_HEIGHT) (pos 1)
+
+-- the rows of the calls that draw a texture
+abbrev pub draw_rows : CallValue → GlFacts → List (Row GlError)
+draw_rows c f =
+    (draws_nothing c ⇒ InvalidValue) ∷
+    framebuffer_row f ∷
+    []
 
 -- the rows of each call that asks or changes more than its context's own state, in the order of the tests
 abbrev pub object_rows : GlKind → CallValue → GlFacts → List (Row GlError)
@@ -88,6 +98,9 @@ object_rows ReadPixels c f =
     (not (is_read_pair (read_format c) (read_type c)) ⇒ InvalidOperation) ∷
     framebuffer_row f ∷
     []
+-- OES_draw_texture
+object_rows DrawTexi c f = draw_rows c f
+object_rows DrawTexx c f = draw_rows c f
 -- section 3.7.11
 object_rows GenTextures c f =
     count_row c ∷
@@ -112,6 +125,8 @@ object_rows TexParameteriv c f =
 -- sections 3.7.1 and 3.7.2
 object_rows TexImage2d c f = image_rows c f
 object_rows TexSubImage2d c f = part_rows c f
+object_rows CopyTexImage2d c f = copy_rows c f
+object_rows CopyTexSubImage2d c f = copy_part_rows c f
 -- a call that isn't built
 object_rows k c f = unbuilt InvalidOperation
 

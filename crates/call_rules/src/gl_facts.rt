@@ -13,7 +13,9 @@ pub struct GlFacts {
     pub video_limit: u64,
     /// The framebuffer that is drawn to and read from is complete (OES_framebuffer_object).
     pub is_framebuffer_complete: bool,
-    /// glTexSubImage2D: the level has storage.
+    /// The pixels that are read have alpha.
+    pub has_read_alpha: bool,
+    /// glTexSubImage2D and glCopyTexSubImage2D: the level has storage.
     pub is_stored: bool,
     /// The width of that storage, in pixels.
     pub stored_width: u64,
@@ -33,6 +35,7 @@ impl GlFacts {
             new_bytes: 0,
             video_limit: 0,
             is_framebuffer_complete: false,
+            has_read_alpha: false,
             is_stored: false,
             stored_width: 0,
             stored_height: 0,

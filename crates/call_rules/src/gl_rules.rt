@@ -3,15 +3,18 @@ ghost use Rattle.call_rules.specs.Kinds.{is_built, is_object_call};
 ghost use Rattle.std.specs.Prelude.{◌≡◌, true};
 ghost use Rattle.egl_calls.specs.declared.kinds.GlKind.TheVariants.{ReadPixels};
 ghost use Rattle.refusal_rows.specs.Rows.{first_error};
-ghost use Rattle.call_rules.specs.GlRules.{gl_refusal, object_rows, framebuffer_row, is_clear_mask, is_no_side, is_read_format, is_read_type, is_read_pair};
+ghost use Rattle.call_rules.specs.GlRules.{gl_refusal, object_rows, draw_rows, draws_nothing, is_clear_mask, is_no_side, is_read_format, is_read_type, is_read_pair};
 
+use crate::copy_rules::{copy_tex_image, copy_tex_sub_image};
+use crate::framebuffer_rules::incomplete;
 use crate::gl_facts::GlFacts;
 use crate::texture_rules::{
     tex_image, tex_parameteriv, tex_sub_image, wrong_count, wrong_name, wrong_parameter,
     wrong_target,
 };
 use context_state::context_gl_call;
-use egl_calls::places::MASK;
+use egl_calls::arguments::signed;
+use egl_calls::places::{DRAWN_HEIGHT, DRAWN_WIDTH, MASK};
 use egl_calls::{Call, GlError, GlKind, Kind, unsigned};
 use egl_names::codes::{
     GL_COLOR_BUFFER_BIT, GL_DEPTH_BUFFER_BIT, GL_RGB, GL_RGBA, GL_STENCIL_BUFFER_BIT,
@@ -52,13 +55,20 @@ fn is_read_pair(format: u64, kind: u64) -> bool
         || format == GL_RGB && kind == GL_UNSIGNED_SHORT_5_6_5
 }
 
-fn incomplete(facts: &GlFacts) -> (bool, GlError)
-    ensures { result ≡ framebuffer_row facts.now }
+fn draws_nothing(call: &Call) -> bool
+    ensures { result ≡ draws_nothing call.now }
 {
-    (
-        !facts.is_framebuffer_complete,
-        GlError::InvalidFramebufferOperation,
-    )
+    signed(call, DRAWN_WIDTH) < 1 || signed(call, DRAWN_HEIGHT) < 1
+}
+
+/// OES_draw_texture.
+fn draw(call: &Call, facts: &GlFacts) -> Option<GlError>
+    ensures { result ≡ first_error (draw_rows call.now facts.now) }
+{
+    first_error(&[
+        (draws_nothing(call), GlError::InvalidValue),
+        incomplete(facts),
+    ])
 }
 
 /// OpenGL ES 1.1, section 4.3.1.
@@ -93,6 +103,7 @@ fn object_refusal(kind: GlKind, call: &Call, facts: &GlFacts) -> Option<GlError>
             incomplete(facts),
         ]),
         GlKind::ReadPixels => read_pixels(call, facts),
+        GlKind::DrawTexi | GlKind::DrawTexx => draw(call, facts),
         GlKind::GenTextures => first_error(&[wrong_count(call)]),
         GlKind::DeleteTextures => None,
         GlKind::IsTexture => None,
@@ -101,6 +112,8 @@ fn object_refusal(kind: GlKind, call: &Call, facts: &GlFacts) -> Option<GlError>
         GlKind::TexParameteriv => tex_parameteriv(call, facts),
         GlKind::TexImage2d => tex_image(call, facts),
         GlKind::TexSubImage2d => tex_sub_image(call, facts),
+        GlKind::CopyTexImage2d => copy_tex_image(call, facts),
+        GlKind::CopyTexSubImage2d => copy_tex_sub_image(call, facts),
         _ => unreachable!(),
     }
 }

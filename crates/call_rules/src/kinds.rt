@@ -14,6 +14,8 @@ fn is_object_call(kind: GlKind) -> bool
         | GlKind::Finish
         | GlKind::Clear
         | GlKind::ReadPixels
+        | GlKind::DrawTexi
+        | GlKind::DrawTexx
         | GlKind::GenTextures
         | GlKind::DeleteTextures
         | GlKind::IsTexture
@@ -21,7 +23,9 @@ fn is_object_call(kind: GlKind) -> bool
         | GlKind::TexParameterx
         | GlKind::TexParameteriv
         | GlKind::TexImage2d
-        | GlKind::TexSubImage2d => true,
+        | GlKind::TexSubImage2d
+        | GlKind::CopyTexImage2d
+        | GlKind::CopyTexSubImage2d => true,
         _ => false,
     }
 }

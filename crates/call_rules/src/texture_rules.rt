@@ -128,7 +128,7 @@ fn is_no_level(level: i64) -> bool
     level < 0 || level > 10
 }
 
-fn wrong_level(call: &Call) -> (bool, GlError)
+pub(crate) fn wrong_level(call: &Call) -> (bool, GlError)
     ensures { result ≡ level_row call.now }
 {
     (is_no_level(signed(call, LEVEL)), GlError::InvalidValue)
@@ -136,7 +136,7 @@ fn wrong_level(call: &Call) -> (bool, GlError)
 
 // A whole level.
 
-fn wrong_internal(call: &Call) -> (bool, GlError)
+pub(crate) fn wrong_internal(call: &Call) -> (bool, GlError)
     ensures { result ≡ internal_row call.now }
 {
     let is_format = is_image_format(number(call, INTERNAL_FORMAT));
@@ -170,7 +170,7 @@ fn is_power(n: u64) -> bool
         || n == 1_024
 }
 
-fn is_no_level_side(level: u64, side: i64) -> bool
+pub(crate) fn is_no_level_side(level: u64, side: i64) -> bool
     ensures { result ≡ is_no_level_side level side }
 {
     side < 0 || unsigned(side) > longest_side(level) || !is_power(unsigned(side))
@@ -200,7 +200,7 @@ fn other_format(call: &Call) -> (bool, GlError)
     (!is_same, GlError::InvalidOperation)
 }
 
-fn too_many_bytes(facts: &GlFacts) -> (bool, GlError)
+pub(crate) fn too_many_bytes(facts: &GlFacts) -> (bool, GlError)
     ensures { result ≡ memory_row facts.now }
 {
     (
@@ -228,13 +228,13 @@ pub(crate) fn tex_image(call: &Call, facts: &GlFacts) -> Option<GlError>
 
 // A part of a level.
 
-fn no_storage(facts: &GlFacts) -> (bool, GlError)
+pub(crate) fn no_storage(facts: &GlFacts) -> (bool, GlError)
     ensures { result ≡ storage_row facts.now }
 {
     (!facts.is_stored, GlError::InvalidOperation)
 }
 
-fn is_no_part(side: u64, first: i64, size: i64) -> bool
+pub(crate) fn is_no_part(side: u64, first: i64, size: i64) -> bool
     ensures { result ≡ is_no_part side first size }
 {
     first < 0 || size < 0 || exceeds(side, unsigned(first), unsigned(size))

@@ -47,7 +47,7 @@ first_false : (a b : Bool) → (a || b) ≡ false → a ≡ false
 first_false true b h = h
 first_false false b h = refl
 
-second_false : (a b : Bool) → (a || b) ≡ false → b ≡ false
+pub second_false : (a b : Bool) → (a || b) ≡ false → b ≡ false
 second_false true b h = absurd (cc)
 second_false false b h = h
 
@@ -55,13 +55,13 @@ high_side : (z : ℤ) → unsigned z ≤ 1024 → z ≤ℤ pos 1024
 high_side (pos n) h = omega (arith, ints, h)
 high_side (negsuc n) h = omega (arith, ints)
 
-side : (level : ℕ) (z : ℤ) → is_no_level_side level z ≡ false → IsSide z
+pub side : (level : ℕ) (z : ℤ) → is_no_level_side level z ≡ false → IsSide z
 side level z h = record { low = not_negative z (first_false _ _ (first_false _ _ h)); high = high_side z (side_few level z h) }
 
 pub image_call : (c : CallValue) (f : GlFacts) → c.kind ≡ Gl TexImage2d → ImageAllowed c f → IsImageCall c
 image_call c f h a = record { kind = h; form = a.form; width = side _ (signed c 3) a.width; height = side _ (signed c 4) a.height }
 
-level_few : (z : ℤ) → int_lt (pos 10) z ≡ false → unsigned z < 11
+pub level_few : (z : ℤ) → int_lt (pos 10) z ≡ false → unsigned z < 11
 level_few (pos n) h = let e = ltb-false 10 n h in omega (arith, e)
 level_few (negsuc n) h = omega arith
 

@@ -232,6 +232,10 @@ impl Driver {
                 self.clear(thread, context, call)?;
                 Ok(valued(alloc, 0))
             }
+            GlKind::DrawTexi | GlKind::DrawTexx => {
+                self.draw(thread, context, kind, call)?;
+                Ok(valued(alloc, 0))
+            }
             GlKind::ReadPixels => read(alloc, self.read_pixels(alloc, thread, context, call)?),
             GlKind::GenTextures => self.generate(alloc, context, NameKind::Texture, call),
             GlKind::IsTexture => {
@@ -248,6 +252,10 @@ impl Driver {
             }
             GlKind::TexSubImage2d => {
                 self.rewrite_part(alloc, thread, context, call)?;
+                Ok(valued(alloc, 0))
+            }
+            GlKind::CopyTexSubImage2d => {
+                self.copy_part(thread, context, call)?;
                 Ok(valued(alloc, 0))
             }
             _ => unreachable!(),
@@ -315,6 +323,10 @@ impl Driver {
             }
             GlKind::TexImage2d => {
                 self.set_level(alloc, thread, context, call, steps)?;
+                Ok(valued(alloc, 0))
+            }
+            GlKind::CopyTexImage2d => {
+                self.copy_level(alloc, thread, context, call, steps)?;
                 Ok(valued(alloc, 0))
             }
             _ => {

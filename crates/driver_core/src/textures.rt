@@ -81,7 +81,7 @@ fn delete_all<L: Ledger>(
 
 impl Driver {
     /// The texture on which calls work: what the context has bound, or its texture 0.
-    fn target_texture(&self, context: u64) -> Option<u64>
+    pub(crate) fn target_texture(&self, context: u64) -> Option<u64>
         ensures { result ≡ target_texture self.now.state context }
     {
         match self.objects.context(context) {
@@ -252,6 +252,32 @@ impl Driver {
         Ok(())
     }
 
+    /// Gives a level of the texture on which calls work a storage, or takes it away.
+    pub(crate) fn give_level<L: Ledger>(
+        &mut self,
+        context: u64,
+        level: u64,
+        storage: Option<Storage>,
+        steps: &mut Steps<L>,
+    ) -> Result<(), NoMemory>
+        requires level { level < 11 }
+        ensures state { OnOk result (self.new ≡ record self.old { state = sweep (specified level storage (target_texture self.old.state context) self.old.state) }) }
+        ensures steps { IsCheap self.old.state self.new.state steps.old steps.new }
+        ensures err { OnErr result (self.new ≡ self.old) }
+    {
+        let Some(texture) = self.target_texture(context) else {
+            self.settled();
+            return Ok(());
+        };
+        match storage {
+            Some(storage) => self.add_level(texture, level, storage, steps),
+            None => {
+                self.drop_level(texture, level, steps);
+                Ok(())
+            }
+        }
+    }
+
     /// Gives a level of the texture on which calls work what a glTexImage2D gives it.
     pub(crate) fn set_level<L: Ledger>(
         &mut self,
@@ -270,17 +296,7 @@ impl Driver {
         let _ = thread;
         let level = number(call, LEVEL);
         let storage = new_level(alloc, call, self.objects.alignments(context).unpack)?;
-        let Some(texture) = self.target_texture(context) else {
-            self.settled();
-            return Ok(());
-        };
-        match storage {
-            Some(storage) => self.add_level(texture, level, storage, steps),
-            None => {
-                self.drop_level(texture, level, steps);
-                Ok(())
-            }
-        }
+        self.give_level(context, level, storage, steps)
     }
 
     /// The storage of a level of the texture on which calls work, where it has one.

@@ -40,6 +40,8 @@ pub mod Named
 pub mod NewObjects
 pub mod LinkSetters
 pub mod TextureCalls
+pub mod DrawCalls
+pub mod CopyCalls
 pub mod EglCalls
 pub mod WindowCalls
 pub mod StepKeeps

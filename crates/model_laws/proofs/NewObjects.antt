@@ -13,15 +13,17 @@ use Rattle.driver_objects.specs.declared.objects.Object.{Object}
 use Rattle.driver_objects.specs.declared.objects.Object.TheVariants.{Storage, Surface}
 use Rattle.model_laws.specs.Full.{Full}
 use Rattle.pixel_formats.specs.declared.formats.Format.{Format}
-use Rattle.pixel_rows.specs.Images.{blank, frozen}
+use Rattle.pixel_rows.specs.Images.{ImageValue, blank, frozen}
 use Rattle.pixel_rows.specs.Painting.{painted}
 use Rattle.pixel_rows.specs.Payloads.{loaded}
+use Rattle.pixel_rows.specs.declared.rects.Rect.{Rect}
+use Rattle.rect_pipeline.specs.Copying.{copied_into}
 use Rattle.egl_calls.specs.Arguments.{signed}
 use Rattle.egl_calls.specs.Calls.{CallValue}
 use Rattle.egl_calls.specs.Ranges.{unsigned}
 use Rattle.texture_objects.specs.Uploads.{uploaded}
 use Rattle.model_laws.proofs.Setters.{length-painted}
-use Rattle.driver_objects.specs.Storages.{stored}
+use Rattle.driver_objects.specs.Storages.{copied_image, stored}
 use Rattle.std.proofs.lemmas.List.{length-replicate}
 use Rattle.egl_model.specs.Graph.{is_in}
 use Rattle.model_laws.specs.Shapes.{IsFree, Leads, Shape, own_at, pixels_in, shapes, slots_in}
@@ -51,6 +53,11 @@ full-blank f w h a b = (record { wide = a; high = b; image = record { image = re
 pub full-uploaded : (c : CallValue) (align : ℕ) → unsigned (signed c 3) ≤ 2048 → unsigned (signed c 4) ≤ 2048 → Full (Some (Storage (stored (frozen (uploaded c align)))))
 unfolding loaded painted
 full-uploaded c align a b = (record { wide = a; high = b; image = record { image = record { wide = a; high = b; area = length-painted (unsigned (signed c 3)) _ _ _ ∙ length-replicate (unsigned (signed c 4) * unsigned (signed c 3)) _ }; format = refl; width = refl; height = refl; owned = refl } }, refl)
+
+-- ---- The pixels that glCopyTexImage2D gives.
+pub full-copied : (f : Format) (i : ImageValue) (r : Rect) → unsigned r.w ≤ 2048 → unsigned r.h ≤ 2048 → Full (Some (Storage (stored (copied_image f i r))))
+unfolding copied_into painted
+full-copied f i r a b = (record { wide = a; high = b; image = record { image = record { wide = a; high = b; area = length-painted (unsigned r.w) _ _ _ ∙ length-replicate (unsigned r.h * unsigned r.w) _ }; format = refl; width = refl; height = refl; owned = refl } }, refl)
 
 -- ---- A texture without storage.
 leads-none : (sh : List (Option Shape)) (i n : ℕ) → Leads sh (level_slots i (replicate n None))

@@ -1,5 +1,5 @@
 -- What the fields of objects may be set to.
-use Rattle.std.proofs.Common.{◌≡◌, length, ℕ, ℤ, Bool, true, is_some, inl, inr, List, refl, sym, ap, ◌∙◌, Option, None, Some}
+use Rattle.std.proofs.Common.{◌≡◌, length, ℕ, Bool, true, is_some, inl, inr, List, refl, sym, ap, ◌∙◌, Option, None, Some}
 use Rattle.surface_store.specs.Surfaces.{SurfaceValue}
 use Rattle.context_state.specs.Parts.{PartValue}
 use Rattle.pixel_rows.specs.Images.{ImageValue}
@@ -11,8 +11,12 @@ use Rattle.pixel_rows.specs.Payloads.{loaded}
 use Rattle.pixel_rows.specs.Painting.{painted, painted_at, painted_pixels}
 use Rattle.std.specs.Option.{option_map}
 use Rattle.std.proofs.lemmas.List.FromFn.{length-map-range_with_len}
+use Rattle.pixel_rows.specs.declared.rects.Rect.{Rect}
+use Rattle.rect_pipeline.specs.Copying.{copied_into}
 use Rattle.rect_pipeline.specs.Clearing.{coloured}
-use Rattle.driver_objects.specs.Storages.{AreImageOf, IsImageOf, cleared_image, rewritten_image}
+use Rattle.rect_pipeline.specs.Drawing.{drawn}
+use Rattle.rect_pipeline.specs.Samplers.{SamplerValue}
+use Rattle.driver_objects.specs.Storages.{AreImageOf, IsImageOf, cleared_image, drawn_image, recopied_by, rewritten_image}
 use Rattle.driver_objects.specs.declared.objects.Object.{Object}
 use Rattle.driver_objects.specs.declared.objects.Object.TheVariants.{Context, Storage, Surface, Sync}
 use Rattle.model_laws.specs.Full.{Full}
@@ -211,6 +215,31 @@ form-cleared p = record {
     owned = a.owned;
   };
 }
+
+pub form-drawn : (p : PartValue) (from : Option SamplerValue) (r : Rect) → KeepsForm (drawn_image p from r)
+unfolding drawn painted
+form-drawn p from r = record {
+  each = λ f w k z i a. record {
+    image = record { wide = a.image.wide; high = a.image.high; area = length-painted i.width _ _ i.pixels ∙ a.image.area };
+    format = a.format;
+    width = a.width;
+    height = a.height;
+    owned = a.owned;
+  };
+}
+
+pub form-recopied : (x y : ℕ) (r : Rect) (from : Option ImageValue) → KeepsForm (recopied_by x y r from)
+unfolding copied_into painted
+form-recopied x y r (Some from) = record {
+  each = λ f w k z i a. record {
+    image = record { wide = a.image.wide; high = a.image.high; area = length-painted i.width _ _ i.pixels ∙ a.image.area };
+    format = a.format;
+    width = a.width;
+    height = a.height;
+    owned = a.owned;
+  };
+}
+form-recopied x y r None = record { each = λ f w k z i a. a }
 
 pub form-rewritten : (c : CallValue) (align : ℕ) → KeepsForm (rewritten_image c align)
 unfolding painted loaded

@@ -9,7 +9,7 @@ use Rattle.egl_calls.specs.declared.kinds.Kind.TheVariants.{Egl, Gl}
 use Rattle.egl_calls.specs.declared.kinds.EglKind.{EglKind}
 use Rattle.egl_calls.specs.declared.kinds.EglKind.TheVariants.{Initialize, Terminate, CreateWindowSurface, CreatePbufferSurface, CreateContext, MakeCurrent, DestroySurface, SurfaceAttrib, DestroyContext, SwapBuffers, WaitClient, ReleaseThread, CreateSync, DestroySync, ClientWaitSync, WaitSync}
 use Rattle.egl_calls.specs.declared.kinds.GlKind.{GlKind}
-use Rattle.egl_calls.specs.declared.kinds.GlKind.TheVariants.{Flush, Finish, Clear, GenTextures, DeleteTextures, BindTexture, TexParameterx, TexParameteriv, TexImage2d, TexSubImage2d}
+use Rattle.egl_calls.specs.declared.kinds.GlKind.TheVariants.{Flush, Finish, Clear, DrawTexi, DrawTexx, GenTextures, DeleteTextures, BindTexture, TexParameterx, TexParameteriv, TexImage2d, TexSubImage2d, CopyTexImage2d, CopyTexSubImage2d}
 use Rattle.egl_calls.specs.declared.errors.EglError.TheVariants.{Success}
 use Rattle.context_state.specs.Parts.{noted}
 use Rattle.context_state.specs.Kinds.{context_gl_call}
@@ -46,6 +46,8 @@ use Rattle.egl_model.specs.Windows.{swapped}
 use Rattle.model_laws.proofs.SyncCalls.{acts-client_wait, acts-create_sync, acts-flush, acts-flushed, acts-serve}
 use Rattle.model_laws.proofs.GlCalls.{acts-clear, acts-own_part}
 use Rattle.share_group.specs.declared.names.NameKind.TheVariants.{Texture as textures}
+use Rattle.model_laws.proofs.CopyCalls.{acts-copied, acts-copied_part}
+use Rattle.model_laws.proofs.DrawCalls.{acts-drawn}
 use Rattle.model_laws.proofs.TextureCalls.{acts-bound_name, acts-crop, acts-delete, acts-generated, acts-parameter, acts-rewritten, acts-specified}
 use Rattle.model_laws.proofs.FrameMoves.{frame_self, handles_then, objects_then}
 use Rattle.model_laws.proofs.LinkLaws.{exists_marked}
@@ -81,6 +83,8 @@ object_acts : (s : State) (t n : ℕ) (c : CallValue) (k : GlKind) → c.kind �
 object_acts s t n c Flush h r i = acts-flushed s t (Some n)
 object_acts s t n c Finish h r i = acts-flushed s t (Some n)
 object_acts s t n c Clear h r i = acts-clear s t n c i
+object_acts s t n c DrawTexi h r i = acts-drawn s t n DrawTexi c i
+object_acts s t n c DrawTexx h r i = acts-drawn s t n DrawTexx c i
 object_acts s t n c GenTextures h r i = acts-generated s t n textures (number c 0)
 object_acts s t n c DeleteTextures h r i = acts-delete s t n c.list i
 object_acts s t n c BindTexture h r i = acts-bound_name s t n (number c 1) i
@@ -88,6 +92,8 @@ object_acts s t n c TexParameterx h r i = acts-parameter s t n (number c 1) (num
 object_acts s t n c TexParameteriv h r i = acts-crop s t n c.list
 object_acts s t n c TexImage2d h r i = acts-specified s t n c h r i
 object_acts s t n c TexSubImage2d h r i = acts-rewritten s t n c i
+object_acts s t n c CopyTexImage2d h r i = acts-copied s t n c h r
+object_acts s t n c CopyTexSubImage2d h r i = acts-copied_part s t n c
 object_acts s t n c k h r i = acts_self t s
 
 acts_by : (o : Option ContextCall) (s : State) (t n : ℕ) (c : CallValue) (k : GlKind) → c.kind ≡ Gl k → gl_refusal s t n k c ≡ None → current_context s t ≡ Some n → Acts quiet t s (λ a. (effect_by o a t n k c).state)

@@ -17,7 +17,7 @@ use Rattle.egl_calls.specs.declared.kinds.Kind.TheVariants.{Egl, Gl, Own as OwnC
 use Rattle.egl_calls.specs.declared.kinds.EglKind.{EglKind}
 use Rattle.egl_calls.specs.declared.kinds.EglKind.TheVariants.{CreateWindowSurface, SwapBuffers, GetError as EglGetError, CreatePbufferSurface, MakeCurrent, GetCurrentContext, GetCurrentSurface, GetCurrentDisplay, QueryApi, QuerySurface, QueryContext, CreateSync, ClientWaitSync, WaitSync, GetSyncAttrib}
 use Rattle.egl_calls.specs.declared.kinds.GlKind.{GlKind}
-use Rattle.egl_calls.specs.declared.kinds.GlKind.TheVariants.{ReadPixels, GenTextures, IsTexture, TexImage2d, TexSubImage2d}
+use Rattle.egl_calls.specs.declared.kinds.GlKind.TheVariants.{ReadPixels, GenTextures, IsTexture, TexImage2d, TexSubImage2d, CopyTexImage2d, CopyTexSubImage2d}
 use Rattle.call_rules.specs.GlRules as gl_rules
 use Rattle.context_state.specs.Kinds.{context_gl_call}
 use Rattle.context_state.specs.declared.kinds.ContextCall.{ContextCall}
@@ -26,6 +26,7 @@ use Rattle.share_group.specs.Names.{given}
 use Rattle.share_group.specs.declared.names.NameKind.TheVariants.{Texture as textures}
 use Rattle.egl_model.specs.GlFacts.{image_facts}
 use Rattle.egl_model.specs.Names.{generated, group_of, name_value, object_named}
+use Rattle.model_laws.proofs.CopyCalls.{blind-copy_facts, blind-copy_part_facts}
 use Rattle.model_laws.proofs.TextureCalls.{blind-group_of, blind-named, blind-names, blind-part_facts}
 use Rattle.egl_calls.specs.declared.errors.EglError.{EglError}
 use Rattle.egl_calls.specs.declared.errors.GlError.{GlError}
@@ -120,6 +121,8 @@ blind-gl_refusal : (t n : ℕ) (c : CallValue) (s : State) (k : GlKind) → Blin
 unfolding gl_refusal
 blind-gl_refusal t n c s TexImage2d w v x ne = ap (λ b. gl_rules.gl_refusal c (record (image_facts s c) { live_bytes = b })) (blind-live_bytes t s w v x ne)
 blind-gl_refusal t n c s TexSubImage2d w v x ne = ap (gl_rules.gl_refusal c) (blind-part_facts t n c s w v x ne)
+blind-gl_refusal t n c s CopyTexImage2d w v x ne = ap (gl_rules.gl_refusal c) (blind-copy_facts t c s w v x ne)
+blind-gl_refusal t n c s CopyTexSubImage2d w v x ne = ap (gl_rules.gl_refusal c) (blind-copy_part_facts t n c s w v x ne)
 blind-gl_refusal t n c s k w v x ne = refl
 
 -- ---- Replies: a line for each call that answers what it reads.

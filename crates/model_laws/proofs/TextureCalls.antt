@@ -78,7 +78,7 @@ texture-blind (Some (Context c)) = refl
 texture-blind (Some (Storage v)) = refl
 texture-blind o = refl
 
-blind-texture : (t : ℕ) (o : Option ℕ) (s : State) → Blind t s (λ a. option_and_then (texture_in a.objects) o)
+pub blind-texture : (t : ℕ) (o : Option ℕ) (s : State) → Blind t s (λ a. option_and_then (texture_in a.objects) o)
 blind-texture t None s w v x ne = refl
 blind-texture t (Some n) s w v x ne = blind-object as_texture texture-blind t n s w v x ne
 
@@ -192,14 +192,14 @@ pub specify_allowed : (s : State) (t n : ℕ) (c : CallValue) → c.kind ≡ Gl 
 unfolding gl_refusal
 specify_allowed s t n c h r = image_allowed c (image_facts s c) h r
 
-small : (n : ℕ) → n ≤ 1024 → min n 1024 ≡ n
+pub small : (n : ℕ) → n ≤ 1024 → min n 1024 ≡ n
 small n h = omega (arith, h)
 
 new_bytes : (c : CallValue) (align : ℕ) → unsigned (signed c 3) ≤ 1024 → unsigned (signed c 4) ≤ 1024 → storage_bytes (stored (frozen (uploaded c align))) ≡ image_bytes c
 unfolding loaded painted
 new_bytes c align a b = rw (small (unsigned (signed c 3)) a, small (unsigned (signed c 4)) b) refl
 
-acts-new_level : (s : State) (t k x : ℕ) (v : StorageValue) → Full (Some (Storage v)) → live_bytes s.objects + storage_bytes v ≤ s.video → Acts quiet t s (λ a. record a { objects = specified_in k (Some v) x a.objects })
+pub acts-new_level : (s : State) (t k x : ℕ) (v : StorageValue) → Full (Some (Storage v)) → live_bytes s.objects + storage_bytes v ≤ s.video → Acts quiet t s (λ a. record a { objects = specified_in k (Some v) x a.objects })
 unfolding live_bytes change_texture
 acts-new_level s t k x v full fit =
     let m = length s.objects in let new = Some (Storage v) ∷ [] in let sh = shapes s.objects ++ shapes new in
@@ -210,7 +210,7 @@ acts-new_level s t k x v full fit =
       λ u. (suits-level t sh _ x k (Some m) (new_kind s.objects new 0 m a_storage (omega arith) refl) (λ j h. subst (IsFree sh) (only_one j m h) (free_new s (Some (Storage v)) refl w)), tt),
     )))
 
-acts-no_level : (s : State) (t k x : ℕ) → Acts quiet t s (λ a. record a { objects = specified_in k None x a.objects })
+pub acts-no_level : (s : State) (t k x : ℕ) → Acts quiet t s (λ a. record a { objects = specified_in k None x a.objects })
 unfolding change_texture
 acts-no_level s t k x = by_quiet_moves t s (Change x (with_texture (with_level k None)) ∷ []) refl (setter-texture _, tt) (λ w. (suits-level t (shapes s.objects) s x k None tt (λ j h. no_edge j h), tt))
 
@@ -240,7 +240,7 @@ unowned n k (Some (Texture x)) h = refl
 unowned n k o h = absurd (none-some n h)
 
 -- what a texture has at a level is no surface's
-free_level : (s : State) (n k : ℕ) (o : Option ℕ) → option_and_then (storage_at k) (option_and_then (texture_in s.objects) o) ≡ Some n → IsWhole (shapes s.objects) s → IsFree (shapes s.objects) n
+pub free_level : (s : State) (n k : ℕ) (o : Option ℕ) → option_and_then (storage_at k) (option_and_then (texture_in s.objects) o) ≡ Some n → IsWhole (shapes s.objects) s → IsFree (shapes s.objects) n
 free_level s n k None h w = absurd (none-some n h)
 free_level s n k (Some x) h w = record {
   each = λ m e.

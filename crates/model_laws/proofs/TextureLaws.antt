@@ -9,10 +9,10 @@ use Rattle.std.proofs.lemmas.Option.{none-some, same_Some}
 use Rattle.egl_calls.specs.Calls.{CallValue}
 use Rattle.egl_calls.specs.Ranges.{unsigned}
 use Rattle.egl_calls.specs.declared.kinds.GlKind.{GlKind}
-use Rattle.egl_calls.specs.declared.kinds.GlKind.TheVariants.{DeleteTextures, TexImage2d}
+use Rattle.egl_calls.specs.declared.kinds.GlKind.TheVariants.{CopyTexImage2d, DeleteTextures, TexImage2d}
 use Rattle.egl_calls.specs.declared.errors.GlError.TheVariants.{OutOfMemory}
-use Rattle.call_rules.specs.GlAllowed.{ImageAsked}
-use Rattle.call_rules.proofs.GlLaws.{image_wants, wanting_image}
+use Rattle.call_rules.specs.GlAllowed.{CopyAsked, ImageAsked}
+use Rattle.call_rules.proofs.GlLaws.{copy_wants, image_wants, wanting_copy, wanting_image}
 use Rattle.driver_objects.specs.Storages.{StorageValue}
 use Rattle.driver_objects.specs.declared.objects.Object.{Object}
 use Rattle.driver_objects.specs.declared.objects.Object.TheVariants.{Context, Group, Texture, Storage}
@@ -23,7 +23,7 @@ use Rattle.share_group.specs.declared.names.Name.{Name}
 use Rattle.share_group.specs.declared.names.NameKind.TheVariants.{Texture as textures}
 use Rattle.egl_model.specs.Currents.{current_context}
 use Rattle.egl_model.specs.GlEffects.{gl_effect}
-use Rattle.egl_model.specs.GlFacts.{gl_refusal, image_facts}
+use Rattle.egl_model.specs.GlFacts.{copy_facts, gl_refusal, image_facts}
 use Rattle.model_laws.specs.Laws.{IsAllowedGl, IsGlCall}
 use Rattle.egl_model.specs.Names.{group_of, names_in, object_named, with_name_of}
 use Rattle.egl_model.specs.Objects.{as_group, as_storage, as_texture, change_context, change_group, change_texture, storage_in, texture_in, with_context, with_group, with_texture}
@@ -31,7 +31,7 @@ use Rattle.egl_model.specs.State.{State, object_at}
 use Rattle.egl_model.specs.Step.{Stepped, done, step}
 use Rattle.egl_model.specs.Sweep.{sweep, swept, roots}
 use Rattle.egl_model.specs.Textures.{deleted_in, deleted_texture, deleted_textures, level_of, new_level, specified, specified_in, storage_at, target_texture, unbound_in, unbound_texture, unpack_alignment, with_level}
-use Rattle.model_laws.specs.Wants.{AnswersGl, WantsImage}
+use Rattle.model_laws.specs.Wants.{AnswersGl, WantsCopy, WantsImage}
 use Rattle.model_laws.proofs.Places.{at_old}
 use Rattle.model_laws.proofs.RefusalLaws.{gl_call}
 use Rattle.model_laws.proofs.StepLaws.{gl_done}
@@ -62,6 +62,15 @@ image_is_refused s t n c h i a = image_wants c (image_facts s c) h.kind (gl_refu
 pub image_wants_pixels : (s : State) (t n : ℕ) (c : CallValue) → IsGlCall s t TexImage2d c → current_context s t ≡ Some n → ImageAsked c × WantsImage s c → AnswersGl s t c OutOfMemory
 unfolding gl_refusal
 image_wants_pixels s t n c h i w = reply_of_gl_refusal s t n TexImage2d c OutOfMemory h i (wanting_image c (image_facts s c) h.kind w)
+
+-- ---- glCopyTexImage2D wants pixels.
+pub copy_is_refused : (s : State) (t n : ℕ) (c : CallValue) → IsGlCall s t CopyTexImage2d c → current_context s t ≡ Some n → AnswersGl s t c OutOfMemory → CopyAsked c (copy_facts s t c) × WantsCopy s c
+unfolding gl_refusal
+copy_is_refused s t n c h i a = copy_wants c (copy_facts s t c) h.kind (gl_refusal_of_reply s t n CopyTexImage2d c OutOfMemory h i a)
+
+pub copy_wants_pixels : (s : State) (t n : ℕ) (c : CallValue) → IsGlCall s t CopyTexImage2d c → current_context s t ≡ Some n → CopyAsked c (copy_facts s t c) × WantsCopy s c → AnswersGl s t c OutOfMemory
+unfolding gl_refusal
+copy_wants_pixels s t n c h i w = reply_of_gl_refusal s t n CopyTexImage2d c OutOfMemory h i (wanting_copy c (copy_facts s t c) h.kind w)
 
 -- ---- A deleted name is free.
 unused_without : (name y : ℕ) (xs : List Name) → is_used name xs ≡ false → is_used name (without y xs) ≡ false

@@ -1,14 +1,13 @@
 -- What a client wait answers.
-use Rattle.std.proofs.Common.{◌≡◌, ℕ, pos, Bool, true, false, cond, ◌&&◌, not, [], Option, None, Some, refl, sym, ap, ◌∙◌}
+use Rattle.std.proofs.Common.{◌≡◌, ℕ, pos, Bool, true, false, cond, ◌&&◌, not, [], Option, Some, refl, ap, ◌∙◌}
 use Rattle.egl_calls.specs.Calls.{CallValue, ReplyValue}
 use Rattle.egl_calls.specs.declared.kinds.EglKind.TheVariants.{ClientWaitSync}
 use Rattle.egl_calls.specs.declared.errors.Outcome.TheVariants.{Done, Waiting}
 use Rattle.egl_names.specs.declared.codes.TheConstants.{EGL_CONDITION_SATISFIED, EGL_TIMEOUT_EXPIRED}
 use Rattle.display_table.specs.declared.handles.Handle.{Handle}
 use Rattle.egl_model.specs.State.{State}
-use Rattle.egl_model.specs.Effects.{Effect}
 use Rattle.egl_model.specs.Step.{Stepped, bare, done, step}
-use Rattle.egl_model.specs.Syncs.{client_waited, flush_for, sync_handle, wait_for, waits_forever}
+use Rattle.egl_model.specs.Syncs.{client_waited, flush_for, sync_handle, waits_forever}
 use Rattle.egl_model.specs.Waits.{is_signalled}
 use Rattle.model_laws.specs.Laws.{IsAllowedEgl}
 use Rattle.model_laws.proofs.RefusalLaws.{egl_call}

@@ -1,5 +1,5 @@
 -- Where EGL_BAD_ALLOC (EGL 1.5, sections 3.5.1, 3.5.2, 3.7.1 and 3.8.1) and GL_OUT_OF_MEMORY (OpenGL ES 1.1, section 3.7.1) come, in the words of the state before the call.
-use Rattle.std.specs.Prelude.{◌≡◌, ◌+◌, ◌<◌, ◌≤◌, ◌⊎◌, ℕ, pos, ◌<ℤ◌, Bool, true, false, ◌==◌, ◌&&◌, is_some}
+use Rattle.std.specs.Prelude.{◌≡◌, ◌+◌, ◌<◌, ◌≤◌, ◌⊎◌, ℕ, pos, ◌<ℤ◌, true, false, ◌==◌, is_some}
 use Rattle.egl_calls.specs.Calls.{CallValue}
 use Rattle.egl_calls.specs.declared.errors.EglError.{EglError}
 use Rattle.egl_calls.specs.declared.errors.GlError.{GlError}
@@ -21,6 +21,7 @@ use Rattle.egl_model.specs.Windows.{is_used_at, is_window_config, named_place, n
 use Rattle.egl_model.specs.Surfaces.{asked_height, asked_width, asks_for_largest, surface_bytes, pbuffer_facts, side_of}
 use Rattle.egl_model.specs.Sweep.{live_bytes}
 use Rattle.egl_model.specs.Step.{bare, step}
+use Rattle.egl_model.specs.Copies.{copied_bytes}
 use Rattle.egl_model.specs.Textures.{image_bytes}
 
 -- the reply to a call is this error
@@ -76,6 +77,10 @@ WantsVideo s c = s.video < live_bytes s.objects + asked_bytes c
 -- the same for the level that a glTexImage2D gives
 abbrev pub WantsImage : State → CallValue → Type 0
 WantsImage s c = s.video < live_bytes s.objects + image_bytes c
+
+-- and for the one that a glCopyTexImage2D gives
+abbrev pub WantsCopy : State → CallValue → Type 0
+WantsCopy s c = s.video < live_bytes s.objects + copied_bytes c
 
 -- the numbers for handles are used up
 abbrev pub WantsNumber : State → Type 0

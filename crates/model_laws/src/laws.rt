@@ -8,7 +8,7 @@ ghost use Rattle.egl_calls.specs.declared.kinds.Kind.TheVariants.{Egl, Own};
 ghost use Rattle.egl_calls.specs.declared.kinds.EglKind.{EglKind};
 ghost use Rattle.egl_calls.specs.declared.kinds.EglKind.TheVariants.{Initialize, Terminate, CreatePbufferSurface, CreateContext, DestroySurface, DestroyContext, ReleaseThread, CreateWindowSurface, CreateSync, DestroySync, ClientWaitSync};
 ghost use Rattle.egl_calls.specs.declared.kinds.GlKind.{GlKind};
-ghost use Rattle.egl_calls.specs.declared.kinds.GlKind.TheVariants.{DeleteTextures, TexImage2d};
+ghost use Rattle.egl_calls.specs.declared.kinds.GlKind.TheVariants.{CopyTexImage2d, DeleteTextures, TexImage2d};
 ghost use Rattle.egl_calls.specs.Ranges.{unsigned};
 ghost use Rattle.egl_calls.specs.declared.kinds.OwnKind.{OwnKind};
 ghost use Rattle.egl_calls.specs.declared.kinds.OwnKind.TheVariants.{ReadBuffer, WaitEnd};
@@ -19,7 +19,7 @@ ghost use Rattle.egl_calls.specs.declared.errors.GlError.TheVariants.{NoError, O
 ghost use Rattle.egl_calls.specs.declared.errors.Outcome.TheVariants.{Done, InWait, NoWait, Waiting, Egl as RefusedEgl, Gl as RefusedGl};
 ghost use Rattle.context_state.specs.Parts.{PartValue};
 ghost use Rattle.call_rules.specs.EglAllowed.{makes_handle};
-ghost use Rattle.call_rules.specs.GlAllowed.{ImageAsked};
+ghost use Rattle.call_rules.specs.GlAllowed.{CopyAsked, ImageAsked};
 ghost use Rattle.call_rules.specs.EglRules.{is_release};
 ghost use Rattle.display_table.specs.declared.handles.HandleKind.TheVariants.{Context, Surface, Sync};
 ghost use Rattle.surface_store.specs.Windows.{windows_ok};
@@ -39,7 +39,7 @@ ghost use Rattle.model_laws.specs.Shapes.{shapes};
 ghost use Rattle.driver_objects.specs.declared.fences.Fence.{Fence as AFence};
 ghost use Rattle.driver_objects.specs.declared.kinds.ObjectKind.TheVariants.{Context as ContextKind};
 ghost use Rattle.egl_model.specs.EglFacts.{egl_refusal};
-ghost use Rattle.egl_model.specs.GlFacts.{gl_refusal};
+ghost use Rattle.egl_model.specs.GlFacts.{copy_facts, gl_refusal};
 ghost use Rattle.egl_model.specs.Step.{bare, done, note_error, step};
 ghost use Rattle.egl_model.specs.Waits.{ended, is_signalled};
 ghost use Rattle.egl_model.specs.History.{replay_from, IsLegalFrom};
@@ -58,7 +58,7 @@ ghost use Rattle.model_laws.specs.Sound.{IsSound};
 ghost use Rattle.model_laws.specs.Refs.{AreNamesApart, size, objects_gone, refs_gone};
 ghost use Rattle.egl_model.specs.Syncs.{flush_for, sync_handle, waits_forever};
 ghost use Rattle.egl_names.specs.declared.codes.TheConstants.{EGL_CONDITION_SATISFIED, EGL_TIMEOUT_EXPIRED};
-ghost use Rattle.model_laws.specs.Wants.{Answers, AnswersGl, AsksTooLarge, IsFaultlessContext, IsFaultlessPbuffer, IsFaultlessSync, IsFaultlessWindow, IsWindowUsed, PixelsFit, WantsImage, WantsNumber, WantsVideo, WantsWindowPixels, asked_bytes};
+ghost use Rattle.model_laws.specs.Wants.{Answers, AnswersGl, AsksTooLarge, IsFaultlessContext, IsFaultlessPbuffer, IsFaultlessSync, IsFaultlessWindow, IsWindowUsed, PixelsFit, WantsCopy, WantsImage, WantsNumber, WantsVideo, WantsWindowPixels, asked_bytes};
 
 /// A sweep leaves each object that chains of references reach as it is, and no other; it changes what is reached for none.
 pub fn a_sweep_keeps_what_is_reached()
@@ -253,6 +253,11 @@ pub fn a_pbuffer_wants_size_pixels_or_a_number()
 /// glTexImage2D answers GL_OUT_OF_MEMORY exactly where nothing is wrong with its own numbers and the pixels that live before the call and the new ones are too many (OpenGL ES 1.1, section 3.7.1).
 pub fn an_image_wants_pixels()
     ensures { (s : State) (t n : ℕ) (c : CallValue) → IsGlCall s t TexImage2d c → current_context s t ≡ Some n → AnswersGl s t c OutOfMemory ↔ (ImageAsked c × WantsImage s c) }
+{}
+
+/// glCopyTexImage2D answers GL_OUT_OF_MEMORY exactly where nothing else is wrong with it and the pixels that live before the call and the new ones are too many (section 3.7.2).
+pub fn a_copy_wants_pixels()
+    ensures { (s : State) (t n : ℕ) (c : CallValue) → IsGlCall s t CopyTexImage2d c → current_context s t ≡ Some n → AnswersGl s t c OutOfMemory ↔ (CopyAsked c (copy_facts s t c) × WantsCopy s c) }
 {}
 
 /// A glTexImage2D gives one level of one texture: each other level of a texture that is still there has the storage that it had, and each storage that is still there is as it was (section 3.7.1).

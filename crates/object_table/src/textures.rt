@@ -44,7 +44,7 @@ fn levels_at(store: &Store<Stored>, n: u64)
 }
 
 // The storage of a level.
-fn level_in(levels: &[Option<u64>; LEVELS], level: u64) -> Option<u64>
+pub(crate) fn level_in(levels: &[Option<u64>; LEVELS], level: u64) -> Option<u64>
     ensures { result ≡ slice_index_or levels.now level None }
 {
     count_levels(levels);

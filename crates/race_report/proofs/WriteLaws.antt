@@ -16,7 +16,7 @@ use Rattle.egl_calls.specs.declared.kinds.Kind.TheVariants.{Egl, Gl, Own}
 use Rattle.egl_calls.specs.declared.kinds.EglKind.{EglKind}
 use Rattle.egl_calls.specs.declared.kinds.EglKind.TheVariants.{ClientWaitSync, CreateContext, CreatePbufferSurface, CreateSync, CreateWindowSurface, MakeCurrent, ReleaseThread, SurfaceAttrib, SwapBuffers, WaitClient, WaitSync}
 use Rattle.egl_calls.specs.declared.kinds.GlKind.{GlKind}
-use Rattle.egl_calls.specs.declared.kinds.GlKind.TheVariants.{BindTexture, Clear, DeleteTextures, Finish, Flush, GenTextures, ReadPixels, TexImage2d, TexParameterx, TexParameteriv, TexSubImage2d}
+use Rattle.egl_calls.specs.declared.kinds.GlKind.TheVariants.{BindTexture, Clear, CopyTexImage2d, CopyTexSubImage2d, DeleteTextures, DrawTexi, DrawTexx, Finish, Flush, GenTextures, ReadPixels, TexImage2d, TexParameterx, TexParameteriv, TexSubImage2d}
 use Rattle.egl_calls.specs.declared.kinds.OwnKind.{OwnKind}
 use Rattle.egl_calls.specs.declared.kinds.OwnKind.TheVariants.{ReadBuffer, WaitEnd}
 use Rattle.call_rules.specs.EglRules.{is_release}
@@ -24,7 +24,6 @@ use Rattle.context_state.specs.Calls.{apply}
 use Rattle.context_state.specs.Kinds.{context_gl_call}
 use Rattle.context_state.specs.declared.kinds.ContextCall.{ContextCall}
 use Rattle.context_state.specs.Parts.{PartValue, noted}
-use Rattle.pixel_rows.specs.Images.{ImageValue}
 use Rattle.share_group.specs.Groups.{GroupValue}
 use Rattle.share_group.specs.declared.names.NameKind.TheVariants.{Texture as textures}
 use Rattle.surface_store.specs.Surfaces.{SurfaceValue}
@@ -38,6 +37,11 @@ use Rattle.driver_objects.specs.declared.objects.Object.TheVariants.{Context, Gr
 use Rattle.driver_objects.specs.declared.surfaces.BackedSurface.{BackedSurface}
 use Rattle.driver_objects.specs.declared.textures.BackedTexture.{BackedTexture}
 use Rattle.display_table.specs.declared.handles.Handle.{Handle}
+use Rattle.pixel_rows.specs.Images.{ImageValue}
+use Rattle.pixel_rows.specs.declared.rects.Rect.{Rect}
+use Rattle.rect_pipeline.specs.Samplers.{SamplerValue}
+use Rattle.egl_model.specs.Copies.{copied_from, copied_level, copied_part_from, copies_nothing, read_image}
+use Rattle.egl_model.specs.Draws.{draw_into, drawn_rect, sampler}
 use Rattle.egl_model.specs.Arguments.{number}
 use Rattle.egl_model.specs.Currents.{bound_surface, current_context, draw_storage, part_of_context}
 use Rattle.egl_model.specs.Drawing.{clear_storage, clears_colour}
@@ -364,6 +368,20 @@ told-rewritten : (s : State) (c : CallValue) (align : ℕ) (o : Option ℕ) → 
 told-rewritten s c align None = tells_self [] s.objects s.windows
 told-rewritten s c align (Some n) = with_objects (object (Some n)) s.objects _ s.windows (kept-storage (object (Some n)) _ n s.objects (has_object n))
 
+told-draw : (s : State) (p : Option PartValue) (o : Option ℕ) (from : Option SamplerValue) (r : Rect) → Told (object o) s (draw_into p o from r s)
+told-draw s (Some p) (Some m) from r = with_objects (object (Some m)) s.objects _ s.windows (kept-storage (object (Some m)) _ m s.objects (has_object m))
+told-draw s (Some p) None from r = tells_self [] s.objects s.windows
+told-draw s None o from r = tells_self (object o) s.objects s.windows
+
+told-copied : (s : State) (c : CallValue) (b : Bool) (from : Option ImageValue) (o : Option ℕ) → Told (object o) s (if b then calls.specified (calls.level_of c) None o s else copied_from from c o s)
+told-copied s c true from o = told-specified s (calls.level_of c) None o
+told-copied s c false (Some i) o = told-specified s (calls.level_of c) (Some (copied_level c i)) o
+told-copied s c false None o = tells_self (object o) s.objects s.windows
+
+told-copied_part : (s : State) (c : CallValue) (from : Option ImageValue) (o : Option ℕ) → Told (object o) s (copied_part_from from c o s)
+told-copied_part s c from None = tells_self [] s.objects s.windows
+told-copied_part s c from (Some n) = with_objects (object (Some n)) s.objects _ s.windows (kept-storage (object (Some n)) _ n s.objects (has_object n))
+
 told-part : (ws : List ℤ) (s : State) (n : ℕ) (f : PartValue → PartValue) → Told ws s (record s { objects = change_part f n s.objects })
 told-part ws s n f = with_objects ws s.objects _ s.windows (kept-part ws f n s.objects)
 
@@ -378,6 +396,10 @@ told-object s t n c TexParameterx = told-parameter s (number c 1) (number c 2) (
 told-object s t n c TexParameteriv = told-crop s c.list (calls.target_texture s n)
 told-object s t n c TexImage2d = told-specified s (calls.level_of c) (calls.new_level c (calls.unpack_alignment s n)) (calls.target_texture s n)
 told-object s t n c TexSubImage2d = told-rewritten s c (calls.unpack_alignment s n) (calls.level_storage s n (calls.level_of c))
+told-object s t n c DrawTexi = told-draw s (part_of_context s n) (draw_storage s t) (sampler s n (drawn_rect DrawTexi c)) (drawn_rect DrawTexi c)
+told-object s t n c DrawTexx = told-draw s (part_of_context s n) (draw_storage s t) (sampler s n (drawn_rect DrawTexx c)) (drawn_rect DrawTexx c)
+told-object s t n c CopyTexImage2d = told-copied s c (copies_nothing c) (read_image s t) (calls.target_texture s n)
+told-object s t n c CopyTexSubImage2d = told-copied_part s c (read_image s t) (calls.level_storage s n (calls.level_of c))
 told-object s t n c k = tells_self _ s.objects s.windows
 
 told_by-gl : (o : Option ContextCall) (s : State) (t n : ℕ) (c : CallValue) (k : GlKind) → Told (touches_by_class o s t n k c).writes s (effect_by o s t n k c).state

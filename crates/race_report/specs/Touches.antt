@@ -1,6 +1,7 @@
 -- What a call reads and writes, beside what its thread has for itself: objects, and what windows show.
-use Rattle.std.specs.Prelude.{ℕ, ℤ, pos, neg_ℤ, List, [], ◌∷◌, map, if◌then◌else◌, is_some, option_to_list, Option, None, Some}
+use Rattle.std.specs.Prelude.{ℕ, ℤ, pos, neg_ℤ, List, [], ◌∷◌, ◌++◌, map, if◌then◌else◌, is_some, option_to_list, Option, None, Some}
 use Rattle.std.specs.List.{filter_map}
+use Rattle.std.specs.Option.{option_map_or}
 use Rattle.egl_calls.specs.Calls.{CallValue}
 use Rattle.egl_calls.specs.Ranges.{unsigned}
 use Rattle.egl_calls.specs.declared.kinds.Kind.{Kind}
@@ -8,18 +9,21 @@ use Rattle.egl_calls.specs.declared.kinds.Kind.TheVariants.{Egl, Gl, Own}
 use Rattle.egl_calls.specs.declared.kinds.EglKind.{EglKind}
 use Rattle.egl_calls.specs.declared.kinds.EglKind.TheVariants.{SwapBuffers}
 use Rattle.egl_calls.specs.declared.kinds.GlKind.{GlKind}
-use Rattle.egl_calls.specs.declared.kinds.GlKind.TheVariants.{Flush, Finish, Clear, ReadPixels, GenTextures, DeleteTextures, IsTexture, BindTexture, TexParameterx, TexParameteriv, TexImage2d, TexSubImage2d}
+use Rattle.egl_calls.specs.declared.kinds.GlKind.TheVariants.{Flush, Finish, Clear, ReadPixels, DrawTexi, DrawTexx, GenTextures, DeleteTextures, IsTexture, BindTexture, TexParameterx, TexParameteriv, TexImage2d, TexSubImage2d, CopyTexImage2d, CopyTexSubImage2d}
 use Rattle.egl_calls.specs.declared.kinds.OwnKind.{OwnKind}
 use Rattle.egl_calls.specs.declared.kinds.OwnKind.TheVariants.{ReadBuffer, ReadFront}
 use Rattle.egl_calls.specs.declared.places.TheConstants.{FRONT}
 use Rattle.context_state.specs.Kinds.{context_gl_call}
+use Rattle.context_state.specs.Parts.{PartValue}
 use Rattle.context_state.specs.declared.kinds.ContextCall.{ContextCall}
 use Rattle.share_group.specs.declared.names.NameKind.TheVariants.{Texture as textures}
+use Rattle.driver_objects.specs.Objects.{filled}
 use Rattle.driver_objects.specs.declared.surfaces.BackedSurface.{BackedSurface}
 use Rattle.egl_model.specs.Arguments.{number}
-use Rattle.egl_model.specs.Currents.{bound_surface, current_context, draw_storage, read_storage}
+use Rattle.egl_model.specs.Currents.{bound_surface, current_context, draw_storage, part_of_context, read_storage}
 use Rattle.egl_model.specs.Drawing.{clears_colour}
 use Rattle.egl_model.specs.Names.{group_of, object_named}
+use Rattle.egl_model.specs.Objects.{texture_in}
 use Rattle.egl_model.specs.State.{State, record_of}
 use Rattle.egl_model.specs.Step.{step}
 use Rattle.egl_model.specs.Textures.{level_of, level_storage, target_texture}
@@ -66,15 +70,32 @@ egl_touches s t k = nothing
 abbrev pub textures_named : State → ℕ → List ℤ → List ℤ
 textures_named s n xs = map pos (filter_map (λ x. object_named s (group_of s n) textures (unsigned x)) xs)
 
+-- a texture, and the storages of its levels
+abbrev pub with_levels : State → Option ℕ → List ℤ
+with_levels s None = []
+with_levels s (Some x) = map pos (x ∷ filled (option_map_or (λ y. y.levels) (texture_in s.objects x) []))
+
+-- those of the texture on which calls work, where GL_TEXTURE_2D is enabled
+abbrev pub sampled_by : Option PartValue → State → Option ℕ → List ℤ
+sampled_by (Some p) s o = if p.is_texture_enabled then with_levels s o else []
+sampled_by None s o = []
+
+abbrev pub draw_touches : State → ℕ → ℕ → Touches
+draw_touches s t n = record { reads = sampled_by (part_of_context s n) s (target_texture s n); writes = object (draw_storage s t) }
+
 abbrev pub object_touches : State → ℕ → ℕ → GlKind → CallValue → Touches
 -- pixels of the surfaces
 object_touches s t n Clear c = if clears_colour c then writing (object (draw_storage s t)) else nothing
 object_touches s t n ReadPixels c = reading (object (read_storage s t))
+object_touches s t n DrawTexi c = draw_touches s t n
+object_touches s t n DrawTexx c = draw_touches s t n
 -- the texture on which calls work, and the pixels of its levels
 object_touches s t n TexImage2d c = writing (object (target_texture s n))
 object_touches s t n TexParameterx c = writing (object (target_texture s n))
 object_touches s t n TexParameteriv c = writing (object (target_texture s n))
 object_touches s t n TexSubImage2d c = record { reads = object (target_texture s n); writes = object (level_storage s n (level_of c)) }
+object_touches s t n CopyTexImage2d c = record { reads = object (read_storage s t); writes = object (target_texture s n) }
+object_touches s t n CopyTexSubImage2d c = record { reads = object (target_texture s n) ++ object (read_storage s t); writes = object (level_storage s n (level_of c)) }
 -- what is deleted
 object_touches s t n DeleteTextures c = writing (textures_named s n c.list)
 -- nothing but names, and what the context has flushed

@@ -157,6 +157,132 @@ static PART: [PartRow; 8] = [
     ([0, 0, 1, 1], GL_RGB, Some(GlError::InvalidOperation)),
 ];
 
+/// The numbers of a call, whether the framebuffer is complete, and whether the pixels that are read have alpha.
+type CopyRow = (GlKind, [u32; 8], bool, bool, Option<GlError>);
+
+/// The storage of the level is the largest that there may be, of GL_RGBA.
+static COPIES: [CopyRow; 17] = [
+    (
+        GlKind::DrawTexi,
+        [0, 0, 0, 1, 1, 0, 0, 0],
+        true,
+        false,
+        None,
+    ),
+    (
+        GlKind::DrawTexx,
+        [0, 0, 0, 1, 1, 0, 0, 0],
+        false,
+        true,
+        Some(GlError::InvalidFramebufferOperation),
+    ),
+    (
+        GlKind::DrawTexi,
+        [0, 0, 0, 0, 1, 0, 0, 0],
+        false,
+        true,
+        Some(GlError::InvalidValue),
+    ),
+    (
+        GlKind::CopyTexImage2d,
+        [TEXTURE, 0, RGBA, 0, 0, 4, 2, 0],
+        true,
+        true,
+        None,
+    ),
+    (
+        GlKind::CopyTexImage2d,
+        [TEXTURE, 0, RGB, 0, 0, 4, 2, 0],
+        true,
+        false,
+        None,
+    ),
+    (
+        GlKind::CopyTexImage2d,
+        [TEXTURE, 0, RGBA, 0, 0, 4, 2, 0],
+        true,
+        false,
+        Some(GlError::InvalidOperation),
+    ),
+    (
+        GlKind::CopyTexImage2d,
+        [TEXTURE, 0, ALPHA, 0, 0, 4, 2, 0],
+        true,
+        false,
+        Some(GlError::InvalidOperation),
+    ),
+    (
+        GlKind::CopyTexImage2d,
+        [TEXTURE, 0, RGBA, 0, 0, 4, 2, 0],
+        false,
+        false,
+        Some(GlError::InvalidFramebufferOperation),
+    ),
+    (
+        GlKind::CopyTexImage2d,
+        [TEXTURE, 0, RGB, 0, 0, 4, 2, 1],
+        false,
+        true,
+        Some(GlError::InvalidValue),
+    ),
+    (
+        GlKind::CopyTexImage2d,
+        [TEXTURE, 0, RGB, 0, 0, 2_048, 2, 0],
+        false,
+        true,
+        Some(GlError::InvalidValue),
+    ),
+    (
+        GlKind::CopyTexSubImage2d,
+        [TEXTURE, 10, 2_047, 0, 9, 9, 1, 2_048],
+        true,
+        true,
+        None,
+    ),
+    (
+        GlKind::CopyTexSubImage2d,
+        [TEXTURE, 0, 0, 0, 0, 0, 1, 1],
+        true,
+        false,
+        Some(GlError::InvalidOperation),
+    ),
+    (
+        GlKind::CopyTexSubImage2d,
+        [TEXTURE, 0, 0, 0, 0, 0, 1, 1],
+        false,
+        false,
+        Some(GlError::InvalidFramebufferOperation),
+    ),
+    (
+        GlKind::CopyTexSubImage2d,
+        [TEXTURE, 0, 2_048, 0, 0, 0, 1, 1],
+        false,
+        true,
+        Some(GlError::InvalidValue),
+    ),
+    (
+        GlKind::CopyTexSubImage2d,
+        [TEXTURE, 0, 0, 1, 0, 0, 1, 2_048],
+        false,
+        true,
+        Some(GlError::InvalidValue),
+    ),
+    (
+        GlKind::CopyTexSubImage2d,
+        [TEXTURE, 11, 0, 0, 0, 0, 1, 1],
+        false,
+        true,
+        Some(GlError::InvalidValue),
+    ),
+    (
+        GlKind::CopyTexSubImage2d,
+        [RGBA, 11, 0, 0, 0, 0, 1, 1],
+        false,
+        true,
+        Some(GlError::InvalidEnum),
+    ),
+];
+
 fn gl_call(alloc: Global, kind: GlKind, numbers: [i32; 3], codes: [u32; 2]) -> Call {
     let [first, width, height] = numbers;
     let [format, pixel] = codes;
@@ -268,4 +394,18 @@ fn kinds_of_the_other_interface_are_not_refused(rt: HostRuntime) {
     let call = gl_call(rt.alloc(), GlKind::Clear, [8, 0, 0], [0; 2]);
     assert!(rt; is_built(call.kind));
     assert_eq!(rt; egl_refusal(&call, &EglFacts::none()), None);
+}
+
+#[test]
+fn a_draw_and_a_copy_want_a_framebuffer(rt: HostRuntime) {
+    for (kind, numbers, is_framebuffer_complete, has_read_alpha, error) in &COPIES {
+        let call = texture_call(rt.alloc(), *kind, *numbers);
+        assert!(rt; is_built(call.kind));
+        let facts = GlFacts {
+            is_framebuffer_complete: *is_framebuffer_complete,
+            has_read_alpha: *has_read_alpha,
+            ..largest_level(GL_RGBA)
+        };
+        assert_eq!(rt; gl_refusal(&call, &facts), *error);
+    }
 }

@@ -1,0 +1,58 @@
+-- What is known of the calls that copy pixels where they aren't refused.
+use Rattle.std.proofs.Common.{◌≡◌, ℕ, ◌<◌, ℤ, pos, negsuc, ◌≤ℤ◌, true, refl, sym, subst, arith, Option, None, Some}
+use Rattle.std.specs.Prelude.{IfSome}
+use Rattle.std.specs.Option.{option_and_then}
+use Rattle.std.proofs.lemmas.Int.{ints}
+use Rattle.egl_calls.specs.Calls.{CallValue}
+use Rattle.egl_calls.specs.Arguments.{number, signed}
+use Rattle.egl_calls.specs.Ranges.{unsigned}
+use Rattle.egl_calls.specs.declared.kinds.Kind.TheVariants.{Gl}
+use Rattle.egl_calls.specs.declared.kinds.GlKind.TheVariants.{CopyTexImage2d, CopyTexSubImage2d}
+use Rattle.call_rules.specs.GlAllowed.{CopyPartAllowed}
+use Rattle.call_rules.proofs.GlLaws.{copy_part_allowed}
+use Rattle.pixel_rows.specs.Rects.{IsInSide, IsInside}
+use Rattle.rect_pipeline.specs.Copying.{moved}
+use Rattle.texture_objects.specs.Uploads.{IsSide}
+use Rattle.driver_objects.specs.Storages.{IsCopiedSide, StorageValue}
+use Rattle.egl_model.specs.Copies.{copied_part_rect}
+use Rattle.egl_model.specs.GlFacts.{copy_part_facts, gl_refusal, stored_facts}
+use Rattle.egl_model.specs.Objects.{storage_in}
+use Rattle.egl_model.specs.State.{State}
+use Rattle.egl_model.specs.Textures.{level_of, level_storage}
+use Rattle.model_laws.proofs.CopyCalls.{copy_passed}
+use Rattle.driver_core.proofs.LevelLaws.{level_few, second_false, side}
+
+-- ---- glCopyTexImage2D.
+copied_side : (z : ℤ) → IsSide z → IsCopiedSide z
+copied_side z h = record { low = h.low; high = h.high }
+
+pub copied_wide : (s : State) (t n : ℕ) (c : CallValue) → c.kind ≡ Gl CopyTexImage2d → gl_refusal s t n CopyTexImage2d c ≡ None → IsCopiedSide (signed c 5)
+copied_wide s t n c h r = copied_side _ (side _ (signed c 5) (copy_passed s t n c h r).width)
+
+pub copied_high : (s : State) (t n : ℕ) (c : CallValue) → c.kind ≡ Gl CopyTexImage2d → gl_refusal s t n CopyTexImage2d c ≡ None → IsCopiedSide (signed c 6)
+copied_high s t n c h r = copied_side _ (side _ (signed c 6) (copy_passed s t n c h r).height)
+
+pub copied_below : (s : State) (t n : ℕ) (c : CallValue) → c.kind ≡ Gl CopyTexImage2d → gl_refusal s t n CopyTexImage2d c ≡ None → number c 1 < 11
+copied_below s t n c h r = level_few (signed c 1) (second_false _ _ (copy_passed s t n c h r).level)
+
+-- ---- glCopyTexSubImage2D.
+pub copy_part_passed : (s : State) (t n : ℕ) (c : CallValue) → c.kind ≡ Gl CopyTexSubImage2d → gl_refusal s t n CopyTexSubImage2d c ≡ None → CopyPartAllowed c (copy_part_facts s t n c)
+unfolding gl_refusal
+copy_part_passed s t n c h r = copy_part_allowed c (copy_part_facts s t n c) h r
+
+placed : (z : ℤ) → pos 0 ≤ℤ z → pos (unsigned z) ≡ z
+placed (pos n) h = refl
+placed (negsuc n) h = absurd (let e = h in omega (arith, ints, e))
+
+in_side : (start size : ℤ) (side : ℕ) → IsInSide start size side → IsInSide (pos (unsigned start)) size side
+in_side start size side h = subst (λ z. IsInSide z size side) (sym (placed start h.first)) h
+
+inside : (c : CallValue) (o : Option StorageValue) → (stored_facts o).is_stored ≡ true → IsInSide (signed c 2) (signed c 6) (stored_facts o).stored_width → IsInSide (signed c 3) (signed c 7) (stored_facts o).stored_height → IfSome o (λ v. IsInside (moved (copied_part_rect c) (number c 2) (number c 3)) v.width v.height)
+inside c None h a b = tt
+inside c (Some v) h a b = record { columns = in_side _ _ _ a; rows = in_side _ _ _ b }
+
+pub copy_part_within : (s : State) (t n m : ℕ) (c : CallValue) → c.kind ≡ Gl CopyTexSubImage2d → gl_refusal s t n CopyTexSubImage2d c ≡ None → level_storage s n (level_of c) ≡ Some m → IfSome (storage_in s.objects m) (λ v. IsInside (moved (copied_part_rect c) (number c 2) (number c 3)) v.width v.height)
+copy_part_within s t n m c h r e =
+    let a = copy_part_passed s t n c h r in
+    subst (λ (o : Option ℕ). IfSome (option_and_then (storage_in s.objects) o) (λ v. IsInside (moved (copied_part_rect c) (number c 2) (number c 3)) v.width v.height)) e
+    (inside c (option_and_then (storage_in s.objects) (level_storage s n (level_of c))) a.stored a.columns a.rows)
