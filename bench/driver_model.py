@@ -37,6 +37,9 @@ SWITCHES = ["GL_TEXTURE_2D", "GL_SCISSOR_TEST", "GL_DITHER"]
 # What is off for good.
 NEVER_ON = ["GL_BLEND", "GL_DEPTH_TEST", "GL_ALPHA_TEST", "GL_STENCIL_TEST", "GL_CULL_FACE", "GL_LIGHTING", "GL_FOG"]
 ENVIRONMENTS = ["GL_MODULATE", "GL_REPLACE"]
+# By a target of buffers the name of its binding.
+BUFFER_BINDINGS = {"GL_ARRAY_BUFFER": "GL_ARRAY_BUFFER_BINDING", "GL_ELEMENT_ARRAY_BUFFER": "GL_ELEMENT_ARRAY_BUFFER_BINDING"}
+USAGES = ["GL_STATIC_DRAW", "GL_DYNAMIC_DRAW"]
 ENUM, VALUE, OPERATION, MEMORY = "GL_INVALID_ENUM", "GL_INVALID_VALUE", "GL_INVALID_OPERATION", "GL_OUT_OF_MEMORY"
 
 
@@ -252,10 +255,20 @@ class Texture:
 
 
 @dataclass(eq=False)
+class Buffer:
+    data: bytes = b""
+    usage: str = USAGES[0]
+
+    def bytes(self):
+        return len(self.data)
+
+
+@dataclass(eq=False)
 class Group:
-    """By each used name its texture, or None."""
+    """By each used name its texture, or None; and the same of buffers."""
 
     names: dict = field(default_factory=dict)
+    buffers: dict = field(default_factory=dict)
 
 
 @dataclass(eq=False)
@@ -266,6 +279,8 @@ class Context:
     # The name and the texture that are bound; its own texture is bound where that is None.
     name: int = 0
     bound: Texture = None
+    # By each target of buffers the name and the buffer that are bound to it, where one is.
+    buffers: dict = field(default_factory=dict)
     colour: tuple = (0, 0, 0, 0)
     error: str = "GL_NO_ERROR"
     pack: int = 4
@@ -294,9 +309,9 @@ class Context:
 def referred(thing):
     """What an object refers to."""
     if isinstance(thing, Context):
-        found = [thing.group, thing.texture, thing.bound]
+        found = [thing.group, thing.texture, thing.bound, *(buffer for _, buffer in thing.buffers.values())]
     elif isinstance(thing, Group):
-        found = thing.names.values()
+        found = [*thing.names.values(), *thing.buffers.values()]
     elif isinstance(thing, Texture):
         found = thing.levels
     else:
@@ -329,15 +344,15 @@ class Objects:
         return {thing for thing in reached if isinstance(thing, kind)}
 
     def live(self):
-        return sum(storage.bytes() for storage in self.alive(Storage))
+        return sum(thing.bytes() for thing in self.alive((Storage, Buffer)))
 
-    def wants(self, storage):
-        """Whether there are no bytes left for new pixels; those that they replace still count."""
-        return self.live() + storage.bytes() > self.video
+    def wants(self, thing):
+        """Whether there are no bytes left for new pixels or new contents; those that they replace still count."""
+        return self.live() + thing.bytes() > self.video
 
     def census(self):
-        contexts, groups, textures, surfaces, storages = (len(self.alive(kind)) for kind in (Context, Group, Texture, Surface, Storage))
-        return [contexts, groups, textures, 0, 0, 0, surfaces, storages, 0, 0, self.live()]
+        contexts, groups, textures, buffers, surfaces, storages = (len(self.alive(kind)) for kind in (Context, Group, Texture, Buffer, Surface, Storage))
+        return [contexts, groups, textures, buffers, 0, 0, surfaces, storages, 0, 0, self.live()]
 
     def of(self, display, number, kind):
         home, thing = self.handles.get(number, (None, None))
@@ -534,24 +549,30 @@ class GlCalls(Objects):
     def glGetIntegerv(self, context, which, index):
         values = dict(context.boxes)
         values |= {"GL_PACK_ALIGNMENT": [context.pack], "GL_UNPACK_ALIGNMENT": [context.unpack], "GL_MAX_TEXTURE_SIZE": [LONGEST], "GL_TEXTURE_BINDING_2D": [context.name]}
-        values |= {binding: [0] for binding in ("GL_ARRAY_BUFFER_BINDING", "GL_ELEMENT_ARRAY_BUFFER_BINDING", "GL_FRAMEBUFFER_BINDING_OES", "GL_RENDERBUFFER_BINDING_OES")}
+        values |= {binding: [context.buffers.get(target, (0, None))[0]] for target, binding in BUFFER_BINDINGS.items()}
+        values |= {binding: [0] for binding in ("GL_FRAMEBUFFER_BINDING_OES", "GL_RENDERBUFFER_BINDING_OES")}
         refuse((which not in values, ENUM))
         refuse((not 0 <= index < len(values[which]), VALUE))
         return values[which][index]
 
 
+def generated(names, count):
+    """The smallest unused names, which are used from then on."""
+    refuse((not 0 <= count <= MOST_NAMES, VALUE))
+    given, name = [], 1
+    while len(given) < count:
+        if name not in names:
+            given.append(name)
+        name += 1
+    names.update(dict.fromkeys(given))
+    return 0, given, b""
+
+
 class TextureCalls(Objects):
-    """The calls on names and on textures."""
+    """The calls on names of textures and on textures."""
 
     def glGenTextures(self, context, count):
-        refuse((not 0 <= count <= MOST_NAMES, VALUE))
-        names, given, name = context.group.names, [], 1
-        while len(given) < count:
-            if name not in names:
-                given.append(name)
-            name += 1
-        names.update(dict.fromkeys(given))
-        return 0, given, b""
+        return generated(context.group.names, count)
 
     def glDeleteTextures(self, context, names):
         for name in names:
@@ -649,7 +670,61 @@ class TextureCalls(Objects):
         return 0
 
 
-class Model(EglCalls, GlCalls, TextureCalls):
+class BufferCalls(Objects):
+    """The calls on names of buffers and on buffers."""
+
+    def glGenBuffers(self, context, count):
+        return generated(context.group.buffers, count)
+
+    def glDeleteBuffers(self, context, names):
+        for name in names:
+            buffer = context.group.buffers.pop(name, None)
+            if buffer:
+                context.buffers = {target: bound for target, bound in context.buffers.items() if bound[1] is not buffer}
+        return 0
+
+    def glIsBuffer(self, context, name):
+        return 1 if context.group.buffers.get(name) else 0
+
+    def glBindBuffer(self, context, target, name):
+        refuse((target not in BUFFER_BINDINGS, ENUM), (name < 0, VALUE))
+        context.buffers.pop(target, None)
+        if name:
+            names = context.group.buffers
+            if not names.get(name):
+                names[name] = Buffer()
+            context.buffers[target] = name, names[name]
+        return 0
+
+    def glBufferData(self, context, target, size, usage, payload):
+        refuse((target not in BUFFER_BINDINGS, ENUM), (usage not in USAGES, ENUM), (size < 0, VALUE), (target not in context.buffers, OPERATION))
+        refuse((self.live() + size > self.video, MEMORY))
+        buffer = context.buffers[target][1]
+        buffer.data, buffer.usage = spelled_out(payload, size), usage
+        return 0
+
+    def part(self, context, target, offset, size):
+        """The buffer of which a part is named."""
+        refuse((target not in BUFFER_BINDINGS, ENUM), (offset < 0 or size < 0, VALUE), (target not in context.buffers, OPERATION))
+        buffer = context.buffers[target][1]
+        refuse((offset + size > len(buffer.data), VALUE))
+        return buffer
+
+    def glBufferSubData(self, context, target, offset, size, payload):
+        buffer = self.part(context, target, offset, size)
+        buffer.data = buffer.data[:offset] + spelled_out(payload, size) + buffer.data[offset + size:]
+        return 0
+
+    def glGetBufferParameteriv(self, context, target, which):
+        refuse((target not in BUFFER_BINDINGS, ENUM), (which not in ("GL_BUFFER_SIZE", "GL_BUFFER_USAGE"), ENUM), (target not in context.buffers, OPERATION))
+        buffer = context.buffers[target][1]
+        return len(buffer.data) if which == "GL_BUFFER_SIZE" else buffer.usage
+
+    def readBuffer(self, context, target, offset, size):
+        return 0, [], self.part(context, target, offset, size).data[offset:offset + size]
+
+
+class Model(EglCalls, GlCalls, TextureCalls, BufferCalls):
     """What a driver answers, call by call."""
 
     def readFront(self, number):
@@ -660,7 +735,7 @@ class Model(EglCalls, GlCalls, TextureCalls):
         """A value, a list and bytes."""
         if name == "census":
             return 0, self.census(), b""
-        if name.startswith("gl"):
+        if name.startswith("gl") or name == "readBuffer":
             # Without a current context nothing is done.
             answer = getattr(self, name)(self.context(), *arguments) if self.current else 0
         else:

@@ -12,6 +12,6 @@ given None = []
 abbrev pub filled : ℕ → List ℕ → List ℕ
 filled size bytes = take size bytes ++ replicate (size - length bytes) 0
 
--- bytes over those that stand from a place on; all others stay
+-- bytes over those that stand from a place on, as far as there are any; all others stay
 unfoldable pub written : ℕ → List ℕ → List ℕ → List ℕ
-written from new old = take from old ++ new ++ drop (from + length new) old
+written from new old = take (length old) (take from old ++ new ++ drop (from + length new) old)

@@ -13,9 +13,9 @@ use std::alloc::Global;
 use std::marker::Model;
 
 /// The most bytes that a buffer has.
-const SIZE_LIMIT: u64 = 4_294_967_295;
+const SIZE_LIMIT: u64 = 2_147_483_647;
 
-/// A buffer object: its bytes, at most 4,294,967,295, and what they are meant for (OpenGL ES 1.1, section 2.9).
+/// A buffer object: its bytes, at most 2,147,483,647, and what they are meant for (OpenGL ES 1.1, section 2.9).
 #[derive(Drop)]
 pub struct Buffer {
     contents: Vec<u8>,
@@ -30,7 +30,7 @@ impl Model for Buffer {
 
     ghost view = { λ b. record { contents = b.contents.items; usage = b.usage } };
 
-    ghost invariant = { λ b. length b.contents.items ≤ 4294967295 };
+    ghost invariant = { λ b. length b.contents.items ≤ 2147483647 };
 }
 
 /// The bytes that are given, none for the null pointer.
@@ -56,7 +56,7 @@ impl Buffer {
 
     /// Replaces the contents by so many bytes, and the usage, the code of GL_STATIC_DRAW or GL_DYNAMIC_DRAW; any other is taken for the first. The first bytes are those that are given, the others, and all for the null pointer, are 0.
     ///
-    /// Want of memory, and more than 4,294,967,295 bytes, are the one refusal: all is as it was.
+    /// Want of memory, and more than 2,147,483,647 bytes, are the one refusal: all is as it was.
     pub fn data(&mut self, size: u64, usage: i64, bytes: Option<&Bytes>) -> Result<(), NoMemory>
         ensures ok { OnOk result (self.new ≡ specified size (unsigned usage) (given (option_copied bytes.entry))) }
         ensures err { OnErr result (self.new ≡ self.old) }
@@ -87,7 +87,7 @@ impl Buffer {
     /// How many bytes there are.
     pub fn size(&self) -> u64
         ensures size { result ≡ length self.now.contents }
-        ensures within { result ≤ 4294967295 }
+        ensures within { result ≤ 2147483647 }
     {
         self.contents.len() as u64
     }

@@ -6,9 +6,10 @@ use Rattle.std.proofs.lemmas.Bool.{not-false, or_parts, or_from, or_cases, and_p
 use Rattle.std.proofs.lemmas.Bool.Decides.{Decides-eqb}
 use Rattle.egl_calls.specs.Calls.{CallValue}
 use Rattle.egl_calls.specs.declared.kinds.Kind.{Kind}
-use Rattle.egl_calls.specs.declared.kinds.Kind.TheVariants.{Gl}
+use Rattle.egl_calls.specs.declared.kinds.Kind.TheVariants.{Gl, Own}
 use Rattle.egl_calls.specs.declared.kinds.GlKind.{GlKind}
-use Rattle.egl_calls.specs.declared.kinds.GlKind.TheVariants.{Clear, ReadPixels, TexImage2d, TexSubImage2d, CopyTexImage2d, CopyTexSubImage2d}
+use Rattle.egl_calls.specs.declared.kinds.GlKind.TheVariants.{Clear, ReadPixels, TexImage2d, TexSubImage2d, CopyTexImage2d, CopyTexSubImage2d, BufferData, BufferSubData}
+use Rattle.egl_calls.specs.declared.kinds.OwnKind.TheVariants.{ReadBuffer}
 use Rattle.egl_calls.specs.declared.errors.GlError.{GlError}
 use Rattle.egl_calls.specs.declared.errors.GlError.TheVariants.{OutOfMemory}
 use Rattle.egl_calls.specs.Ranges.{unsigned}
@@ -20,7 +21,8 @@ use Rattle.pixel_rows.specs.Rects.{IsInSide}
 use Rattle.call_rules.specs.GlRules.{buffer_bits, is_no_side, is_read_format, is_read_type, is_read_pair, read_format, read_type, gl_rows, gl_refusal_by, gl_refusal}
 use Rattle.call_rules.specs.TextureRules.{asked_image_rows, is_no_level_side, is_no_part, memory_row}
 use Rattle.call_rules.specs.CopyRules.{asked_copy_rows}
-use Rattle.call_rules.specs.GlAllowed.{ClearAllowed, CopyAllowed, CopyAsked, CopyPartAllowed, ImageAllowed, ImageAsked, IsSide, PartAllowed, ReadAllowed}
+use Rattle.call_rules.specs.GlAllowed.{ClearAllowed, CopyAllowed, CopyAsked, CopyPartAllowed, ImageAllowed, ImageAsked, IsSide, PartAllowed, ReadAllowed, BufferPartAllowed, DataAsked}
+use Rattle.call_rules.specs.BufferRules.{asked_data_rows, buffer_part_rows}
 use Rattle.refusal_rows.proofs.RowLaws.{all_off, first_is, first_of, from_others, none_on, past_off}
 use Rattle.call_rules.proofs.TestLaws.{not_below, is_not_below, within, past, is_past}
 
@@ -187,6 +189,32 @@ copy_part_allowed c f h n =
       rows = part_inside f.stored_height (signed c 3) (signed c 7) sides.1;
       complete = not-false _ a.1.1.1.1.0;
     }
+
+-- ---- Buffers.
+pub data_room : (c : CallValue) (f : GlFacts) → c.kind ≡ Gl BufferData → gl_refusal c f ≡ None → f.live_bytes + f.new_bytes ≤ f.video_limit
+data_room c f h n = within f.video_limit (f.live_bytes + f.new_bytes) (rows_off c f BufferData h n).1.1.1.1.0
+
+pub data_wants : (c : CallValue) (f : GlFacts) → c.kind ≡ Gl BufferData → gl_refusal c f ≡ Some OutOfMemory → DataAsked c f × (f.video_limit < f.live_bytes + f.new_bytes)
+data_wants c f h n =
+    let o = from_others is_out_of_memory OutOfMemory (asked_data_rows c f) (memory_row f ∷ []) refl (refl, (refl, (refl, (refl, tt)))) (sym (of_kind c f BufferData h) ∙ n) in
+    (o.0, past f.video_limit (f.live_bytes + f.new_bytes) (last (nat_lt f.video_limit (f.live_bytes + f.new_bytes)) OutOfMemory o.1))
+
+pub wanting_data : (c : CallValue) (f : GlFacts) → c.kind ≡ Gl BufferData → DataAsked c f × (f.video_limit < f.live_bytes + f.new_bytes) → gl_refusal c f ≡ Some OutOfMemory
+wanting_data c f h w =
+    of_kind c f BufferData h ∙ past_off (asked_data_rows c f) (memory_row f ∷ []) w.0
+    ∙ ap (λ b. first_error ((b ⇒ OutOfMemory) ∷ [])) (is_past f.video_limit (f.live_bytes + f.new_bytes) w.1)
+
+buffer_part : (c : CallValue) (f : GlFacts) → AllOff (buffer_part_rows c f) → BufferPartAllowed c f
+buffer_part c f a =
+    let o = or_parts (int_lt (signed c 1) (pos 0)) (int_lt (signed c 2) (pos 0)) a.1.0 in
+    record { offset = not_below _ _ o.0; size = not_below _ _ o.1; bound = not-false _ a.1.1.0; inside = within f.bound_size (number c 1 + number c 2) a.1.1.1.0 }
+
+pub buffer_part_allowed : (c : CallValue) (f : GlFacts) → c.kind ≡ Gl BufferSubData → gl_refusal c f ≡ None → BufferPartAllowed c f
+buffer_part_allowed c f h n = buffer_part c f (rows_off c f BufferSubData h n)
+
+pub read_buffer_allowed : (c : CallValue) (f : GlFacts) → c.kind ≡ Own ReadBuffer → gl_refusal c f ≡ None → BufferPartAllowed c f
+unfolding gl_refusal
+read_buffer_allowed c f h n = buffer_part c f (all_off (buffer_part_rows c f) (sym (ap (λ (kind : Kind). gl_refusal_by kind c f) h) ∙ n))
 
 -- ---- Any call, by its rows.
 pub refused_first : (c : CallValue) (f : GlFacts) (k : GlKind) (e : GlError) → c.kind ≡ Gl k → gl_refusal c f ≡ Some e → IsFirst e (gl_rows k c f)

@@ -3,7 +3,7 @@ use Rattle.std.specs.Prelude.{◌≡◌, ◌+◌, ◌≤◌, ℤ, pos, ◌≤ℤ
 use Rattle.egl_calls.specs.Calls.{CallValue}
 use Rattle.egl_calls.specs.Ranges.{unsigned}
 use Rattle.egl_names.specs.declared.codes.TheConstants.{GL_RGB, GL_RGBA, GL_UNSIGNED_BYTE, GL_UNSIGNED_SHORT_5_6_5}
-use Rattle.egl_calls.specs.declared.places.TheConstants.{COPIED_HEIGHT, COPIED_PART_HEIGHT, COPIED_PART_WIDTH, COPIED_WIDTH, HEIGHT, IMAGE_HEIGHT, IMAGE_WIDTH, LEVEL, MASK, WIDTH, X_OFFSET, Y_OFFSET}
+use Rattle.egl_calls.specs.declared.places.TheConstants.{COPIED_HEIGHT, COPIED_PART_HEIGHT, COPIED_PART_WIDTH, COPIED_WIDTH, HEIGHT, IMAGE_HEIGHT, IMAGE_WIDTH, LEVEL, MASK, WIDTH, X_OFFSET, Y_OFFSET, BUFFER_OFFSET, BUFFER_PART_SIZE}
 use Rattle.pixel_rows.specs.Rects.{IsInSide, IsInside}
 use Rattle.texture_objects.specs.Uploads.{given_form, part_rect}
 use Rattle.call_rules.specs.declared.gl_facts.GlFacts.{GlFacts}
@@ -11,6 +11,7 @@ use Rattle.egl_calls.specs.Arguments.{number, signed}
 use Rattle.call_rules.specs.GlRules.{buffer_bits, read_format, read_type}
 use Rattle.refusal_rows.specs.Rows.{AllOff}
 use Rattle.call_rules.specs.CopyRules.{asked_copy_rows}
+use Rattle.call_rules.specs.BufferRules.{asked_data_rows}
 use Rattle.call_rules.specs.TextureRules.{asked_image_rows, is_no_level, is_no_level_side}
 
 -- glClear (OpenGL ES 1.1, section 4.2.3): the mask adds no bit to those of the buffers
@@ -75,3 +76,14 @@ pub record CopyPartAllowed (c : CallValue) (f : GlFacts) : Type 0 where
   pub columns : IsInSide (signed c X_OFFSET) (signed c COPIED_PART_WIDTH) f.stored_width
   pub rows : IsInSide (signed c Y_OFFSET) (signed c COPIED_PART_HEIGHT) f.stored_height
   pub complete : f.is_framebuffer_complete ≡ true
+
+-- glBufferData (section 2.9): nothing is wrong but that bytes may want
+abbrev pub DataAsked : CallValue → GlFacts → Type 0
+DataAsked c f = AllOff (asked_data_rows c f)
+
+-- glBufferSubData and readBuffer: a buffer is bound, and the part is one of its contents
+pub record BufferPartAllowed (c : CallValue) (f : GlFacts) : Type 0 where
+  pub offset : pos 0 ≤ℤ signed c BUFFER_OFFSET
+  pub size : pos 0 ≤ℤ signed c BUFFER_PART_SIZE
+  pub bound : f.is_bound ≡ true
+  pub inside : number c BUFFER_OFFSET + number c BUFFER_PART_SIZE ≤ f.bound_size

@@ -4,9 +4,10 @@ use Rattle.std.specs.declared.option.Option.{Option}
 use Rattle.std.specs.declared.option.Option.TheVariants.{None, Some}
 use Rattle.egl_calls.specs.Calls.{CallValue}
 use Rattle.egl_calls.specs.declared.kinds.Kind.{Kind}
-use Rattle.egl_calls.specs.declared.kinds.Kind.TheVariants.{Gl}
+use Rattle.egl_calls.specs.declared.kinds.Kind.TheVariants.{Gl, Own}
 use Rattle.egl_calls.specs.declared.kinds.GlKind.{GlKind}
-use Rattle.egl_calls.specs.declared.kinds.GlKind.TheVariants.{Flush, Finish, Clear, ReadPixels, DrawTexi, DrawTexx, GenTextures, DeleteTextures, IsTexture, BindTexture, TexParameterx, TexParameteriv, TexImage2d, TexSubImage2d, CopyTexImage2d, CopyTexSubImage2d}
+use Rattle.egl_calls.specs.declared.kinds.GlKind.TheVariants.{Flush, Finish, Clear, ReadPixels, DrawTexi, DrawTexx, GenTextures, DeleteTextures, IsTexture, BindTexture, TexParameterx, TexParameteriv, TexImage2d, TexSubImage2d, CopyTexImage2d, CopyTexSubImage2d, GenBuffers, DeleteBuffers, IsBuffer, BindBuffer, BufferData, BufferSubData, GetBufferParameteriv}
+use Rattle.egl_calls.specs.declared.kinds.OwnKind.TheVariants.{ReadBuffer}
 use Rattle.egl_calls.specs.declared.errors.GlError.{GlError}
 use Rattle.egl_calls.specs.declared.errors.GlError.TheVariants.{InvalidEnum, InvalidValue, InvalidOperation}
 use Rattle.egl_calls.specs.Ranges.{unsigned}
@@ -18,6 +19,7 @@ use Rattle.call_rules.specs.Unbuilt.{unbuilt}
 use Rattle.call_rules.specs.FramebufferRules.{framebuffer_row}
 use Rattle.call_rules.specs.CopyRules.{copy_part_rows, copy_rows}
 use Rattle.call_rules.specs.TextureRules.{count_row, crop_length_row, crop_row, image_rows, name_row, parameter_row, part_rows, texture_row}
+use Rattle.call_rules.specs.BufferRules.{bound_row, buffer_parameter_row, buffer_row, buffer_part_rows, data_rows}
 use Rattle.context_state.specs.Kinds.{context_gl_call}
 use Rattle.context_state.specs.Refusals.{context_rows}
 use Rattle.context_state.specs.declared.kinds.ContextCall.{ContextCall}
@@ -35,6 +37,8 @@ no_gl_facts = record {
   stored_width = 0;
   stored_height = 0;
   stored_base = 0;
+  is_bound = false;
+  bound_size = 0;
 }
 
 -- the bits of the buffers that glClear clears (OpenGL ES 1.1, section 4.2.3)
@@ -127,6 +131,23 @@ object_rows TexImage2d c f = image_rows c f
 object_rows TexSubImage2d c f = part_rows c f
 object_rows CopyTexImage2d c f = copy_rows c f
 object_rows CopyTexSubImage2d c f = copy_part_rows c f
+-- sections 2.9 and 6.1.12
+object_rows GenBuffers c f =
+    count_row c ∷
+    []
+object_rows DeleteBuffers c f = []
+object_rows IsBuffer c f = []
+object_rows BindBuffer c f =
+    buffer_row c ∷
+    name_row c ∷
+    []
+object_rows BufferData c f = data_rows c f
+object_rows BufferSubData c f = buffer_part_rows c f
+object_rows GetBufferParameteriv c f =
+    buffer_row c ∷
+    buffer_parameter_row c ∷
+    bound_row f ∷
+    []
 -- a call that isn't built
 object_rows k c f = unbuilt InvalidOperation
 
@@ -139,11 +160,12 @@ rows_by None k c f = object_rows k c f
 abbrev pub gl_rows : GlKind → CallValue → GlFacts → List (Row GlError)
 gl_rows k c f = rows_by (context_gl_call k) k c f
 
--- a call that isn't one of OpenGL ES has no row
+-- readBuffer has those of glBufferSubData; another call that isn't one of OpenGL ES has no row
 abbrev pub gl_refusal_by : Kind → CallValue → GlFacts → Option GlError
 gl_refusal_by (Gl k) c f = first_error (gl_rows k c f)
+gl_refusal_by (Own ReadBuffer) c f = first_error (buffer_part_rows c f)
 gl_refusal_by k c f = None
 
--- the error that a call of OpenGL ES keeps, if it is refused
+-- the error that a call of OpenGL ES or a readBuffer keeps, if it is refused
 unfoldable pub gl_refusal : CallValue → GlFacts → Option GlError
 gl_refusal c f = gl_refusal_by c.kind c f

@@ -23,6 +23,10 @@ pub struct GlFacts {
     pub stored_height: u64,
     /// The code of its base format.
     pub stored_base: u64,
+    /// The calls on what is bound to a target: it isn't the name 0.
+    pub is_bound: bool,
+    /// How many bytes a buffer has that is bound there.
+    pub bound_size: u64,
 }
 
 impl GlFacts {
@@ -40,6 +44,8 @@ impl GlFacts {
             stored_width: 0,
             stored_height: 0,
             stored_base: 0,
+            is_bound: false,
+            bound_size: 0,
         }
     }
 }

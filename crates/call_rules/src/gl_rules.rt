@@ -7,6 +7,9 @@ ghost use Rattle.call_rules.specs.GlRules.{gl_refusal, object_rows, draw_rows, d
 
 use crate::copy_rules::{copy_tex_image, copy_tex_sub_image};
 use crate::framebuffer_rules::incomplete;
+use crate::buffer_rules::{
+    buffer_data, buffer_part, not_bound, wrong_buffer_parameter, wrong_buffer_target,
+};
 use crate::gl_facts::GlFacts;
 use crate::texture_rules::{
     tex_image, tex_parameteriv, tex_sub_image, wrong_count, wrong_name, wrong_parameter,
@@ -15,7 +18,7 @@ use crate::texture_rules::{
 use context_state::context_gl_call;
 use egl_calls::arguments::signed;
 use egl_calls::places::{DRAWN_HEIGHT, DRAWN_WIDTH, MASK};
-use egl_calls::{Call, GlError, GlKind, Kind, unsigned};
+use egl_calls::{Call, GlError, GlKind, Kind, OwnKind, unsigned};
 use egl_names::codes::{
     GL_COLOR_BUFFER_BIT, GL_DEPTH_BUFFER_BIT, GL_RGB, GL_RGBA, GL_STENCIL_BUFFER_BIT,
     GL_UNSIGNED_BYTE, GL_UNSIGNED_SHORT_5_6_5,
@@ -114,11 +117,22 @@ fn object_refusal(kind: GlKind, call: &Call, facts: &GlFacts) -> Option<GlError>
         GlKind::TexSubImage2d => tex_sub_image(call, facts),
         GlKind::CopyTexImage2d => copy_tex_image(call, facts),
         GlKind::CopyTexSubImage2d => copy_tex_sub_image(call, facts),
+        GlKind::GenBuffers => first_error(&[wrong_count(call)]),
+        GlKind::DeleteBuffers => None,
+        GlKind::IsBuffer => None,
+        GlKind::BindBuffer => first_error(&[wrong_buffer_target(call), wrong_name(call)]),
+        GlKind::BufferData => buffer_data(call, facts),
+        GlKind::BufferSubData => buffer_part(call, facts),
+        GlKind::GetBufferParameteriv => first_error(&[
+            wrong_buffer_target(call),
+            wrong_buffer_parameter(call),
+            not_bound(facts),
+        ]),
         _ => unreachable!(),
     }
 }
 
-/// The error that a call of OpenGL ES keeps in its context and comes out with, and None where it isn't refused. A call of another interface has no row.
+/// The error that a call of OpenGL ES, or a `readBuffer`, keeps in its context and comes out with, and None where it isn't refused. Another call has no row.
 #[tactic(auto, unfolding(crate::specs::GlRules::gl_refusal))]
 pub fn gl_refusal(call: &Call, facts: &GlFacts) -> Option<GlError>
     requires { is_built call.now.kind ≡ true }
@@ -129,6 +143,7 @@ pub fn gl_refusal(call: &Call, facts: &GlFacts) -> Option<GlError>
             Some(own) => context_state::refusal(own, call),
             None => object_refusal(kind, call, facts),
         },
+        Kind::Own(OwnKind::ReadBuffer) => buffer_part(call, facts),
         Kind::Egl(_) | Kind::Own(_) => None,
     }
 }

@@ -25,7 +25,14 @@ fn is_object_call(kind: GlKind) -> bool
         | GlKind::TexImage2d
         | GlKind::TexSubImage2d
         | GlKind::CopyTexImage2d
-        | GlKind::CopyTexSubImage2d => true,
+        | GlKind::CopyTexSubImage2d
+        | GlKind::GenBuffers
+        | GlKind::DeleteBuffers
+        | GlKind::IsBuffer
+        | GlKind::BindBuffer
+        | GlKind::BufferData
+        | GlKind::BufferSubData
+        | GlKind::GetBufferParameteriv => true,
         _ => false,
     }
 }
@@ -69,6 +76,7 @@ pub fn is_built(kind: Kind) -> bool
         Kind::Own(OwnKind::Await) => true,
         Kind::Own(OwnKind::Census) => true,
         Kind::Own(OwnKind::ReadFront) => true,
+        Kind::Own(OwnKind::ReadBuffer) => true,
         Kind::Own(OwnKind::WaitEnd) => true,
         Kind::Own(OwnKind::Halt) => true,
         _ => false,

@@ -6,7 +6,8 @@ ghost use Rattle.egl_model.specs.Waits.{is_wait_end};
 
 use egl_calls::{Call, EglKind, GlKind, Kind, Numbers, Outcome, OwnKind, Reply, set_argument};
 use egl_names::codes::{
-    EGL_HEIGHT, EGL_SYNC_FENCE, EGL_WIDTH, GL_NEAREST, GL_PACK_ALIGNMENT, GL_RGBA, GL_TEXTURE_2D,
+    EGL_HEIGHT, EGL_SYNC_FENCE, EGL_WIDTH, GL_ARRAY_BUFFER, GL_BUFFER_SIZE,
+    GL_ELEMENT_ARRAY_BUFFER, GL_NEAREST, GL_PACK_ALIGNMENT, GL_RGBA, GL_STATIC_DRAW, GL_TEXTURE_2D,
     GL_TEXTURE_BINDING_2D, GL_TEXTURE_CROP_RECT_OES, GL_TEXTURE_MIN_FILTER, GL_UNSIGNED_BYTE,
 };
 use std::alloc::Global;
@@ -113,6 +114,14 @@ fn kind_of(place: u32) -> Kind
         46 => Kind::Gl(GlKind::TexSubImage2d),
         47 => Kind::Gl(GlKind::PixelStorei),
         48 => Kind::Gl(GlKind::GetIntegerv),
+        50 => Kind::Gl(GlKind::GenBuffers),
+        51 => Kind::Gl(GlKind::DeleteBuffers),
+        52 => Kind::Gl(GlKind::IsBuffer),
+        53 => Kind::Gl(GlKind::BindBuffer),
+        54 => Kind::Gl(GlKind::BufferData),
+        55 => Kind::Gl(GlKind::BufferSubData),
+        56 => Kind::Gl(GlKind::GetBufferParameteriv),
+        57 => Kind::Own(OwnKind::ReadBuffer),
         _ => Kind::Egl(EglKind::GetDisplay),
     }
 }
@@ -120,14 +129,14 @@ fn kind_of(place: u32) -> Kind
 const TERMINATE: u32 = 2;
 
 // Half of the calls are of the kinds that make something, draw, or make current.
-const FREQUENT: [u32; 10] = [1, 7, 13, 15, 15, 23, 32, 33, 42, 45];
+const FREQUENT: [u32; 12] = [1, 7, 13, 15, 15, 23, 32, 33, 42, 45, 53, 54];
 
 fn drawn_kind(draws: &mut Draws) -> Kind
     ensures built { is_built result ≡ true }
     ensures kind { is_wait_end result ≡ false }
 {
-    let any = draws.next(50);
-    let frequent = FREQUENT[draws.next(10) as usize];
+    let any = draws.next(58);
+    let frequent = FREQUENT[draws.next(12) as usize];
     // A display is terminated seldom, so that objects live for a while.
     if draws.next(2) == 0 && (any != TERMINATE || draws.next(16) == 0) {
         kind_of(any)
@@ -220,6 +229,22 @@ fn texture_numbers(draws: &mut Draws, kind: GlKind) -> [u32; 8] {
     }
 }
 
+// The numbers of a call on buffers: few names and small sizes, at either target.
+fn buffer_numbers(draws: &mut Draws, kind: Kind) -> [u32; 8] {
+    let target = [GL_ARRAY_BUFFER as u32, GL_ELEMENT_ARRAY_BUFFER as u32][draws.next(2) as usize];
+    let [name, offset, size] = [draws.next(8), draws.next(16), draws.next(64)];
+    match kind {
+        Kind::Gl(GlKind::GenBuffers) => [offset, 0, 0, 0, 0, 0, 0, 0],
+        Kind::Gl(GlKind::IsBuffer) => [name, 0, 0, 0, 0, 0, 0, 0],
+        Kind::Gl(GlKind::BindBuffer) => [target, name, 0, 0, 0, 0, 0, 0],
+        Kind::Gl(GlKind::BufferData) => [target, size, GL_STATIC_DRAW as u32, 0, 0, 0, 0, 0],
+        Kind::Gl(GlKind::BufferSubData) => [target, offset, name, 0, 0, 0, 0, 0],
+        Kind::Gl(GlKind::GetBufferParameteriv) => [target, GL_BUFFER_SIZE as u32, 0, 0, 0, 0, 0, 0],
+        Kind::Own(OwnKind::ReadBuffer) => [target, offset, name, 0, 0, 0, 0, 0],
+        _ => [0; 8],
+    }
+}
+
 // Those of the other calls of OpenGL ES.
 fn gl_numbers(draws: &mut Draws, kind: GlKind) -> [u32; 8] {
     let [one, two, three, four] = [
@@ -235,6 +260,12 @@ fn gl_numbers(draws: &mut Draws, kind: GlKind) -> [u32; 8] {
             let form = [GL_RGBA as u32, GL_UNSIGNED_BYTE as u32];
             [0, 0, three, four, form[0], form[1], 0, 0]
         }
+        GlKind::GenBuffers
+        | GlKind::IsBuffer
+        | GlKind::BindBuffer
+        | GlKind::BufferData
+        | GlKind::BufferSubData
+        | GlKind::GetBufferParameteriv => buffer_numbers(draws, Kind::Gl(kind)),
         _ => texture_numbers(draws, kind),
     }
 }
@@ -262,6 +293,7 @@ fn numbers_of(draws: &mut Draws, kind: Kind) -> [u32; 8] {
         Kind::Egl(EglKind::ClientWaitSync) => [1, sync, 0, 0, 0, 0, 0, 0],
         Kind::Egl(EglKind::WaitSync) => [1, sync, 0, 0, 0, 0, 0, 0],
         Kind::Gl(kind) => gl_numbers(draws, kind),
+        Kind::Own(OwnKind::ReadBuffer) => buffer_numbers(draws, kind),
         _ => [1, one, two, three, 0, 0, 0, 0],
     }
 }
@@ -276,7 +308,7 @@ fn list_of(alloc: Global, draws: &mut Draws, kind: Kind) -> Numbers
             draws.next(16),
             draws.next(16),
         ),
-        Kind::Gl(GlKind::DeleteTextures) => {
+        Kind::Gl(GlKind::DeleteTextures | GlKind::DeleteBuffers) => {
             four_numbers(alloc, [draws.next(8), draws.next(8), 0, 0])
         }
         Kind::Gl(GlKind::TexParameteriv) => four_numbers(alloc, [0, 0, 4, 4]),

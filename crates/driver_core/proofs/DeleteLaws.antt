@@ -1,4 +1,4 @@
--- Names of textures are deleted, and new textures get names.
+-- Names are deleted, and new objects get names.
 use Rattle.std.proofs.Common.{◌≡◌, ℕ, suc, ◌+◌, ◌<◌, ◌≤◌, ℤ, pos, negsuc, Bool, true, false, cond, List, [], ◌∷◌, ◌++◌, length, drop, drop-cons, get_or, set, refl, sym, ap, ◌∙◌, inl, inr, arith, Option, None, Some}
 use Rattle.std.specs.Prelude.{IfSome, IsSome, is_some}
 use Rattle.std.specs.Option.{option_map_or}
@@ -6,21 +6,24 @@ use Rattle.std.proofs.lemmas.Bool.{cases_eq, cases_lt, false≢true}
 use Rattle.std.proofs.lemmas.Int.{ints}
 use Rattle.std.proofs.lemmas.List.{get_or-set_other, get_or-set_same, set_past}
 use Rattle.std.proofs.Math.Seq.{get_or-append_seam}
-use Rattle.egl_names.specs.declared.codes.TheConstants.{GL_TEXTURE_BINDING_2D}
 use Rattle.egl_calls.specs.Ranges.{IsNumber, unsigned}
+use Rattle.driver_objects.specs.Links.{bound_in}
+use Rattle.driver_objects.specs.Targets.{binding_of, name_kind, slot_of}
+use Rattle.driver_objects.specs.declared.targets.BindTarget.{BindTarget}
+use Rattle.driver_objects.specs.declared.targets.BindTarget.TheVariants.{Texture as TextureTarget, ArrayBuffer, ElementArrayBuffer}
 use Rattle.driver_objects.specs.declared.contexts.Context.{Context as ContextObject}
 use Rattle.driver_objects.specs.declared.objects.Object.{Object}
 use Rattle.driver_objects.specs.declared.objects.Object.TheVariants.{Context, Group}
-use Rattle.egl_model.specs.Contexts.{new_texture}
 use Rattle.egl_model.specs.Links.{rank_in}
 use Rattle.egl_model.specs.Names.{group_of, object_named, with_name_of}
 use Rattle.egl_model.specs.Objects.{as_context, change_context, change_group, context_in, with_context, with_group}
 use Rattle.egl_model.specs.State.{State}
 use Rattle.egl_model.specs.Parts.{is_place}
 use Rattle.egl_model.specs.Sweep.{roots_of, sweep, swept}
-use Rattle.egl_model.specs.Textures.{bound_anew, bound_at, deleted_in, deleted_texture, deleted_textures, freed, named_at, unbound_in, unbound_texture}
+use Rattle.egl_model.specs.Bindings.{bound_anew, bound_at, deleted_in, deleted_name, deleted_names, freed, named_at, new_object, unbound_at, unbound_in, unbound_object}
 use Rattle.share_group.specs.Groups.{GroupValue}
-use Rattle.share_group.specs.declared.names.NameKind.TheVariants.{Texture as textures}
+use Rattle.share_group.specs.declared.names.NameKind.{NameKind}
+use Rattle.share_group.specs.declared.names.NameKind.TheVariants.{Texture as textures, Buffer as buffers, Renderbuffer as renderbuffers, Framebuffer as framebuffers}
 use Rattle.object_table.specs.Links.{IsLeft}
 use Rattle.object_table.specs.Tables.{weight_of}
 use Rattle.object_table.proofs.DeleteLaws.{left_change}
@@ -29,9 +32,9 @@ use Rattle.driver_core.specs.Costs.{IsCheap}
 use Rattle.driver_core.proofs.LevelLaws.{named_weighs}
 
 -- ---- Deleted names change the objects alone.
-pub deleted_same : (g n : ℕ) (xs : List ℤ) (s : State) → deleted_in g n xs s ≡ record s { objects = (deleted_in g n xs s).objects }
-deleted_same g n [] s = refl
-deleted_same g n (x ∷ xs) s = deleted_same g n xs (deleted_texture g n (unsigned x) s)
+pub deleted_same : (k : NameKind) (g n : ℕ) (xs : List ℤ) (s : State) → deleted_in k g n xs s ≡ record s { objects = (deleted_in k g n xs s).objects }
+deleted_same k g n [] s = refl
+deleted_same k g n (x ∷ xs) s = deleted_same k g n xs (deleted_name k g n (unsigned x) s)
 
 pub list_fits : (z : ℤ) → IsNumber z → unsigned z ≤ 4294967295
 list_fits (pos n) h = let l = h.high in omega (arith, ints, l)
@@ -41,13 +44,22 @@ list_fits (negsuc n) h = omega arith
 abbrev own_at : ℕ → Option Object → ℕ
 own_at g o = option_map_or (λ (c : ContextObject). c.group) (as_context o) g
 
-unbound_own : (g x : ℕ) (o : Option Object) → own_at g (with_context (unbound_texture x) o) ≡ own_at g o
-unbound_own g x (Some (Context c)) = cond_group (is_place x c.bound.texture) c
+same_group : (b : BindTarget) (x : ℕ) (c : ContextObject) → (unbound_at b x c).group ≡ c.group
+same_group b x c = by (is_place x (bound_in (slot_of b) c.bound))
   where
-    cond_group : (b : Bool) (c : ContextObject) → (cond b (bound_at 2 None (named_at GL_TEXTURE_BINDING_2D 0 c)) c).group ≡ c.group
-    cond_group true c = refl
-    cond_group false c = refl
-unbound_own g x o = refl
+    by : (t : Bool) → (cond t (bound_at (slot_of b) None (named_at (binding_of b) 0 c)) c).group ≡ c.group
+    by true = refl
+    by false = refl
+
+still_group : (k : NameKind) (x : ℕ) (c : ContextObject) → (unbound_object k x c).group ≡ c.group
+still_group textures x c = same_group TextureTarget x c
+still_group buffers x c = same_group ElementArrayBuffer x (unbound_at ArrayBuffer x c) ∙ same_group ArrayBuffer x c
+still_group renderbuffers x c = refl
+still_group framebuffers x c = refl
+
+unbound_own : (k : NameKind) (g x : ℕ) (o : Option Object) → own_at g (with_context (unbound_object k x) o) ≡ own_at g o
+unbound_own k g x (Some (Context c)) = still_group k x c
+unbound_own k g x o = refl
 
 group_own : (g : ℕ) (f : GroupValue → GroupValue) (o : Option Object) → own_at g (with_group f o) ≡ own_at g o
 group_own g f (Some (Group v)) = refl
@@ -62,14 +74,14 @@ own_set g n m y os h = elim (cases_eq n m) [
   | inr ne ↦ ap (own_at g) (get_or-set_other os m n y None ne)
 ]
 
-own_unbound : (g n : ℕ) (o : Option ℕ) (os : List (Option Object)) → own_at g (get_or (unbound_in n o os) n None) ≡ own_at g (get_or os n None)
+own_unbound : (k : NameKind) (g n : ℕ) (o : Option ℕ) (os : List (Option Object)) → own_at g (get_or (unbound_in k n o os) n None) ≡ own_at g (get_or os n None)
 unfolding change_context
-own_unbound g n None os = refl
-own_unbound g n (Some x) os = own_set g n n (with_context (unbound_texture x) (get_or os n None)) os (unbound_own g x (get_or os n None))
+own_unbound k g n None os = refl
+own_unbound k g n (Some x) os = own_set g n n (with_context (unbound_object k x) (get_or os n None)) os (unbound_own k g x (get_or os n None))
 
-pub own_freed : (g n name : ℕ) (o : Option ℕ) (os : List (Option Object)) → option_map_or (λ (c : ContextObject). c.group) (context_in (freed g n name o os) n) g ≡ option_map_or (λ (c : ContextObject). c.group) (context_in os n) g
+pub own_freed : (k : NameKind) (g n name : ℕ) (o : Option ℕ) (os : List (Option Object)) → option_map_or (λ (c : ContextObject). c.group) (context_in (freed k g n name o os) n) g ≡ option_map_or (λ (c : ContextObject). c.group) (context_in os n) g
 unfolding change_group
-own_freed g n name o os = own_set g n g (with_group (with_name_of textures name None) (get_or (unbound_in n o os) g None)) (unbound_in n o os) (group_own g (with_name_of textures name None) (get_or (unbound_in n o os) g None)) ∙ own_unbound g n o os
+own_freed k g n name o os = own_set g n g (with_group (with_name_of k name None) (get_or (unbound_in k n o os) g None)) (unbound_in k n o os) (group_own g (with_name_of k name None) (get_or (unbound_in k n o os) g None)) ∙ own_unbound k g n o os
 
 pub own_group : (s : State) (n : ℕ) → option_map_or (λ (c : ContextObject). c.group) (context_in s.objects n) (group_of s n) ≡ group_of s n
 own_group s n = by (context_in s.objects n)
@@ -92,22 +104,27 @@ rank_set m g y os h = elim (cases_eq m g) [
   | inr ne ↦ ap rank_in (get_or-set_other os g m y None ne)
 ]
 
-pub anew_there : (os mid : List (Option Object)) (holds : List ℕ) (g n name : ℕ) (f : GroupValue → GroupValue) → n ≡ length os → IsLeft (change_group f g (os ++ Some new_texture ∷ [])) mid → IsSome (get_or mid n None) → IfSome (Some n) (λ m. IsSome (get_or mid m None) × (rank_in (get_or mid m None) < 4))
+rank_new : (b : BindTarget) → rank_in (Some (new_object b)) ≤ 1
+rank_new TextureTarget = omega arith
+rank_new ArrayBuffer = omega arith
+rank_new ElementArrayBuffer = omega arith
+
+pub anew_there : (b : BindTarget) (os mid : List (Option Object)) (g n : ℕ) (f : GroupValue → GroupValue) → n ≡ length os → IsLeft (change_group f g (os ++ Some (new_object b) ∷ [])) mid → IsSome (get_or mid n None) → IfSome (Some n) (λ m. IsSome (get_or mid m None) × (rank_in (get_or mid m None) < 4))
 unfolding change_group
-anew_there os mid holds g n name f e is h = (
+anew_there b os mid g n f e is h = (
   h,
   elim (is.each n) [
     | inl q ↦ absurd (false≢true (sym (ap is_some q) ∙ h))
     | inr q ↦
-        let more : List (Option Object) = os ++ Some new_texture ∷ [] in
-        let r : rank_in (get_or mid n None) ≡ 1 = ap rank_in q ∙ rank_set n g (with_group f (get_or more g None)) more (group_ranks f (get_or more g None)) ∙ ap (λ k. rank_in (get_or more k None)) e ∙ ap rank_in (get_or-append_seam os (Some new_texture) [] None) in
-        omega (arith, r)
+        let more : List (Option Object) = os ++ Some (new_object b) ∷ [] in
+        let r : rank_in (get_or mid n None) ≡ rank_in (Some (new_object b)) = ap rank_in q ∙ rank_set n g (with_group f (get_or more g None)) more (group_ranks f (get_or more g None)) ∙ ap (λ k. rank_in (get_or more k None)) e ∙ ap rank_in (get_or-append_seam os (Some (new_object b)) [] None) in
+        let l = rank_new b in omega (arith, r, l)
   ],
 )
 
-pub anew_left : (os m1 m2 m3 : List (Option Object)) (g n name : ℕ) → IsLeft (change_group (with_name_of textures name (Some (length os))) g (os ++ Some new_texture ∷ [])) m1 → m2 ≡ change_context (named_at GL_TEXTURE_BINDING_2D name) n m1 → IsLeft (change_context (bound_at 2 (Some (length os))) n m2) m3 → IsLeft (bound_anew g n name os) m3
+pub anew_left : (b : BindTarget) (os m1 m2 m3 : List (Option Object)) (g n name : ℕ) → IsLeft (change_group (with_name_of (name_kind b) name (Some (length os))) g (os ++ Some (new_object b) ∷ [])) m1 → m2 ≡ change_context (named_at (binding_of b) name) n m1 → IsLeft (change_context (bound_at (slot_of b) (Some (length os))) n m2) m3 → IsLeft (bound_anew b g n name os) m3
 unfolding change_context
-anew_left os m1 m2 m3 g n name a e b = left_then _ _ m3 (left_change (with_context (bound_at 2 (Some (length os)))) refl n _ _ (left_change (with_context (named_at GL_TEXTURE_BINDING_2D name)) refl n _ m1 a)) (rw e at b)
+anew_left b os m1 m2 m3 g n name a e l = left_then _ _ m3 (left_change (with_context (bound_at (slot_of b) (Some (length os)))) refl n _ _ (left_change (with_context (named_at (binding_of b) name)) refl n _ m1 a)) (rw e at l)
 
 pub cheap_anew : (s new : State) (os m1 m2 m3 : List (Option Object)) (which name n a b c d : ℕ) → new.handles ≡ s.handles → os ≡ s.objects → b + weight_of m1 ≤ a + 3 + weight_of os → m2 ≡ change_context (named_at which name) n m1 → c + weight_of m3 ≤ b + 2 + weight_of m2 → d + weight_of new.objects ≡ c + 1 + weight_of m3 → IsCheap s new a d
 cheap_anew s new os m1 m2 m3 which name n a b c d h o x e y z = inr (omega (arith, ap length h, ap weight_of o, x, ap weight_of e, named_weighs which name n m1, y, z))
@@ -119,16 +136,16 @@ pub cheap_freed : (s new : State) (a b : ℕ) → new.handles ≡ s.handles → 
 cheap_freed s new a b h l = inr (omega (arith, ap length h, l))
 
 -- ---- One name after another.
-pub delete_step : (g n i : ℕ) (xs : List ℤ) (s w : State) (m : ℕ) → m ≡ unsigned (get_or xs i (pos 0)) → i < length xs → deleted_in g n (drop i xs) w ≡ deleted_in g n xs s → (new : List (Option Object)) → IsLeft (deleted_texture g n m w).objects new → option_map_or (λ (c : ContextObject). c.group) (context_in w.objects n) g ≡ g → (v : State) × ((deleted_in g n (drop (i + 1) xs) v ≡ deleted_in g n xs s) × (IsLeft v.objects new × (option_map_or (λ (c : ContextObject). c.group) (context_in v.objects n) g ≡ g)))
-delete_step g n i xs s w m e l h new is own =
-    let d : drop i xs ≡ get_or xs i (pos 0) ∷ drop (i + 1) xs = drop-cons xs i (pos 0) l ∙ ap (λ k. get_or xs i (pos 0) ∷ drop k xs) (let q : suc i ≡ i + 1 = omega arith in q) in
-    let first : deleted_in g n (drop i xs) w ≡ deleted_in g n (drop (i + 1) xs) (deleted_texture g n (unsigned (get_or xs i (pos 0))) w) = ap (λ ys. deleted_in g n ys w) d in
-    let same : deleted_in g n (drop (i + 1) xs) (deleted_texture g n m w) ≡ deleted_in g n (drop (i + 1) xs) (deleted_texture g n (unsigned (get_or xs i (pos 0))) w) = ap (λ k. deleted_in g n (drop (i + 1) xs) (deleted_texture g n k w)) e in
-    (deleted_texture g n m w, (same ∙ sym first ∙ h, (is, own_freed g n m (object_named w g textures m) w.objects ∙ own)))
+pub delete_step : (k : NameKind) (g n i : ℕ) (xs : List ℤ) (s w : State) (m : ℕ) → m ≡ unsigned (get_or xs i (pos 0)) → i < length xs → deleted_in k g n (drop i xs) w ≡ deleted_in k g n xs s → (new : List (Option Object)) → IsLeft (deleted_name k g n m w).objects new → option_map_or (λ (c : ContextObject). c.group) (context_in w.objects n) g ≡ g → (v : State) × ((deleted_in k g n (drop (i + 1) xs) v ≡ deleted_in k g n xs s) × (IsLeft v.objects new × (option_map_or (λ (c : ContextObject). c.group) (context_in v.objects n) g ≡ g)))
+delete_step k g n i xs s w m e l h new is own =
+    let d : drop i xs ≡ get_or xs i (pos 0) ∷ drop (i + 1) xs = drop-cons xs i (pos 0) l ∙ ap (λ j. get_or xs i (pos 0) ∷ drop j xs) (let q : suc i ≡ i + 1 = omega arith in q) in
+    let first : deleted_in k g n (drop i xs) w ≡ deleted_in k g n (drop (i + 1) xs) (deleted_name k g n (unsigned (get_or xs i (pos 0))) w) = ap (λ ys. deleted_in k g n ys w) d in
+    let same : deleted_in k g n (drop (i + 1) xs) (deleted_name k g n m w) ≡ deleted_in k g n (drop (i + 1) xs) (deleted_name k g n (unsigned (get_or xs i (pos 0))) w) = ap (λ j. deleted_in k g n (drop (i + 1) xs) (deleted_name k g n j w)) e in
+    (deleted_name k g n m w, (same ∙ sym first ∙ h, (is, own_freed k g n m (object_named w g k m) w.objects ∙ own)))
 
 -- what is left of all names freed is what the sweep of that leaves
-pub deleted_swept : (s : State) (n : ℕ) (xs : List ℤ) (left : List (Option Object)) → left ≡ swept (roots_of s.handles s.threads) (deleted_textures s n xs).objects → record s { objects = left } ≡ sweep (deleted_textures s n xs)
-deleted_swept s n xs left e =
+pub deleted_swept : (k : NameKind) (s : State) (n : ℕ) (xs : List ℤ) (left : List (Option Object)) → left ≡ swept (roots_of s.handles s.threads) (deleted_names k s n xs).objects → record s { objects = left } ≡ sweep (deleted_names k s n xs)
+deleted_swept k s n xs left e =
     let g = group_of s n in
-    let same : deleted_textures s n xs ≡ record s { objects = (deleted_in g n xs s).objects } = deleted_same g n xs s in
+    let same : deleted_names k s n xs ≡ record s { objects = (deleted_in k g n xs s).objects } = deleted_same k g n xs s in
     ap (λ (os : List (Option Object)). record s { objects = os }) e ∙ sym (ap sweep same)

@@ -11,7 +11,8 @@ use Rattle.std.proofs.Common.{get_or}
 use Rattle.egl_model.specs.Links.{rank_in}
 use Rattle.egl_model.specs.Objects.{change_context, storage_in, with_context}
 use Rattle.egl_model.specs.GlFacts.{gl_refusal, no_framebuffer, part_facts, stored_facts}
-use Rattle.egl_model.specs.Textures.{level_of, level_storage, named_at}
+use Rattle.egl_model.specs.Bindings.{named_at}
+use Rattle.egl_model.specs.Textures.{level_of, level_storage}
 use Rattle.std.specs.Option.{option_and_then, option_map_or}
 use Rattle.egl_calls.specs.Calls.{CallValue}
 use Rattle.egl_calls.specs.Ranges.{unsigned}

@@ -1,19 +1,34 @@
 //! Names of share groups (OpenGL ES 1.1, section 3.7.11).
-ghost use Rattle.std.specs.Prelude.{◌≡◌, ◌-◌, ◌<◌, ◌≤◌, [], map, pos, false, length, All, IfOk, IfSome, OnErr, OnOk, None, vec_capacity, vec_len};
+ghost use Rattle.std.specs.Prelude.{◌≡◌, ◌+◌, ◌-◌, ◌<◌, ◌≤◌, [], map, pos, false, length, slice_index_or, All, IfOk, IfSome, OnErr, OnOk, None, Some, vec_capacity, vec_len};
+ghost use Rattle.std.specs.Option.{option_map_or};
+ghost use Rattle.driver_core.specs.Costs.{IsCheap};
 ghost use Rattle.driver_core.specs.Groups.{IsGroup};
-ghost use Rattle.egl_calls.specs.Ranges.{IsNumber, is_client_wait};
+ghost use Rattle.driver_objects.specs.Objects.{edges_of, rank_of};
+ghost use Rattle.egl_calls.specs.Ranges.{IsNumber, is_client_wait, unsigned};
 ghost use Rattle.egl_calls.specs.declared.errors.Outcome.TheVariants.{Done};
 ghost use Rattle.egl_model.specs.Arguments.{number};
+ghost use Rattle.egl_model.specs.Bindings.{bound_anew, bound_name, bound_object, deleted_in, deleted_names, new_object};
 ghost use Rattle.egl_model.specs.Names.{generated, group_of, name_value, names_in, object_named};
+ghost use Rattle.egl_model.specs.Objects.{context_in};
+ghost use Rattle.egl_model.specs.State.{State};
 ghost use Rattle.egl_model.specs.Step.{bare, done};
+ghost use Rattle.egl_model.specs.Sweep.{sweep};
+ghost use Rattle.object_table.specs.Links.{IsLeft};
+ghost use Rattle.object_table.specs.Tables.{weight_of};
 ghost use Rattle.share_group.specs.Names.{given};
 
+use crate::contexts::new_texture;
 use crate::machine::Driver;
 use crate::replies::listed_with;
-use egl_calls::places::COUNT;
+use buffer_objects::Buffer;
+use driver_objects::{BindTarget, Object};
+use egl_calls::places::{BOUND_NAME, COUNT};
 use egl_calls::{Call, NoMemory, Numbers, ReplyPair, unsigned};
+use object_table::ObjectTable;
+use ref_store::Steps;
 use share_group::{Group, NameKind};
 use std::alloc::Global;
+use std::sync::ledger::Ledger;
 
 /// A name, or a number of names, that a call of OpenGL ES gives at a place.
 pub(crate) fn name_of(call: &Call, place: usize) -> u32
@@ -32,6 +47,46 @@ fn room_for(alloc: Global, count: u32) -> Result<Vec<i64>, NoMemory>
     match Vec::with_capacity(alloc, count as usize) {
         Ok(numbers) => Ok(numbers),
         Err(_) => Err(NoMemory),
+    }
+}
+
+/// What a name gets that has no object: a texture without storage, a buffer without bytes.
+fn new_object(alloc: Global, target: BindTarget) -> Object
+    ensures value { result ≡ new_object target }
+    ensures plain { edges_of result ≡ [] }
+    ensures lower { rank_of result < 3 }
+{
+    match target {
+        BindTarget::Texture => new_texture(),
+        BindTarget::ArrayBuffer | BindTarget::ElementArrayBuffer => {
+            Object::Buffer(Buffer::new(alloc))
+        }
+    }
+}
+
+/// A name that a list of a call gives at a place.
+fn listed_name(call: &Call, k: usize) -> u32
+    requires { k < length call.now.list }
+    ensures { result ≡ unsigned (slice_index_or call.now.list k (pos 0)) }
+{
+    unsigned(call.list.as_slice()[k]) as u32
+}
+
+/// Frees the names of a list, one after another, and unbinds what has them.
+fn delete_all<L: Ledger>(
+    objects: &mut ObjectTable,
+    group: u64,
+    context: u64,
+    kind: NameKind,
+    call: &Call,
+    steps: &mut Steps<L>,
+)
+    ensures objects { (s : State) → s.objects ≡ objects.old.objects → option_map_or (λ c. c.group) (context_in s.objects context) group ≡ group → IsLeft (deleted_in kind group context call.now.list s).objects objects.new.objects }
+    ensures holds { objects.new.holds ≡ objects.old.holds }
+    ensures steps { steps.new + weight_of objects.new.objects ≤ steps.old + weight_of objects.old.objects }
+{
+    'each: for k in 0..call.list.as_slice().len() {
+        objects.delete_name(group, context, kind, listed_name(call, k), steps);
     }
 }
 
@@ -103,5 +158,101 @@ impl Driver {
         let group = self.group_number(context);
         let names = self.give_names(alloc, group, kind, count)?;
         Ok(listed_with(alloc, names, room))
+    }
+
+    /// A context has an object bound to a target under a name, or nothing.
+    fn bind_object<L: Ledger>(
+        &mut self,
+        context: u64,
+        target: BindTarget,
+        object: Option<u64>,
+        name: u32,
+        steps: &mut Steps<L>,
+    )
+        requires object { IfSome object (IsGroup self.old.state.objects) }
+        ensures state { self.new ≡ record self.old { state = sweep (record self.old.state { objects = bound_object target context object name self.old.state.objects }) } }
+        ensures steps { IsCheap self.old.state self.new.state steps.old steps.new }
+    {
+        self.objects.bind_name(context, target.binding(), name);
+        self.objects.link_bound(context, target, object, steps);
+        self.objects.left();
+    }
+
+    /// Makes an object that has a name and is bound. It is held until the context refers to it.
+    fn bind_anew<L: Ledger>(
+        &mut self,
+        alloc: Global,
+        context: u64,
+        target: BindTarget,
+        name: u32,
+        steps: &mut Steps<L>,
+    ) -> Result<(), NoMemory>
+        requires name { 0 < name }
+        ensures state { OnOk result (self.new ≡ record self.old { state = sweep (record self.old.state { objects = bound_anew target (group_of self.old.state context) context name self.old.state.objects }) }) }
+        ensures steps { IsCheap self.old.state self.new.state steps.old steps.new }
+        ensures err { OnErr result (self.new ≡ self.old) }
+    {
+        let group = self.group_number(context);
+        self.objects.reserve(1)?;
+        let new = self.objects.len();
+        let first = new_object(alloc, target);
+        match self
+            .objects
+            .make_named(group, target.names(), name, first, steps)
+        {
+            Ok(()) => {
+                self.objects.held_exist();
+                self.objects.bind_name(context, target.binding(), name);
+                self.objects.link_bound(context, target, Some(new), steps);
+                self.objects.release(new, steps);
+                self.objects.left();
+                Ok(())
+            }
+            Err(NoMemory) => Err(NoMemory),
+        }
+    }
+
+    /// Binds what has a name to a target; with 0 the context's own texture, or nothing.
+    pub(crate) fn bind_name<L: Ledger>(
+        &mut self,
+        alloc: Global,
+        context: u64,
+        target: BindTarget,
+        call: &Call,
+        steps: &mut Steps<L>,
+    ) -> Result<(), NoMemory>
+        requires { is_client_wait call.now.kind ≡ false }
+        ensures state { OnOk result (self.new ≡ record self.old { state = sweep (bound_name target self.old.state context (number call.now 1)) }) }
+        ensures steps { IsCheap self.old.state self.new.state steps.old steps.new }
+        ensures err { OnErr result (self.new ≡ self.old) }
+    {
+        let name = name_of(call, BOUND_NAME);
+        if name == 0 {
+            self.bind_object(context, target, None, 0, steps);
+            return Ok(());
+        }
+        match self.object_named(context, target.names(), name) {
+            Some(object) => {
+                self.bind_object(context, target, Some(object), name, steps);
+                Ok(())
+            }
+            None => self.bind_anew(alloc, context, target, name, steps),
+        }
+    }
+
+    /// Frees names of a kind, and unbinds what has them.
+    pub(crate) fn delete_names<L: Ledger>(
+        &mut self,
+        context: u64,
+        kind: NameKind,
+        call: &Call,
+        steps: &mut Steps<L>,
+    )
+        ensures state { self.new ≡ record self.old { state = sweep (deleted_names kind self.old.state context call.now.list) } }
+        ensures steps { IsCheap self.old.state self.new.state steps.old steps.new }
+    {
+        let group = self.group_number(context);
+        delete_all(&mut self.objects, group, context, kind, call, steps);
+        self.objects.left();
     }
 }

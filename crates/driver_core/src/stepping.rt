@@ -30,9 +30,11 @@ use attrib_lists::AttribError;
 use config_match::Configs;
 use context_state::context_gl_call;
 use display_table::HandleKind;
-use egl_calls::places::ASKED_NAME;
+use driver_objects::{BindTarget, buffer_target};
+use egl_calls::arguments::number;
+use egl_calls::places::{ASKED_NAME, TARGET};
 use egl_calls::{
-    Call, EglError, EglKind, GlKind, Kind, NoMemory, Numbers, Outcome, Reply, ReplyPair,
+    Call, EglError, EglKind, GlKind, Kind, NoMemory, Numbers, Outcome, OwnKind, Reply, ReplyPair,
 };
 use ref_store::Steps;
 use share_group::NameKind;
@@ -258,6 +260,22 @@ impl Driver {
                 self.copy_part(thread, context, call)?;
                 Ok(valued(alloc, 0))
             }
+            GlKind::GenBuffers => self.generate(alloc, context, NameKind::Buffer, call),
+            GlKind::IsBuffer => {
+                let name = name_of(call, ASKED_NAME);
+                Ok(valued(alloc, self.is_name(context, NameKind::Buffer, name)))
+            }
+            GlKind::BufferData => {
+                self.set_data(context, call)?;
+                Ok(valued(alloc, 0))
+            }
+            GlKind::BufferSubData => {
+                self.set_part_of(thread, context, call);
+                Ok(valued(alloc, 0))
+            }
+            GlKind::GetBufferParameteriv => {
+                Ok(valued(alloc, self.buffer_parameter(context, call)))
+            }
             _ => unreachable!(),
         }
     }
@@ -314,11 +332,20 @@ impl Driver {
     {
         match kind {
             GlKind::BindTexture => {
-                self.bind_texture(context, call, steps)?;
+                self.bind_name(alloc, context, BindTarget::Texture, call, steps)?;
+                Ok(valued(alloc, 0))
+            }
+            GlKind::BindBuffer => {
+                let target = buffer_target(number(call, TARGET));
+                self.bind_name(alloc, context, target, call, steps)?;
                 Ok(valued(alloc, 0))
             }
             GlKind::DeleteTextures => {
-                self.delete_textures(context, call, steps);
+                self.delete_names(context, NameKind::Texture, call, steps);
+                Ok(valued(alloc, 0))
+            }
+            GlKind::DeleteBuffers => {
+                self.delete_names(context, NameKind::Buffer, call, steps);
                 Ok(valued(alloc, 0))
             }
             GlKind::TexImage2d => {
@@ -389,6 +416,7 @@ impl Driver {
         match call.kind {
             Kind::Egl(kind) => self.egl_step(alloc, thread, kind, call, steps),
             Kind::Gl(kind) => self.gl_step(alloc, thread, kind, call, steps),
+            Kind::Own(OwnKind::ReadBuffer) => self.read_buffer(alloc, thread, call),
             Kind::Own(kind) => self.own_step(alloc, thread, kind, call),
         }
     }

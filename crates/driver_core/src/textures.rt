@@ -1,34 +1,21 @@
 //! Textures (OpenGL ES 1.1, section 3.7).
-ghost use Rattle.std.specs.Prelude.{◌≡◌, ◌+◌, ◌<◌, ◌≤◌, length, pos, slice_index_or, None, Some, IfOk, IfSome, IsSome, OnErr, OnOk};
-ghost use Rattle.std.specs.Option.{option_map_or};
-ghost use Rattle.driver_core.specs.Groups.{IsGroup};
+ghost use Rattle.std.specs.Prelude.{◌≡◌, ◌<◌, length, None, Some, IfOk, OnErr, OnOk};
 ghost use Rattle.egl_calls.specs.declared.kinds.Kind.TheVariants.{Gl as GlCall};
-ghost use Rattle.egl_calls.specs.declared.kinds.GlKind.TheVariants.{BindTexture, TexImage2d, TexParameteriv, TexSubImage2d};
-ghost use Rattle.egl_calls.specs.Ranges.{unsigned};
+ghost use Rattle.egl_calls.specs.declared.kinds.GlKind.TheVariants.{TexImage2d, TexParameteriv, TexSubImage2d};
 ghost use Rattle.pixel_rows.specs.Transfers.{IsAlignment};
 ghost use Rattle.texture_objects.specs.Uploads.{IsImageCall};
 ghost use Rattle.egl_model.specs.Arguments.{number};
 ghost use Rattle.egl_model.specs.GlFacts.{gl_refusal};
 ghost use Rattle.egl_model.specs.Sweep.{sweep};
-ghost use Rattle.egl_model.specs.Names.{group_of};
-ghost use Rattle.egl_model.specs.Objects.{context_in};
-ghost use Rattle.egl_model.specs.State.{State};
-ghost use Rattle.egl_model.specs.Textures.{bound_anew, bound_texture, bound_texture_name, deleted_in, deleted_textures, has_no_side, level_of, level_storage, new_level, rewritten_part, set_crop, set_parameter, specified, target_texture, unpack_alignment};
-ghost use Rattle.object_table.specs.Links.{IsLeft};
-ghost use Rattle.object_table.specs.Tables.{weight_of};
+ghost use Rattle.egl_model.specs.Textures.{has_no_side, level_of, level_storage, new_level, rewritten_part, set_crop, set_parameter, specified, target_texture, unpack_alignment};
 ghost use Rattle.driver_core.specs.Costs.{IsCheap};
 
-use crate::contexts::new_texture;
 use crate::machine::Driver;
-use crate::names::name_of;
 use driver_objects::{Object, Storage};
 use egl_calls::arguments::number;
-use egl_calls::places::{BOUND_NAME, IMAGE_HEIGHT, IMAGE_WIDTH, LEVEL};
-use egl_calls::{Call, NoMemory, unsigned};
-use egl_names::codes::GL_TEXTURE_BINDING_2D;
-use object_table::{ObjectTable, TEXTURE_SLOT};
+use egl_calls::places::{IMAGE_HEIGHT, IMAGE_WIDTH, LEVEL};
+use egl_calls::{Call, NoMemory};
 use ref_store::Steps;
-use share_group::NameKind;
 use std::alloc::Global;
 use std::sync::ledger::Ledger;
 use texture_objects::tex_image;
@@ -51,31 +38,6 @@ fn new_level(alloc: Global, call: &Call, align: u32) -> Result<Option<Storage>, 
     match tex_image(alloc, call, align)?.freeze() {
         Ok(image) => Ok(Some(Storage::new(image))),
         Err(_) => Err(NoMemory),
-    }
-}
-
-/// A name that a list of a call gives at a place.
-fn listed_name(call: &Call, k: usize) -> u32
-    requires { k < length call.now.list }
-    ensures { result ≡ unsigned (slice_index_or call.now.list k (pos 0)) }
-{
-    unsigned(call.list.as_slice()[k]) as u32
-}
-
-/// Frees the names of textures of a list, one after another, and unbinds what has them.
-fn delete_all<L: Ledger>(
-    objects: &mut ObjectTable,
-    group: u64,
-    context: u64,
-    call: &Call,
-    steps: &mut Steps<L>,
-)
-    ensures objects { (s : State) → s.objects ≡ objects.old.objects → option_map_or (λ c. c.group) (context_in s.objects context) group ≡ group → IsLeft (deleted_in group context call.now.list s).objects objects.new.objects }
-    ensures holds { objects.new.holds ≡ objects.old.holds }
-    ensures steps { steps.new + weight_of objects.new.objects ≤ steps.old + weight_of objects.old.objects }
-{
-    'each: for k in 0..call.list.as_slice().len() {
-        objects.delete_texture(group, context, listed_name(call, k), steps);
     }
 }
 
@@ -127,97 +89,6 @@ impl Driver {
             Some(texture) => self.set_crop_of(texture, call),
             None => (),
         }
-    }
-
-    /// A context has an object bound as its texture under a name, or nothing.
-    fn bind_object<L: Ledger>(
-        &mut self,
-        context: u64,
-        object: Option<u64>,
-        name: u32,
-        steps: &mut Steps<L>,
-    )
-        requires object { IfSome object (IsGroup self.old.state.objects) }
-        ensures state { self.new ≡ record self.old { state = sweep (record self.old.state { objects = bound_texture context object name self.old.state.objects }) } }
-        ensures steps { IsCheap self.old.state self.new.state steps.old steps.new }
-    {
-        self.objects.bind_name(context, GL_TEXTURE_BINDING_2D, name);
-        self.objects
-            .link_bound(context, TEXTURE_SLOT, object, steps);
-        self.objects.left();
-    }
-
-    /// Makes a texture that has a name and is bound. It is held until the context refers to it.
-    fn bind_anew<L: Ledger>(
-        &mut self,
-        context: u64,
-        name: u32,
-        steps: &mut Steps<L>,
-    ) -> Result<(), NoMemory>
-        requires name { 0 < name }
-        ensures state { OnOk result (self.new ≡ record self.old { state = sweep (record self.old.state { objects = bound_anew (group_of self.old.state context) context name self.old.state.objects }) }) }
-        ensures steps { IsCheap self.old.state self.new.state steps.old steps.new }
-        ensures err { OnErr result (self.new ≡ self.old) }
-    {
-        let group = self.group_number(context);
-        self.objects.reserve(1)?;
-        let new = self.objects.len();
-        match self
-            .objects
-            .make_named(group, NameKind::Texture, name, new_texture(), steps)
-        {
-            Ok(()) => {
-                self.objects.held_exist();
-                self.objects.bind_name(context, GL_TEXTURE_BINDING_2D, name);
-                self.objects
-                    .link_bound(context, TEXTURE_SLOT, Some(new), steps);
-                self.objects.release(new, steps);
-                self.objects.left();
-                Ok(())
-            }
-            Err(NoMemory) => Err(NoMemory),
-        }
-    }
-
-    /// Binds what has a name, or with 0 the context's own texture.
-    pub(crate) fn bind_texture<L: Ledger>(
-        &mut self,
-        context: u64,
-        call: &Call,
-        steps: &mut Steps<L>,
-    ) -> Result<(), NoMemory>
-        requires kind { call.now.kind ≡ GlCall BindTexture }
-        ensures state { OnOk result (self.new ≡ record self.old { state = sweep (bound_texture_name self.old.state context (number call.now 1)) }) }
-        ensures steps { IsCheap self.old.state self.new.state steps.old steps.new }
-        ensures err { OnErr result (self.new ≡ self.old) }
-    {
-        let name = name_of(call, BOUND_NAME);
-        if name == 0 {
-            self.bind_object(context, None, 0, steps);
-            return Ok(());
-        }
-        match self.object_named(context, NameKind::Texture, name) {
-            Some(texture) => {
-                self.bind_object(context, Some(texture), name, steps);
-                Ok(())
-            }
-            None => self.bind_anew(context, name, steps),
-        }
-    }
-
-    /// Frees names of textures, and unbinds what has them.
-    pub(crate) fn delete_textures<L: Ledger>(
-        &mut self,
-        context: u64,
-        call: &Call,
-        steps: &mut Steps<L>,
-    )
-        ensures state { self.new ≡ record self.old { state = sweep (deleted_textures self.old.state context call.now.list) } }
-        ensures steps { IsCheap self.old.state self.new.state steps.old steps.new }
-    {
-        let group = self.group_number(context);
-        delete_all(&mut self.objects, group, context, call, steps);
-        self.objects.left();
     }
 
     /// Takes a level's storage from a texture.

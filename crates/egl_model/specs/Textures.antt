@@ -2,87 +2,19 @@
 use Rattle.std.specs.Prelude.{ℕ, ◌*◌, ℤ, Bool, ◌||◌, ◌==◌, List, [], ◌∷◌, ◌++◌, length, min, if◌then◌else◌, slice_index_or, slice_set, unwrap_or, Option, None, Some}
 use Rattle.std.specs.Option.{option_and_then, option_map, option_map_or}
 use Rattle.egl_calls.specs.Calls.{CallValue}
-use Rattle.egl_calls.specs.Ranges.{unsigned}
 use Rattle.egl_calls.specs.declared.places.TheConstants.{IMAGE_HEIGHT, IMAGE_WIDTH, LEVEL}
-use Rattle.egl_names.specs.declared.codes.TheConstants.{GL_TEXTURE_BINDING_2D}
-use Rattle.context_state.specs.Bindings.{with_name}
-use Rattle.context_state.specs.Parts.{PartValue}
 use Rattle.pixel_formats.specs.Formats.{bytes_of}
 use Rattle.pixel_rows.specs.Images.{frozen}
 use Rattle.texture_objects.specs.Textures.{with_parameter}
 use Rattle.texture_objects.specs.Uploads.{data_form, uploaded}
-use Rattle.share_group.specs.declared.names.NameKind.TheVariants.{Texture as textures}
-use Rattle.driver_objects.specs.Links.{bound_with}
 use Rattle.driver_objects.specs.Storages.{StorageValue, rewritten_storage, stored}
-use Rattle.driver_objects.specs.declared.contexts.Context.{Context as ContextObject}
 use Rattle.driver_objects.specs.declared.textures.BackedTexture.{BackedTexture}
 use Rattle.driver_objects.specs.declared.objects.Object.{Object}
 use Rattle.driver_objects.specs.declared.objects.Object.TheVariants.{Storage}
 use Rattle.egl_model.specs.State.{State}
 use Rattle.egl_model.specs.Arguments.{number}
-use Rattle.egl_model.specs.Contexts.{new_texture}
 use Rattle.egl_model.specs.Currents.{part_of_context}
-use Rattle.egl_model.specs.Names.{group_of, object_named, with_name_of}
-use Rattle.egl_model.specs.Objects.{change_context, change_group, change_storage, change_texture, context_in, texture_in}
-use Rattle.egl_model.specs.Parts.{is_place}
-
--- ---- What a context has bound.
--- a context with an object bound in a slot
-abbrev pub bound_at : ℕ → Option ℕ → ContextObject → ContextObject
-bound_at slot o c = record c { bound = bound_with slot o c.bound }
-
--- a context that has bound a name, which it keeps for itself and its part has too
-abbrev pub name_in_part : ℕ → ℕ → PartValue → PartValue
-name_in_part which name p = record p { bound = with_name which name p.bound }
-
-abbrev pub named_at : ℕ → ℕ → ContextObject → ContextObject
-named_at which name c = record c { names = with_name which name c.names; part = option_map (name_in_part which name) c.part }
-
--- the slot of a context for the texture that it has bound
-abbrev pub texture_slot : ℕ
-texture_slot = 2
-
--- glBindTexture: a context has an object bound under a name
-abbrev pub bound_texture : ℕ → Option ℕ → ℕ → List (Option Object) → List (Option Object)
-bound_texture n o name os = change_context (bound_at texture_slot o) n (change_context (named_at GL_TEXTURE_BINDING_2D name) n os)
-
--- a new texture gets a name, and is bound
-abbrev pub bound_anew : ℕ → ℕ → ℕ → List (Option Object) → List (Option Object)
-bound_anew g n name os =
-    bound_texture n (Some (length os)) name (change_group (with_name_of textures name (Some (length os))) g (os ++ Some new_texture ∷ []))
-
-abbrev pub bound_named : ℕ → ℕ → ℕ → Option ℕ → State → State
-bound_named g n name (Some x) s = record s { objects = bound_texture n (Some x) name s.objects }
-bound_named g n name None s = record s { objects = bound_anew g n name s.objects }
-
--- what has the name is bound, and is made where there is nothing; 0 is the context's own texture
-abbrev pub bound_texture_name : State → ℕ → ℕ → State
-bound_texture_name s n name =
-    if name == 0 then record s { objects = bound_texture n None 0 s.objects }
-    else bound_named (group_of s n) n name (object_named s (group_of s n) textures name) s
-
--- ---- glDeleteTextures.
--- a context that has the texture bound has its texture 0 bound
-abbrev pub unbound_texture : ℕ → ContextObject → ContextObject
-unbound_texture x c = if is_place x c.bound.texture then bound_at texture_slot None (named_at GL_TEXTURE_BINDING_2D 0 c) else c
-
-abbrev pub unbound_in : ℕ → Option ℕ → List (Option Object) → List (Option Object)
-unbound_in n None os = os
-unbound_in n (Some x) os = change_context (unbound_texture x) n os
-
--- a name is freed, and what had it is unbound in the caller's context
-abbrev pub freed : ℕ → ℕ → ℕ → Option ℕ → List (Option Object) → List (Option Object)
-freed g n name o os = change_group (with_name_of textures name None) g (unbound_in n o os)
-
-abbrev pub deleted_texture : ℕ → ℕ → ℕ → State → State
-deleted_texture g n name s = record s { objects = freed g n name (object_named s g textures name) s.objects }
-
-abbrev pub deleted_in : ℕ → ℕ → List ℤ → State → State
-deleted_in g n [] s = s
-deleted_in g n (x ∷ xs) s = deleted_in g n xs (deleted_texture g n (unsigned x) s)
-
-abbrev pub deleted_textures : State → ℕ → List ℤ → State
-deleted_textures s n xs = deleted_in (group_of s n) n xs s
+use Rattle.egl_model.specs.Objects.{change_storage, change_texture, context_in, texture_in}
 
 -- ---- The texture on which calls work: what the context has bound, or its texture 0.
 abbrev pub target_texture : State → ℕ → Option ℕ

@@ -11,6 +11,9 @@ pub mod WantLaws
 pub mod WantedHandles
 pub mod WaitOutcomes
 pub mod TextureLaws
+pub mod NameLaws
+pub mod DeletionLaws
+pub mod BufferLaws
 pub mod PixelLaws
 pub mod LinkLaws
 pub mod LinkedSteps
@@ -39,7 +42,9 @@ pub mod GlCalls
 pub mod Named
 pub mod NewObjects
 pub mod LinkSetters
+pub mod NameCalls
 pub mod TextureCalls
+pub mod BufferCalls
 pub mod DrawCalls
 pub mod CopyCalls
 pub mod EglCalls

@@ -6,11 +6,14 @@ use Rattle.std.specs.Option.{option_map, option_map_or}
 use Rattle.std.proofs.lemmas.Bool.{cond_both}
 use Rattle.context_state.specs.Parts.{PartValue}
 use Rattle.pixel_rows.specs.Images.{ImageValue}
-use Rattle.driver_objects.specs.Links.{linked_names}
+use Rattle.driver_objects.specs.Links.{bound_in, linked_names}
+use Rattle.driver_objects.specs.Targets.{binding_of, name_kind, slot_of}
+use Rattle.driver_objects.specs.declared.targets.BindTarget.{BindTarget}
+use Rattle.driver_objects.specs.declared.targets.BindTarget.TheVariants.{Texture as TextureTarget, ArrayBuffer, ElementArrayBuffer}
 use Rattle.driver_objects.specs.Objects.{filled}
 use Rattle.driver_objects.specs.declared.contexts.Context.{Context as ContextObject}
 use Rattle.driver_objects.specs.declared.kinds.ObjectKind.{ObjectKind}
-use Rattle.driver_objects.specs.declared.kinds.ObjectKind.TheVariants.{Storage as a_storage, Texture as a_texture}
+use Rattle.driver_objects.specs.declared.kinds.ObjectKind.TheVariants.{Storage as a_storage}
 use Rattle.driver_objects.specs.declared.objects.Object.{Object}
 use Rattle.driver_objects.specs.declared.objects.Object.TheVariants.{Context, Group, Texture, Storage}
 use Rattle.driver_objects.specs.declared.textures.BackedTexture.{BackedTexture}
@@ -19,7 +22,6 @@ use Rattle.share_group.specs.Names.{after, fresh, is_of, object_in, object_of, p
 use Rattle.share_group.specs.declared.names.Name.{Name}
 use Rattle.share_group.specs.declared.names.NameKind.{NameKind}
 use Rattle.share_group.specs.declared.names.NameKind.TheVariants.{Texture as textures, Buffer as buffers, Renderbuffer as renderbuffers, Framebuffer as framebuffers}
-use Rattle.egl_names.specs.declared.codes.TheConstants.{GL_TEXTURE_BINDING_2D}
 use Rattle.egl_model.specs.Currents.{has_context}
 use Rattle.model_laws.specs.Full.{Full}
 use Rattle.egl_model.specs.Graph.{is_in}
@@ -29,7 +31,8 @@ use Rattle.egl_model.specs.Parts.{is_place, set_image, set_part}
 use Rattle.model_laws.specs.Shapes.{Goes, IsFree, Leads, Shape, pixels_in, slots_in}
 use Rattle.model_laws.specs.Slots.{level_slots, name_slots, slots_of}
 use Rattle.egl_model.specs.State.{State}
-use Rattle.egl_model.specs.Textures.{bound_at, name_in_part, named_at, unbound_texture, with_crop, with_level, with_value}
+use Rattle.egl_model.specs.Bindings.{bound_at, name_in_part, named_at, unbound_object, unbound_at}
+use Rattle.egl_model.specs.Textures.{with_crop, with_level, with_value}
 use Rattle.model_laws.proofs.Moves.{NoneElse, Setter, Suits, body_in}
 use Rattle.model_laws.proofs.Slots.{group_parts, group_whole, in_cases, in_left, in_right}
 
@@ -126,24 +129,29 @@ setter-bound slot b = record { body = body; full = full }
     full (Some (Context c)) f = f
     full o f = f
 
-pub suits-bound_texture : (t : ℕ) (sh : List (Option Shape)) (s : State) (n : ℕ) (b : Option ℕ) → Goes sh a_texture b → Suits t sh s n (with_context (bound_at 2 b))
-suits-bound_texture t sh s n b g = record { leads = leads; pixels = λ o k i. inl (ap (is_in k) (sym (looks o)) ∙ i); part = inl past_part; image = inl past_image }
+leads-bound : (sh : List (Option Shape)) (b : BindTarget) (o : Option ℕ) → Goes sh (kind_named (name_kind b)) o → (c : ContextObject) → Leads sh (slots_of (Context c)) → Leads sh (slots_of (Context (bound_at (slot_of b) o c)))
+leads-bound sh TextureTarget o g c l = (l.0, (l.1.0, (g, l.1.1.1)))
+leads-bound sh ArrayBuffer o g c l = (l.0, (l.1.0, (l.1.1.0, (g, l.1.1.1.1))))
+leads-bound sh ElementArrayBuffer o g c l = (l.0, (l.1.0, (l.1.1.0, (l.1.1.1.0, (g, l.1.1.1.1.1)))))
+
+pub suits-bound : (t : ℕ) (sh : List (Option Shape)) (s : State) (n : ℕ) (target : BindTarget) (b : Option ℕ) → Goes sh (kind_named (name_kind target)) b → Suits t sh s n (with_context (bound_at (slot_of target) b))
+suits-bound t sh s n target b g = record { leads = leads; pixels = λ o k i. inl (ap (is_in k) (sym (looks o)) ∙ i); part = inl past_part; image = inl past_image }
   where
-    past_part : (x : Option PartValue) (o : Option Object) → set_part x (with_context (bound_at 2 b) o) ≡ with_context (bound_at 2 b) (set_part x o)
+    past_part : (x : Option PartValue) (o : Option Object) → set_part x (with_context (bound_at (slot_of target) b) o) ≡ with_context (bound_at (slot_of target) b) (set_part x o)
     past_part x (Some (Context c)) = refl
     past_part x o = refl
 
-    past_image : (y : Option ImageValue) (o : Option Object) → set_image y (with_context (bound_at 2 b) o) ≡ with_context (bound_at 2 b) (set_image y o)
+    past_image : (y : Option ImageValue) (o : Option Object) → set_image y (with_context (bound_at (slot_of target) b) o) ≡ with_context (bound_at (slot_of target) b) (set_image y o)
     past_image y (Some (Context c)) = refl
     past_image y (Some (Storage v)) = refl
     past_image y o = refl
 
-    looks : (o : Option Object) → pixels_in (with_context (bound_at 2 b) o) ≡ pixels_in o
+    looks : (o : Option Object) → pixels_in (with_context (bound_at (slot_of target) b) o) ≡ pixels_in o
     looks (Some (Context c)) = refl
     looks o = refl
 
-    leads : (o : Option Object) → Leads sh (slots_in o) → Leads sh (slots_in (with_context (bound_at 2 b) o))
-    leads (Some (Context c)) l = (l.0, (l.1.0, (g, l.1.1.1)))
+    leads : (o : Option Object) → Leads sh (slots_in o) → Leads sh (slots_in (with_context (bound_at (slot_of target) b) o))
+    leads (Some (Context c)) l = leads-bound sh target b g c l
     leads o l = l
 
 -- ---- The names that a context has bound: its part changes too.
@@ -189,16 +197,40 @@ setter-named which name = setter-renamed (named_at which name) (record { home = 
 pub suits-named : (t : ℕ) (sh : List (Option Shape)) (s : State) (n which name : ℕ) → NoneElse (has_context n) s.threads t → Suits t sh s n (with_context (named_at which name))
 suits-named t sh s n which name mine = suits-own t sh s n (named_at which name) (λ c l. l) mine
 
--- a context that lets go of a texture, if it has that bound
-pub setter-unbound : (x : ℕ) → Setter (with_context (unbound_texture x))
-setter-unbound x = setter-renamed (unbound_texture x) (record {
-  home = λ c. cond_both (is_place x c.bound.texture) _ c (λ (d : ContextObject). d.display ≡ c.display) (λ e. refl) (λ e. refl);
-  part = λ c f. cond_both (is_place x c.bound.texture) _ c (λ (d : ContextObject). is_some d.part ≡ true) (λ e. still_there GL_TEXTURE_BINDING_2D 0 c.part f) (λ e. f);
-})
+-- a context that lets go of an object, if it has that bound
+renames-at : (b : BindTarget) (x : ℕ) → Renames (unbound_at b x)
+renames-at b x = record {
+  home = λ c. cond_both (is_place x (bound_in (slot_of b) c.bound)) _ c (λ (d : ContextObject). d.display ≡ c.display) (λ e. refl) (λ e. refl);
+  part = λ c f. cond_both (is_place x (bound_in (slot_of b) c.bound)) _ c (λ (d : ContextObject). is_some d.part ≡ true) (λ e. still_there (binding_of b) 0 c.part f) (λ e. f);
+}
 
-pub suits-unbound : (t : ℕ) (sh : List (Option Shape)) (s : State) (n x : ℕ) → NoneElse (has_context n) s.threads t → Suits t sh s n (with_context (unbound_texture x))
-suits-unbound t sh s n x mine = suits-own t sh s n (unbound_texture x)
-    (λ c l. cond_both (is_place x c.bound.texture) _ c (λ (d : ContextObject). Leads sh (slots_of (Context d))) (λ e. (l.0, (l.1.0, (tt, l.1.1.1)))) (λ e. l)) mine
+renames-then : (f g : ContextObject → ContextObject) → Renames f → Renames g → Renames (λ c. g (f c))
+renames-then f g a b = record { home = λ c. b.home (f c) ∙ a.home c; part = λ c h. b.part (f c) (a.part c h) }
+
+renames-self : Renames (λ c. c)
+renames-self = record { home = λ c. refl; part = λ c h. h }
+
+renames-unbound : (k : NameKind) (x : ℕ) → Renames (unbound_object k x)
+renames-unbound textures x = renames-at TextureTarget x
+renames-unbound buffers x = renames-then (unbound_at ArrayBuffer x) (unbound_at ElementArrayBuffer x) (renames-at ArrayBuffer x) (renames-at ElementArrayBuffer x)
+renames-unbound renderbuffers x = renames-self
+renames-unbound framebuffers x = renames-self
+
+pub setter-unbound : (k : NameKind) (x : ℕ) → Setter (with_context (unbound_object k x))
+setter-unbound k x = setter-renamed (unbound_object k x) (renames-unbound k x)
+
+leads-at : (sh : List (Option Shape)) (b : BindTarget) (x : ℕ) (c : ContextObject) → Leads sh (slots_of (Context c)) → Leads sh (slots_of (Context (unbound_at b x c)))
+leads-at sh b x c l = cond_both (is_place x (bound_in (slot_of b) c.bound)) (bound_at (slot_of b) None (named_at (binding_of b) 0 c)) c (λ (d : ContextObject). Leads sh (slots_of (Context d)))
+    (λ e. leads-bound sh b None tt (named_at (binding_of b) 0 c) l) (λ e. l)
+
+leads-unbound : (sh : List (Option Shape)) (k : NameKind) (x : ℕ) (c : ContextObject) → Leads sh (slots_of (Context c)) → Leads sh (slots_of (Context (unbound_object k x c)))
+leads-unbound sh textures x c l = leads-at sh TextureTarget x c l
+leads-unbound sh buffers x c l = leads-at sh ElementArrayBuffer x (unbound_at ArrayBuffer x c) (leads-at sh ArrayBuffer x c l)
+leads-unbound sh renderbuffers x c l = l
+leads-unbound sh framebuffers x c l = l
+
+pub suits-unbound : (t : ℕ) (sh : List (Option Shape)) (s : State) (n : ℕ) (k : NameKind) (x : ℕ) → NoneElse (has_context n) s.threads t → Suits t sh s n (with_context (unbound_object k x))
+suits-unbound t sh s n k x mine = suits-own t sh s n (unbound_object k x) (leads-unbound sh k x) mine
 
 -- ---- A texture.
 pub setter-texture : (h : BackedTexture → BackedTexture) → Setter (with_texture h)

@@ -9,7 +9,7 @@ use Rattle.egl_calls.specs.declared.kinds.Kind.TheVariants.{Egl, Gl, Own as OwnC
 use Rattle.egl_calls.specs.declared.kinds.EglKind.{EglKind}
 use Rattle.egl_calls.specs.declared.kinds.EglKind.TheVariants.{GetError as EglGetError, GetDisplay, GetCurrentContext, BindApi, QueryApi, GetCurrentSurface, GetCurrentDisplay}
 use Rattle.egl_calls.specs.declared.kinds.GlKind.{GlKind}
-use Rattle.egl_calls.specs.declared.kinds.GlKind.TheVariants.{Clear, ReadPixels, TexImage2d, TexSubImage2d, CopyTexImage2d, CopyTexSubImage2d}
+use Rattle.egl_calls.specs.declared.kinds.GlKind.TheVariants.{Clear, ReadPixels, TexImage2d, TexSubImage2d, CopyTexImage2d, CopyTexSubImage2d, BufferData, BufferSubData, GetBufferParameteriv}
 use Rattle.egl_calls.specs.declared.errors.EglError.{EglError}
 use Rattle.egl_calls.specs.declared.errors.EglError.TheVariants.{Success}
 use Rattle.egl_calls.specs.declared.errors.GlError.{GlError}
@@ -236,6 +236,9 @@ local_gl_refusal s t n c TexImage2d b m = not_local m
 local_gl_refusal s t n c TexSubImage2d b m = not_local m
 local_gl_refusal s t n c CopyTexImage2d b m = not_local m
 local_gl_refusal s t n c CopyTexSubImage2d b m = not_local m
+local_gl_refusal s t n c BufferData b m = not_local m
+local_gl_refusal s t n c BufferSubData b m = not_local m
+local_gl_refusal s t n c GetBufferParameteriv b m = not_local m
 local_gl_refusal s t n c k b m = refl
 
 -- the part of the thread's context is in

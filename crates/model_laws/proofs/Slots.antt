@@ -6,7 +6,7 @@ use Rattle.std.proofs.lemmas.List.Folds.{list_any-append}
 use Rattle.driver_objects.specs.declared.kinds.ObjectKind.{ObjectKind}
 use Rattle.driver_objects.specs.declared.kinds.ObjectKind.TheVariants.{Texture as a_texture, Buffer as a_buffer, Renderbuffer as a_renderbuffer, Framebuffer as a_framebuffer, Storage as a_storage}
 use Rattle.driver_objects.specs.declared.objects.Object.{Object}
-use Rattle.driver_objects.specs.declared.objects.Object.TheVariants.{Context, Group, Texture, Surface, Storage, Sync}
+use Rattle.driver_objects.specs.declared.objects.Object.TheVariants.{Context, Group, Texture, Buffer, Surface, Storage, Sync}
 use Rattle.model_laws.specs.Slots.{Slot, ends, level_slots, name_slots, slots_of}
 use Rattle.share_group.specs.declared.names.Name.{Name}
 use Rattle.share_group.specs.Groups.{GroupValue}
@@ -65,6 +65,7 @@ falls (Group g) =
     (falls_names 3 4294967296 a_buffer g.buffers _ (omega arith)
     (falls_names 3 8589934592 a_renderbuffer g.renderbuffers _ (omega arith) (falls_all 3 12884901888 a_framebuffer g.framebuffers (omega arith))))
 falls (Texture x) = falls_levels 1 0 x.levels (omega arith)
+falls (Buffer x) = tt
 falls (Surface x) = (omega arith, tt)
 falls (Storage x) = tt
 falls (Sync x) = tt

@@ -9,7 +9,7 @@ use Rattle.egl_calls.specs.declared.kinds.Kind.TheVariants.{Egl, Gl}
 use Rattle.egl_calls.specs.declared.kinds.EglKind.{EglKind}
 use Rattle.egl_calls.specs.declared.kinds.EglKind.TheVariants.{Initialize, Terminate, CreateWindowSurface, CreatePbufferSurface, CreateContext, MakeCurrent, DestroySurface, SurfaceAttrib, DestroyContext, SwapBuffers, WaitClient, ReleaseThread, CreateSync, DestroySync, ClientWaitSync, WaitSync}
 use Rattle.egl_calls.specs.declared.kinds.GlKind.{GlKind}
-use Rattle.egl_calls.specs.declared.kinds.GlKind.TheVariants.{Flush, Finish, Clear, DrawTexi, DrawTexx, GenTextures, DeleteTextures, BindTexture, TexParameterx, TexParameteriv, TexImage2d, TexSubImage2d, CopyTexImage2d, CopyTexSubImage2d}
+use Rattle.egl_calls.specs.declared.kinds.GlKind.TheVariants.{Flush, Finish, Clear, DrawTexi, DrawTexx, GenTextures, DeleteTextures, BindTexture, TexParameterx, TexParameteriv, TexImage2d, TexSubImage2d, CopyTexImage2d, CopyTexSubImage2d, GenBuffers, DeleteBuffers, BindBuffer, BufferData, BufferSubData}
 use Rattle.egl_calls.specs.declared.errors.EglError.TheVariants.{Success}
 use Rattle.context_state.specs.Parts.{noted}
 use Rattle.context_state.specs.Kinds.{context_gl_call}
@@ -45,10 +45,14 @@ use Rattle.egl_model.specs.Flushes.{flush}
 use Rattle.egl_model.specs.Windows.{swapped}
 use Rattle.model_laws.proofs.SyncCalls.{acts-client_wait, acts-create_sync, acts-flush, acts-flushed, acts-serve}
 use Rattle.model_laws.proofs.GlCalls.{acts-clear, acts-own_part}
-use Rattle.share_group.specs.declared.names.NameKind.TheVariants.{Texture as textures}
+use Rattle.share_group.specs.declared.names.NameKind.TheVariants.{Texture as textures, Buffer as buffers}
 use Rattle.model_laws.proofs.CopyCalls.{acts-copied, acts-copied_part}
+use Rattle.driver_objects.specs.Targets.{buffer_target}
+use Rattle.driver_objects.specs.declared.targets.BindTarget.TheVariants.{Texture as TextureTarget}
 use Rattle.model_laws.proofs.DrawCalls.{acts-drawn}
-use Rattle.model_laws.proofs.TextureCalls.{acts-bound_name, acts-crop, acts-delete, acts-generated, acts-parameter, acts-rewritten, acts-specified}
+use Rattle.model_laws.proofs.NameCalls.{acts-bound_name, acts-delete, acts-generated}
+use Rattle.model_laws.proofs.BufferCalls.{acts-data, acts-part_of}
+use Rattle.model_laws.proofs.TextureCalls.{acts-crop, acts-parameter, acts-rewritten, acts-specified}
 use Rattle.model_laws.proofs.FrameMoves.{frame_self, handles_then, objects_then}
 use Rattle.model_laws.proofs.LinkLaws.{exists_marked}
 use Rattle.model_laws.proofs.LitterLaws.{no_litter-opening, no_litter-step}
@@ -86,14 +90,19 @@ object_acts s t n c Clear h r i = acts-clear s t n c i
 object_acts s t n c DrawTexi h r i = acts-drawn s t n DrawTexi c i
 object_acts s t n c DrawTexx h r i = acts-drawn s t n DrawTexx c i
 object_acts s t n c GenTextures h r i = acts-generated s t n textures (number c 0)
-object_acts s t n c DeleteTextures h r i = acts-delete s t n c.list i
-object_acts s t n c BindTexture h r i = acts-bound_name s t n (number c 1) i
+object_acts s t n c DeleteTextures h r i = acts-delete s t n textures c.list i
+object_acts s t n c BindTexture h r i = acts-bound_name s t n TextureTarget (number c 1) i
 object_acts s t n c TexParameterx h r i = acts-parameter s t n (number c 1) (number c 2)
 object_acts s t n c TexParameteriv h r i = acts-crop s t n c.list
 object_acts s t n c TexImage2d h r i = acts-specified s t n c h r i
 object_acts s t n c TexSubImage2d h r i = acts-rewritten s t n c i
 object_acts s t n c CopyTexImage2d h r i = acts-copied s t n c h r
 object_acts s t n c CopyTexSubImage2d h r i = acts-copied_part s t n c
+object_acts s t n c GenBuffers h r i = acts-generated s t n buffers (number c 0)
+object_acts s t n c DeleteBuffers h r i = acts-delete s t n buffers c.list i
+object_acts s t n c BindBuffer h r i = acts-bound_name s t n (buffer_target (number c 0)) (number c 1) i
+object_acts s t n c BufferData h r i = acts-data s t n c h r
+object_acts s t n c BufferSubData h r i = acts-part_of s t n c
 object_acts s t n c k h r i = acts_self t s
 
 acts_by : (o : Option ContextCall) (s : State) (t n : ℕ) (c : CallValue) (k : GlKind) → c.kind ≡ Gl k → gl_refusal s t n k c ≡ None → current_context s t ≡ Some n → Acts quiet t s (λ a. (effect_by o a t n k c).state)

@@ -17,17 +17,21 @@ use Rattle.egl_calls.specs.declared.kinds.Kind.TheVariants.{Egl, Gl, Own as OwnC
 use Rattle.egl_calls.specs.declared.kinds.EglKind.{EglKind}
 use Rattle.egl_calls.specs.declared.kinds.EglKind.TheVariants.{CreateWindowSurface, SwapBuffers, GetError as EglGetError, CreatePbufferSurface, MakeCurrent, GetCurrentContext, GetCurrentSurface, GetCurrentDisplay, QueryApi, QuerySurface, QueryContext, CreateSync, ClientWaitSync, WaitSync, GetSyncAttrib}
 use Rattle.egl_calls.specs.declared.kinds.GlKind.{GlKind}
-use Rattle.egl_calls.specs.declared.kinds.GlKind.TheVariants.{ReadPixels, GenTextures, IsTexture, TexImage2d, TexSubImage2d, CopyTexImage2d, CopyTexSubImage2d}
+use Rattle.egl_calls.specs.declared.kinds.GlKind.TheVariants.{ReadPixels, GenTextures, IsTexture, TexImage2d, TexSubImage2d, CopyTexImage2d, CopyTexSubImage2d, GenBuffers, IsBuffer, BufferData, BufferSubData, GetBufferParameteriv}
 use Rattle.call_rules.specs.GlRules as gl_rules
 use Rattle.context_state.specs.Kinds.{context_gl_call}
 use Rattle.context_state.specs.declared.kinds.ContextCall.{ContextCall}
 use Rattle.context_state.specs.Parts.{PartValue}
 use Rattle.share_group.specs.Names.{given}
-use Rattle.share_group.specs.declared.names.NameKind.TheVariants.{Texture as textures}
-use Rattle.egl_model.specs.GlFacts.{image_facts}
+use Rattle.share_group.specs.declared.names.NameKind.{NameKind}
+use Rattle.share_group.specs.declared.names.NameKind.TheVariants.{Texture as textures, Buffer as buffers}
+use Rattle.egl_model.specs.Buffers.{buffer_of, buffer_parameter, part_read}
+use Rattle.egl_model.specs.GlFacts.{bound_facts, buffer_facts, image_facts}
 use Rattle.egl_model.specs.Names.{generated, group_of, name_value, object_named}
 use Rattle.model_laws.proofs.CopyCalls.{blind-copy_facts, blind-copy_part_facts}
-use Rattle.model_laws.proofs.TextureCalls.{blind-group_of, blind-named, blind-names, blind-part_facts}
+use Rattle.model_laws.proofs.TextureCalls.{blind-part_facts}
+use Rattle.model_laws.proofs.BufferCalls.{blind-buffer_of}
+use Rattle.model_laws.proofs.NameCalls.{blind-group_of, blind-named, blind-names}
 use Rattle.egl_calls.specs.declared.errors.EglError.{EglError}
 use Rattle.egl_calls.specs.declared.errors.GlError.{GlError}
 use Rattle.context_state.specs.Parts.{noted}
@@ -42,6 +46,7 @@ use Rattle.egl_model.specs.EglFacts.{egl_facts, egl_refusal}
 use Rattle.model_laws.specs.Frame.{IsNone, moved_step}
 use Rattle.egl_model.specs.GlEffects.{effect_by, gl_effect, local_value, object_effect}
 use Rattle.egl_model.specs.GlFacts.{gl_refusal}
+use Rattle.egl_model.specs.Sweep.{live_bytes}
 use Rattle.model_laws.specs.Hidden.{hide, nothing}
 use Rattle.egl_model.specs.MakeCurrent.{config_of_context, config_of_surface, context_handle, current_facts, draw_handle, is_context_taken, is_surface_taken, read_handle}
 use Rattle.egl_model.specs.Objects.{storage_in, context_in}
@@ -117,13 +122,25 @@ blind-refusal : (t : ℕ) (c : CallValue) (s : State) (k : EglKind) → Blind t 
 unfolding egl_refusal
 blind-refusal t c s k w v x ne = ap (rules.egl_refusal c) (blind-facts t c s k w v x ne)
 
+blind-buffer_facts : (t n : ℕ) (c : CallValue) (s : State) → Blind t s (λ a. buffer_facts a n c)
+blind-buffer_facts t n c s w v x ne = ap bound_facts (blind-buffer_of t n c s w v x ne)
+
 blind-gl_refusal : (t n : ℕ) (c : CallValue) (s : State) (k : GlKind) → Blind t s (λ a. gl_refusal a t n k c)
 unfolding gl_refusal
 blind-gl_refusal t n c s TexImage2d w v x ne = ap (λ b. gl_rules.gl_refusal c (record (image_facts s c) { live_bytes = b })) (blind-live_bytes t s w v x ne)
 blind-gl_refusal t n c s TexSubImage2d w v x ne = ap (gl_rules.gl_refusal c) (blind-part_facts t n c s w v x ne)
 blind-gl_refusal t n c s CopyTexImage2d w v x ne = ap (gl_rules.gl_refusal c) (blind-copy_facts t c s w v x ne)
 blind-gl_refusal t n c s CopyTexSubImage2d w v x ne = ap (gl_rules.gl_refusal c) (blind-copy_part_facts t n c s w v x ne)
+blind-gl_refusal t n c s BufferData w v x ne =
+    ap (λ b. gl_rules.gl_refusal c (record (buffer_facts (put_own s v x) n c) { live_bytes = b; new_bytes = number c 1; video_limit = s.video })) (blind-live_bytes t s w v x ne)
+    ∙ ap (λ f. gl_rules.gl_refusal c (record f { live_bytes = live_bytes s.objects; new_bytes = number c 1; video_limit = s.video })) (blind-buffer_facts t n c s w v x ne)
+blind-gl_refusal t n c s BufferSubData w v x ne = ap (gl_rules.gl_refusal c) (blind-buffer_facts t n c s w v x ne)
+blind-gl_refusal t n c s GetBufferParameteriv w v x ne = ap (gl_rules.gl_refusal c) (blind-buffer_facts t n c s w v x ne)
 blind-gl_refusal t n c s k w v x ne = refl
+
+blind-buffer_refusal : (t n : ℕ) (c : CallValue) (s : State) → Blind t s (λ a. buffer_refusal a t n c)
+unfolding buffer_refusal
+blind-buffer_refusal t n c s w v x ne = ap (gl_rules.gl_refusal c) (blind-buffer_facts t n c s w v x ne)
 
 -- ---- Replies: a line for each call that answers what it reads.
 blind-egl_reply : (t : ℕ) (c : CallValue) (s : State) (k : EglKind) → Blind t s (λ a. done (egl_effect a t k c))
@@ -144,14 +161,26 @@ blind-read_pixels t n c s e w v x ne =
     ∙ ap (λ o. rows_of c (pack_alignment s n) (option_and_then (storage_in (put_own s v x).objects) o)) (blind-read t s w v x ne)
     ∙ ap (λ o. rows_of c (pack_alignment s n) o) (blind-own_storage t (read_storage s t) s (λ n e. read_alone s t n e) w v x ne)
 
+blind-generated : (t n : ℕ) (k : NameKind) (count : ℕ) (s : State) → Blind t s (λ a. done (generated a (group_of a n) k count))
+blind-generated t n k count s w v x ne =
+    ap (λ g. done (generated (put_own s v x) g k count)) (blind-group_of t n s w v x ne)
+    ∙ ap (λ xs. done (record { waits = false; value = pos 0; list = map (λ i. pos i) (given count xs); bytes = []; state = s })) (blind-names t (group_of s n) k s w v x ne)
+
+blind-is_name : (t n : ℕ) (k : NameKind) (name : ℕ) (s : State) → Blind t s (λ a. done (valued (name_value (object_named a (group_of a n) k name)) s))
+blind-is_name t n k name s w v x ne =
+    ap (λ g. done (valued (name_value (object_named (put_own s v x) g k name)) s)) (blind-group_of t n s w v x ne)
+    ∙ ap (λ o. done (valued (name_value o) s)) (blind-named t (group_of s n) k name s w v x ne)
+
+blind-buffer_reply : (t n : ℕ) (c : CallValue) (s : State) → Blind t s (λ a. done (buffer_effect a t n c))
+blind-buffer_reply t n c s w v x ne = ap (λ o. done (record { waits = false; value = pos 0; list = []; bytes = part_read c o; state = s })) (blind-buffer_of t n c s w v x ne)
+
 blind-object_reply : (t n : ℕ) (c : CallValue) (s : State) (k : GlKind) → current_context s t ≡ Some n → Blind t s (λ a. done (object_effect a t n k c))
 blind-object_reply t n c s ReadPixels e w v x ne = ap (λ b. done (record { waits = false; value = pos 0; list = []; bytes = b; state = s })) (blind-read_pixels t n c s e w v x ne)
-blind-object_reply t n c s GenTextures e w v x ne =
-    ap (λ g. done (generated (put_own s v x) g textures (number c 0))) (blind-group_of t n s w v x ne)
-    ∙ ap (λ xs. done (record { waits = false; value = pos 0; list = map (λ i. pos i) (given (number c 0) xs); bytes = []; state = s })) (blind-names t (group_of s n) textures s w v x ne)
-blind-object_reply t n c s IsTexture e w v x ne =
-    ap (λ g. done (valued (name_value (object_named (put_own s v x) g textures (number c 0))) s)) (blind-group_of t n s w v x ne)
-    ∙ ap (λ o. done (valued (name_value o) s)) (blind-named t (group_of s n) textures (number c 0) s w v x ne)
+blind-object_reply t n c s GenTextures e w v x ne = blind-generated t n textures (number c 0) s w v x ne
+blind-object_reply t n c s IsTexture e w v x ne = blind-is_name t n textures (number c 0) s w v x ne
+blind-object_reply t n c s GenBuffers e w v x ne = blind-generated t n buffers (number c 0) s w v x ne
+blind-object_reply t n c s IsBuffer e w v x ne = blind-is_name t n buffers (number c 0) s w v x ne
+blind-object_reply t n c s GetBufferParameteriv e w v x ne = ap (λ o. done (valued (unwrap_or (buffer_parameter c o) (pos 0)) s)) (blind-buffer_of t n c s w v x ne)
 blind-object_reply t n c s k e w v x ne = refl
 
 blind-reply_by : (o : Option ContextCall) (t n : ℕ) (c : CallValue) (s : State) (k : GlKind) → current_context s t ≡ Some n → Blind t s (λ a. done (effect_by o a t n k c))
@@ -190,12 +219,13 @@ by_context t v x s c k (Some n) ne w q h =
 by_buffer_rules : (t v n : ℕ) (x : Own) (s : State) (c : CallValue) (o : Option GlError) → v ≢ t → IsWhole (shapes s.objects) s → current_context s t ≡ Some n →
     after_gl_rules (put_own s v x) n o (buffer_effect (put_own s v x) t n c) ≡ moved_step (put_at (places s v) v x) (after_gl_rules s n o (buffer_effect s t n c))
 by_buffer_rules t v n x s c (Some e) ne w h = answered _ _ _ ((acts-own_part s t n (noted e) h).moved.put w v x ne)
-by_buffer_rules t v n x s c None ne w h = answered _ _ _ ((acts-swept_self s t).moved.put w v x ne)
+by_buffer_rules t v n x s c None ne w h = both_same _ _ _ _ (blind-buffer_reply t n c s w v x ne) ((acts-swept_self s t).moved.put w v x ne)
 
 by_buffer : (t v : ℕ) (x : Own) (s : State) (c : CallValue) (o : Option ℕ) → v ≢ t → IsWhole (shapes s.objects) s → current_context s t ≡ o → buffer_step_on (put_own s v x) t o c ≡ moved_step (put_at (places s v) v x) (buffer_step_on s t o c)
-unfolding buffer_refusal
 by_buffer t v x s c None ne w h = refl
-by_buffer t v x s c (Some n) ne w h = by_buffer_rules t v n x s c (buffer_refusal s t n c) ne w h
+by_buffer t v x s c (Some n) ne w h =
+    ap (λ o. after_gl_rules (put_own s v x) n o (buffer_effect (put_own s v x) t n c)) (blind-buffer_refusal t n c s w v x ne)
+    ∙ by_buffer_rules t v n x s c (buffer_refusal s t n c) ne w h
 
 by_own : (t v : ℕ) (x : Own) (s : State) (c : CallValue) (k : OwnKind) → v ≢ t → IsWhole (shapes s.objects) s → own_step (put_own s v x) t k c ≡ moved_step (put_at (places s v) v x) (own_step s t k c)
 by_own t v x s c ReadBuffer ne w = ap (λ o. buffer_step_on (put_own s v x) t o c) (blind-current t s w v x ne) ∙ by_buffer t v x s c (current_context s t) ne w refl

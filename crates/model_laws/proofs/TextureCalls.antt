@@ -1,5 +1,5 @@
--- What the calls on names and textures keep.
-use Rattle.std.proofs.Common.{◌≡◌, ℕ, zero, suc, ◌+◌, ◌||◌, ◌/◌, ◌^◌, ◌≤◌, ℤ, pos, pow_pos, ltb, true, false, ◌==◌, List, [], ◌∷◌, ◌++◌, refl, sym, ap, subst, ◌∙◌, arith, length, get_or, min, Option, None, Some}
+-- What the calls on textures keep.
+use Rattle.std.proofs.Common.{◌≡◌, ℕ, zero, suc, ◌+◌, ◌||◌, ◌/◌, ◌^◌, ◌≤◌, ℤ, pos, pow_pos, ltb, true, false, List, [], ◌∷◌, ◌++◌, refl, sym, ap, subst, ◌∙◌, arith, length, get_or, min, Option, None, Some}
 use Rattle.std.specs.Prelude.{int_lt, unwrap_or, option_to_list}
 use Rattle.std.specs.Option.{option_and_then, option_map, option_map_or}
 use Rattle.std.proofs.lemmas.Bool.{cond_both, eq-eqb, or_parts, ltb-false}
@@ -19,54 +19,33 @@ use Rattle.pixel_rows.specs.Painting.{painted}
 use Rattle.pixel_rows.specs.Payloads.{loaded}
 use Rattle.texture_objects.specs.Uploads.{uploaded}
 use Rattle.driver_objects.specs.Storages.{StorageValue, rewritten_image, storage_bytes, stored}
-use Rattle.driver_objects.specs.declared.kinds.ObjectKind.TheVariants.{Storage as a_storage, Texture as a_texture}
+use Rattle.driver_objects.specs.declared.kinds.ObjectKind.TheVariants.{Storage as a_storage}
 use Rattle.driver_objects.specs.declared.objects.Object.{Object}
 use Rattle.driver_objects.specs.declared.objects.Object.TheVariants.{Context, Storage, Texture}
-use Rattle.share_group.specs.Groups.{names_of}
-use Rattle.share_group.specs.Names.{object_of}
-use Rattle.share_group.specs.declared.names.NameKind.{NameKind}
-use Rattle.share_group.specs.declared.names.NameKind.TheVariants.{Texture as textures}
-use Rattle.egl_names.specs.declared.codes.TheConstants.{GL_TEXTURE_BINDING_2D}
-use Rattle.egl_model.specs.Contexts.{new_texture}
 use Rattle.egl_model.specs.Currents.{current_context}
 use Rattle.model_laws.specs.Extents.{quiet}
 use Rattle.model_laws.specs.Full.{Full}
 use Rattle.egl_model.specs.GlFacts.{gl_refusal, image_facts, part_facts, stored_facts}
 use Rattle.egl_model.specs.Graph.{is_in}
-use Rattle.egl_model.specs.Names.{generated, group_of, names_in, object_named, with_more, with_name_of}
-use Rattle.egl_model.specs.Objects.{as_group, as_storage, as_texture, change_context, change_group, change_storage, change_texture, storage_in, texture_in, with_context, with_group, with_texture}
+use Rattle.egl_model.specs.Objects.{as_storage, as_texture, change_storage, change_texture, storage_in, texture_in, with_texture}
 use Rattle.egl_model.specs.Parts.{put_own}
-use Rattle.model_laws.specs.Shapes.{Goes, IsFree, own_at, pixels_in, shapes}
+use Rattle.model_laws.specs.Shapes.{IsFree, own_at, pixels_in, shapes}
 use Rattle.model_laws.specs.Sound.{IsWhole}
 use Rattle.egl_model.specs.State.{State, object_at}
 use Rattle.egl_model.specs.Sweep.{live_bytes}
-use Rattle.egl_model.specs.Textures.{bound_anew, bound_at, bound_named, bound_texture, bound_texture_name, deleted_in, deleted_texture, deleted_textures, freed, has_no_side, image_bytes, level_of, level_storage, named_at, new_level, rewritten_part, set_crop, set_parameter, specified, specified_in, storage_at, target_texture, unbound_texture, unpack_alignment, with_crop, with_level, with_value}
-use Rattle.model_laws.proofs.Blinds.{alone_with, blind-context, blind-length, blind-object, blind-own_part}
-use Rattle.model_laws.proofs.Keeps.{Acts, Blind, acts_cond, acts_of, acts_self, acts_then, by_moves, by_quiet_moves}
+use Rattle.egl_model.specs.Textures.{has_no_side, image_bytes, level_of, level_storage, new_level, rewritten_part, set_crop, set_parameter, specified, specified_in, storage_at, target_texture, unpack_alignment, with_crop, with_level, with_value}
+use Rattle.model_laws.proofs.Blinds.{blind-context, blind-length, blind-object, blind-own_part}
+use Rattle.model_laws.proofs.Keeps.{Acts, Blind, acts_of, acts_self, by_moves, by_quiet_moves}
 use Rattle.model_laws.proofs.GlCalls.{acts-written}
-use Rattle.model_laws.proofs.LinkSetters.{goes_name, setter-bound, setter-group, setter-named, setter-texture, setter-unbound, suits-bound_texture, suits-crop, suits-level, suits-more, suits-name, suits-named, suits-unbound, suits-value}
+use Rattle.model_laws.proofs.LinkSetters.{setter-texture, suits-crop, suits-level, suits-value}
 use Rattle.model_laws.proofs.Moves.{Add, Change, own_in}
-use Rattle.model_laws.proofs.NewObjects.{free_new, full-uploaded, leads-new_texture, stored-new_texture, without_pixels}
+use Rattle.model_laws.proofs.NewObjects.{free_new, full-uploaded, without_pixels}
 use Rattle.model_laws.proofs.Places.{new_kind, own_at-shapes}
 use Rattle.model_laws.proofs.Setters.{form-rewritten}
 use Rattle.model_laws.proofs.Slots.{in_left, in_right, no_edge, only_one}
 use Rattle.model_laws.proofs.Writes.{IsBlind}
 
 -- ---- What the calls look at.
-group-blind : IsBlind as_group
-group-blind (Some (Context c)) = refl
-group-blind (Some (Storage v)) = refl
-group-blind o = refl
-
-pub blind-group_of : (t n : ℕ) (s : State) → Blind t s (λ a. group_of a n)
-blind-group_of t n s = blind-context (λ o. option_map_or (λ x. x.group) o 0) (λ c x. refl) t n s
-
-pub blind-named : (t g : ℕ) (k : NameKind) (name : ℕ) (s : State) → Blind t s (λ a. object_named a g k name)
-blind-named t g k name s = blind-object (λ o. object_of name (option_map_or (names_of k) (as_group o) [])) (λ o. ap (λ x. object_of name (option_map_or (names_of k) x [])) (group-blind o)) t g s
-
-pub blind-names : (t g : ℕ) (k : NameKind) (s : State) → Blind t s (λ a. names_in a g k)
-blind-names t g k s = blind-object (λ o. option_map_or (names_of k) (as_group o) []) (λ o. ap (λ x. option_map_or (names_of k) x []) (group-blind o)) t g s
-
 pub blind-target : (t n : ℕ) (s : State) → Blind t s (λ a. target_texture a n)
 blind-target t n s = blind-context (λ o. option_map (λ c. unwrap_or c.bound.texture c.texture) o) (λ c x. refl) t n s
 
@@ -101,61 +80,6 @@ pub blind-part_facts : (t n : ℕ) (c : CallValue) (s : State) → Blind t s (λ
 blind-part_facts t n c s w v x ne =
     ap (λ o. stored_facts (option_and_then (storage_in (put_own s v x).objects) o)) (blind-level t n (level_of c) s w v x ne)
     ∙ blind-stored t (level_storage s n (level_of c)) s w v x ne
-
--- ---- glGenTextures and its kin.
-acts-more : (s : State) (t g : ℕ) (k : NameKind) (count : ℕ) → Acts quiet t s (λ a. record a { objects = change_group (with_more k count) g a.objects })
-unfolding change_group
-acts-more s t g k count = by_quiet_moves t s (Change g (with_group (with_more k count)) ∷ []) refl (setter-group (with_more k count), tt) (λ w. (suits-more t (shapes s.objects) s g k count, tt))
-
-pub acts-generated : (s : State) (t n : ℕ) (k : NameKind) (count : ℕ) → Acts quiet t s (λ a. (generated a (group_of a n) k count).state)
-acts-generated s t n k count = acts_of quiet t s (λ a. group_of a n) (λ g a. record a { objects = change_group (with_more k count) g a.objects }) (blind-group_of t n s) (acts-more s t (group_of s n) k count)
-
--- ---- glBindTexture.
-acts-bound : (s : State) (t n : ℕ) (o : Option ℕ) (name : ℕ) → current_context s t ≡ Some n → (IsWhole (shapes s.objects) s → Goes (shapes s.objects) a_texture o) → Acts quiet t s (λ a. record a { objects = bound_texture n o name a.objects })
-unfolding change_context
-acts-bound s t n o name i g = by_quiet_moves t s (Change n (with_context (named_at GL_TEXTURE_BINDING_2D name)) ∷ Change n (with_context (bound_at 2 o)) ∷ []) refl (setter-named GL_TEXTURE_BINDING_2D name, (setter-bound 2 o, tt))
-    (λ w. (suits-named t (shapes s.objects) s n GL_TEXTURE_BINDING_2D name (alone_with s t n i w), λ v. (suits-bound_texture t (shapes s.objects) _ n o (g w), tt)))
-
-acts-anew : (s : State) (t g n name : ℕ) → current_context s t ≡ Some n → Acts quiet t s (λ a. record a { objects = bound_anew g n name a.objects })
-unfolding live_bytes change_context change_group
-acts-anew s t g n name i =
-    let m = length s.objects in let new = Some new_texture ∷ [] in let sh = shapes s.objects ++ shapes new in
-    acts_of quiet t s (λ a. length a.objects) (λ m a. record a { objects = bound_texture n (Some m) name (change_group (with_name_of textures name (Some m)) g (a.objects ++ Some new_texture ∷ [])) }) (blind-length t s)
-    (by_quiet_moves t s (Add new ∷ Change g (with_group (with_name_of textures name (Some m))) ∷ Change n (with_context (named_at GL_TEXTURE_BINDING_2D name)) ∷ Change n (with_context (bound_at 2 (Some m))) ∷ []) refl
-    ((tt, tt), (setter-group (with_name_of textures name (Some m)), (setter-named GL_TEXTURE_BINDING_2D name, (setter-bound 2 (Some m), tt))))
-    (λ w. let made = new_kind s.objects new 0 m a_texture (omega arith) refl in (
-      (leads-new_texture sh, stored-new_texture sh _, tt),
-      λ u. (suits-name t sh _ g textures name (Some m) made, λ v. (suits-named t sh _ n GL_TEXTURE_BINDING_2D name (alone_with s t n i w), λ x. (suits-bound_texture t sh _ n (Some m) made, tt))),
-    )))
-
-acts-named : (s : State) (t g n name : ℕ) (o : Option ℕ) → current_context s t ≡ Some n → (IsWhole (shapes s.objects) s → Goes (shapes s.objects) a_texture o) → Acts quiet t s (λ a. bound_named g n name o a)
-acts-named s t g n name (Some x) i e = acts-bound s t n (Some x) name i e
-acts-named s t g n name None i e = acts-anew s t g n name i
-
-pub acts-bound_name : (s : State) (t n name : ℕ) → current_context s t ≡ Some n → Acts quiet t s (λ a. bound_texture_name a n name)
-acts-bound_name s t n name i = acts_cond quiet t s (name == 0) (λ a. record a { objects = bound_texture n None 0 a.objects }) (λ a. bound_named (group_of a n) n name (object_named a (group_of a n) textures name) a)
-    (λ e. acts-bound s t n None 0 i (λ w. tt))
-    (λ e. let g = group_of s n in
-    acts_of quiet t s (λ a. group_of a n) (λ g a. bound_named g n name (object_named a g textures name) a) (blind-group_of t n s)
-    (acts_of quiet t s (λ a. object_named a g textures name) (λ o a. bound_named g n name o a) (blind-named t g textures name s)
-    (acts-named s t g n name (object_named s g textures name) i (λ w. goes_name (shapes s.objects) (object_at s g) textures name (w.kinds.objects g)))))
-
--- ---- glDeleteTextures.
-acts-freed : (s : State) (t g n name : ℕ) (o : Option ℕ) → current_context s t ≡ Some n → Acts quiet t s (λ a. record a { objects = freed g n name o a.objects })
-unfolding change_context change_group
-acts-freed s t g n name None i = by_quiet_moves t s (Change g (with_group (with_name_of textures name None)) ∷ []) refl (setter-group _, tt) (λ w. (suits-name t (shapes s.objects) s g textures name None tt, tt))
-acts-freed s t g n name (Some x) i = by_quiet_moves t s (Change n (with_context (unbound_texture x)) ∷ Change g (with_group (with_name_of textures name None)) ∷ []) refl (setter-unbound x, (setter-group _, tt))
-    (λ w. (suits-unbound t (shapes s.objects) s n x (alone_with s t n i w), λ v. (suits-name t (shapes s.objects) _ g textures name None tt, tt)))
-
-acts-deleted : (s : State) (t g n name : ℕ) → current_context s t ≡ Some n → Acts quiet t s (λ a. deleted_texture g n name a)
-acts-deleted s t g n name i = acts_of quiet t s (λ a. object_named a g textures name) (λ o a. record a { objects = freed g n name o a.objects }) (blind-named t g textures name s) (acts-freed s t g n name (object_named s g textures name) i)
-
-acts-deleted_in : (t g n : ℕ) (xs : List ℤ) (s : State) → current_context s t ≡ Some n → Acts quiet t s (λ a. deleted_in g n xs a)
-acts-deleted_in t g n [] s i = acts_self t s
-acts-deleted_in t g n (x ∷ xs) s i = acts_then quiet t s (λ a. deleted_texture g n (unsigned x) a) (λ a. deleted_in g n xs a) (acts-deleted s t g n (unsigned x) i) (acts-deleted_in t g n xs (deleted_texture g n (unsigned x) s) i)
-
-pub acts-delete : (s : State) (t n : ℕ) (xs : List ℤ) → current_context s t ≡ Some n → Acts quiet t s (λ a. deleted_textures a n xs)
-acts-delete s t n xs i = acts_of quiet t s (λ a. group_of a n) (λ g a. deleted_in g n xs a) (blind-group_of t n s) (acts-deleted_in t (group_of s n) n xs s i)
 
 -- ---- glTexParameterx.
 acts-value : (s : State) (t pname value : ℕ) (o : Option ℕ) → Acts quiet t s (λ a. set_parameter pname value o a)

@@ -1,36 +1,28 @@
 -- What the calls on textures leave, and where pixels want.
-use Rattle.std.proofs.Common.{◌≡◌, ◌≢◌, ◌⊎◌, ℕ, zero, suc, ◌<◌, ◌≤◌, arith, ℤ, Bool, true, false, cond, not, ◌==◌, is_some, inl, inr, List, [], ◌∷◌, ◌++◌, length, get_or, set, refl, sym, ap, subst, ◌∙◌, Option, None, Some}
-use Rattle.std.specs.Prelude.{Contains}
-use Rattle.std.specs.List.{find}
-use Rattle.std.specs.Option.{option_map_or}
-use Rattle.std.proofs.lemmas.Bool.{cases_eq, cases_lt, cond_both, eq-eqb, eqb-true, false≢true}
+use Rattle.std.proofs.Common.{◌≡◌, ◌≢◌, ◌⊎◌, ℕ, ◌<◌, ◌≤◌, Bool, true, false, ◌==◌, is_some, inl, inr, List, [], ◌∷◌, ◌++◌, length, get_or, set, refl, sym, ap, subst, ◌∙◌, Option, None, Some}
+use Rattle.std.proofs.lemmas.Bool.{cases_eq, cases_lt, eq-eqb, eqb-true, false≢true}
 use Rattle.std.proofs.lemmas.List.{get_or-set_other, get_or-set_same, get_or_past, set_past}
 use Rattle.std.proofs.lemmas.Option.{none-some, same_Some}
 use Rattle.egl_calls.specs.Calls.{CallValue}
-use Rattle.egl_calls.specs.Ranges.{unsigned}
 use Rattle.egl_calls.specs.declared.kinds.GlKind.{GlKind}
-use Rattle.egl_calls.specs.declared.kinds.GlKind.TheVariants.{CopyTexImage2d, DeleteTextures, TexImage2d}
+use Rattle.egl_calls.specs.declared.kinds.GlKind.TheVariants.{CopyTexImage2d, TexImage2d}
 use Rattle.egl_calls.specs.declared.errors.GlError.TheVariants.{OutOfMemory}
 use Rattle.call_rules.specs.GlAllowed.{CopyAsked, ImageAsked}
 use Rattle.call_rules.proofs.GlLaws.{copy_wants, image_wants, wanting_copy, wanting_image}
 use Rattle.driver_objects.specs.Storages.{StorageValue}
 use Rattle.driver_objects.specs.declared.objects.Object.{Object}
-use Rattle.driver_objects.specs.declared.objects.Object.TheVariants.{Context, Group, Texture, Storage}
+use Rattle.driver_objects.specs.declared.objects.Object.TheVariants.{Texture, Storage}
 use Rattle.driver_objects.specs.declared.textures.BackedTexture.{BackedTexture}
-use Rattle.share_group.specs.Groups.{names_of}
-use Rattle.share_group.specs.Names.{is_of, is_used, without}
-use Rattle.share_group.specs.declared.names.Name.{Name}
 use Rattle.share_group.specs.declared.names.NameKind.TheVariants.{Texture as textures}
 use Rattle.egl_model.specs.Currents.{current_context}
 use Rattle.egl_model.specs.GlEffects.{gl_effect}
 use Rattle.egl_model.specs.GlFacts.{copy_facts, gl_refusal, image_facts}
 use Rattle.model_laws.specs.Laws.{IsAllowedGl, IsGlCall}
-use Rattle.egl_model.specs.Names.{group_of, names_in, object_named, with_name_of}
-use Rattle.egl_model.specs.Objects.{as_group, as_storage, as_texture, change_context, change_group, change_texture, storage_in, texture_in, with_context, with_group, with_texture}
+use Rattle.egl_model.specs.Objects.{as_storage, as_texture, change_texture, storage_in, texture_in, with_texture}
 use Rattle.egl_model.specs.State.{State, object_at}
 use Rattle.egl_model.specs.Step.{Stepped, done, step}
 use Rattle.egl_model.specs.Sweep.{sweep, swept, roots}
-use Rattle.egl_model.specs.Textures.{deleted_in, deleted_texture, deleted_textures, level_of, new_level, specified, specified_in, storage_at, target_texture, unbound_in, unbound_texture, unpack_alignment, with_level}
+use Rattle.egl_model.specs.Textures.{level_of, new_level, specified, specified_in, storage_at, target_texture, unpack_alignment, with_level}
 use Rattle.model_laws.specs.Wants.{AnswersGl, WantsCopy, WantsImage}
 use Rattle.model_laws.proofs.Places.{at_old}
 use Rattle.model_laws.proofs.RefusalLaws.{gl_call}
@@ -43,7 +35,7 @@ pub allowed_gl : (s : State) (t n : ℕ) (k : GlKind) (c : CallValue) → IsAllo
 allowed_gl s t n k c h = gl_call s t k c h.call ∙ gl_done s t n k c h.current h.allowed
 
 -- what is there behind a sweep is what was there before
-swept_same : (rs : List ℕ) (os : List (Option Object)) (n : ℕ) → (get_or (swept rs os) n None ≡ None) ⊎ (get_or (swept rs os) n None ≡ get_or os n None)
+pub swept_same : (rs : List ℕ) (os : List (Option Object)) (n : ℕ) → (get_or (swept rs os) n None ≡ None) ⊎ (get_or (swept rs os) n None ≡ get_or os n None)
 swept_same rs os n = by (is_some (get_or (swept rs os) n None)) refl
   where
     none_there : (o : Option Object) → is_some o ≡ false → o ≡ None
@@ -72,32 +64,8 @@ pub copy_wants_pixels : (s : State) (t n : ℕ) (c : CallValue) → IsGlCall s t
 unfolding gl_refusal
 copy_wants_pixels s t n c h i w = reply_of_gl_refusal s t n CopyTexImage2d c OutOfMemory h i (wanting_copy c (copy_facts s t c) h.kind w)
 
--- ---- A deleted name is free.
-unused_without : (name y : ℕ) (xs : List Name) → is_used name xs ≡ false → is_used name (without y xs) ≡ false
-unused_without name y [] h = refl
-unused_without name y (x ∷ xs) h =
-    let here : (is_of name x ≡ false) × (is_used name xs ≡ false) = parts (is_of name x) (find (is_of name) xs) h in
-    cond_both (not (is_of y x)) (x ∷ without y xs) (without y xs) (λ ys. is_used name ys ≡ false)
-    (λ e. ap (λ b. is_some (cond b (Some x) (find (is_of name) (without y xs)))) here.0 ∙ unused_without name y xs here.1)
-    (λ e. unused_without name y xs here.1)
-  where
-    parts : (b : Bool) (o : Option Name) → is_some (cond b (Some x) o) ≡ false → (b ≡ false) × (is_some o ≡ false)
-    parts true o g = absurd (false≢true (sym g))
-    parts false o g = (refl, g)
-
-gone_one : (name : ℕ) (x : Name) (ys : List Name) (b : Bool) → is_of name x ≡ b → is_used name ys ≡ false → is_used name (cond (not b) (x ∷ ys) ys) ≡ false
-gone_one name x ys true e h = h
-gone_one name x ys false e h = ap (λ b. is_some (cond b (Some x) (find (is_of name) ys))) e ∙ h
-
-gone_without : (name : ℕ) (xs : List Name) → is_used name (without name xs) ≡ false
-gone_without name [] = refl
-gone_without name (x ∷ xs) = gone_one name x (without name xs) (is_of name x) refl (gone_without name xs)
-
-names_at : Option Object → List Name
-names_at o = option_map_or (names_of textures) (as_group o) []
-
 -- the object of a number after a change
-changed_at : (f : Option Object → Option Object) → f None ≡ None → (n : ℕ) (os : List (Option Object)) → get_or (set os n (f (get_or os n None))) n None ≡ f (get_or os n None)
+pub changed_at : (f : Option Object → Option Object) → f None ≡ None → (n : ℕ) (os : List (Option Object)) → get_or (set os n (f (get_or os n None))) n None ≡ f (get_or os n None)
 changed_at f none n os = elim (cases_lt n (length os)) [
   | inl l ↦ get_or-set_same os n (f (get_or os n None)) None l
   | inr l ↦ let p = past l in ap (λ (xs : List (Option Object)). get_or xs n None) (set_past os n (f (get_or os n None)) l) ∙ p ∙ sym (ap f p ∙ none)
@@ -105,53 +73,6 @@ changed_at f none n os = elim (cases_lt n (length os)) [
   where
     past : length os ≤ n → get_or os n None ≡ None
     past l = get_or_past os n None l
-
-names_freed : (name : ℕ) (o : Option Object) → names_at (with_group (with_name_of textures name None) o) ≡ without name (names_at o)
-unfolding names_at
-names_freed name (Some (Group g)) = refl
-names_freed name o = refl
-
-names_context : (x : ℕ) (o : Option Object) → names_at (with_context (unbound_texture x) o) ≡ names_at o
-unfolding names_at
-names_context x (Some (Context c)) = refl
-names_context x o = refl
-
-names_unbound : (n g : ℕ) (o : Option ℕ) (os : List (Option Object)) → names_at (get_or (unbound_in n o os) g None) ≡ names_at (get_or os g None)
-unfolding change_context
-names_unbound n g None os = refl
-names_unbound n g (Some x) os = elim (cases_eq g n) [
-  | inl e ↦ rw e (ap names_at (changed_at (with_context (unbound_texture x)) refl n os) ∙ names_context x (get_or os n None))
-  | inr ne ↦ ap names_at (get_or-set_other os n g (with_context (unbound_texture x) (get_or os n None)) None ne)
-]
-
-names_deleted : (g n name : ℕ) (s : State) → names_at (object_at (deleted_texture g n name s) g) ≡ without name (names_at (object_at s g))
-unfolding change_group
-names_deleted g n name s =
-    let os : List (Option Object) = unbound_in n (object_named s g textures name) s.objects in
-    ap names_at (changed_at (with_group (with_name_of textures name None)) refl g os) ∙ names_freed name (get_or os g None) ∙ ap (without name) (names_unbound n g (object_named s g textures name) s.objects)
-
-still_unused : (g n name : ℕ) (xs : List ℤ) (s : State) → is_used name (names_at (object_at s g)) ≡ false → is_used name (names_at (object_at (deleted_in g n xs s) g)) ≡ false
-still_unused g n name [] s h = h
-still_unused g n name (x ∷ xs) s h = still_unused g n name xs (deleted_texture g n (unsigned x) s) (ap (is_used name) (names_deleted g n (unsigned x) s) ∙ unused_without name (unsigned x) (names_at (object_at s g)) h)
-
-each_unused : (g n k : ℕ) (x : ℤ) (xs : List ℤ) (s : State) → k < length xs → get_or xs k x ≡ x → is_used (unsigned x) (names_at (object_at (deleted_in g n xs s) g)) ≡ false
-each_unused g n k x [] s l e = absurd (omega arith)
-each_unused g n zero x (y ∷ ys) s l e = still_unused g n (unsigned x) ys (deleted_texture g n (unsigned y) s)
-    (ap (is_used (unsigned x)) (names_deleted g n (unsigned y) s) ∙ ap (λ z. is_used (unsigned x) (without (unsigned z) (names_at (object_at s g)))) e ∙ gone_without (unsigned x) (names_at (object_at s g)))
-each_unused g n (suc k) x (y ∷ ys) s l e = each_unused g n k x ys (deleted_texture g n (unsigned y) s) (omega (arith, l)) e
-
-unused_swept : (name g : ℕ) (a : State) → is_used name (names_at (object_at a g)) ≡ false → is_used name (names_at (object_at (sweep a) g)) ≡ false
-unfolding names_at
-unused_swept name g a h = elim (swept_same (roots a) a.objects g) [
-  | inl e ↦ ap (λ o. is_used name (names_at o)) e
-  | inr e ↦ ap (λ o. is_used name (names_at o)) e ∙ h
-]
-
-pub deleted_is_free : (s : State) (t n : ℕ) (c : CallValue) (x : ℤ) → IsAllowedGl s t n DeleteTextures c → Contains c.list x → is_used (unsigned x) (names_in (step s t c).state (group_of s n) textures) ≡ false
-unfolding names_at
-deleted_is_free s t n c x h i =
-    ap (λ (y : Stepped). is_used (unsigned x) (names_in y.state (group_of s n) textures)) (allowed_gl s t n DeleteTextures c h)
-    ∙ unused_swept (unsigned x) (group_of s n) (deleted_textures s n c.list) (each_unused (group_of s n) n i.0 x c.list s i.1 i.2)
 
 -- ---- A level is given alone.
 other_level : (k j : ℕ) (o : Option ℕ) (y : BackedTexture) → j ≢ k → storage_at j (with_level k o y) ≡ storage_at j y

@@ -15,3 +15,4 @@ pub mod Hidden
 pub mod Local
 pub mod Frame
 pub mod Refs
+pub mod Deleted

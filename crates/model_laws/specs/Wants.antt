@@ -1,10 +1,10 @@
--- Where EGL_BAD_ALLOC (EGL 1.5, sections 3.5.1, 3.5.2, 3.7.1 and 3.8.1) and GL_OUT_OF_MEMORY (OpenGL ES 1.1, section 3.7.1) come, in the words of the state before the call.
 use Rattle.std.specs.Prelude.{◌≡◌, ◌+◌, ◌<◌, ◌≤◌, ◌⊎◌, ℕ, pos, ◌<ℤ◌, true, false, ◌==◌, is_some}
+-- Where EGL_BAD_ALLOC (EGL 1.5, sections 3.5.1, 3.5.2, 3.7.1 and 3.8.1) and GL_OUT_OF_MEMORY (OpenGL ES 1.1, sections 2.9 and 3.7.1) come, in the words of the state before the call.
 use Rattle.egl_calls.specs.Calls.{CallValue}
 use Rattle.egl_calls.specs.declared.errors.EglError.{EglError}
 use Rattle.egl_calls.specs.declared.errors.GlError.{GlError}
 use Rattle.egl_calls.specs.declared.errors.Outcome.TheVariants.{Egl as RefusedEgl, Gl as RefusedGl}
-use Rattle.egl_calls.specs.declared.places.TheConstants.{CONFIG, DISPLAY, SYNC_TYPE}
+use Rattle.egl_calls.specs.declared.places.TheConstants.{BUFFER_SIZE, CONFIG, DISPLAY, SYNC_TYPE}
 use Rattle.egl_calls.specs.Arguments.{signed}
 use Rattle.egl_names.specs.declared.codes.TheConstants.{EGL_SYNC_FENCE}
 use Rattle.attrib_lists.specs.declared.allowed.Allowed.TheVariants.{Window}
@@ -81,6 +81,10 @@ WantsImage s c = s.video < live_bytes s.objects + image_bytes c
 -- and for the one that a glCopyTexImage2D gives
 abbrev pub WantsCopy : State → CallValue → Type 0
 WantsCopy s c = s.video < live_bytes s.objects + copied_bytes c
+
+-- the same for the contents that a glBufferData gives
+abbrev pub WantsData : State → CallValue → Type 0
+WantsData s c = s.video < live_bytes s.objects + number c BUFFER_SIZE
 
 -- the numbers for handles are used up
 abbrev pub WantsNumber : State → Type 0

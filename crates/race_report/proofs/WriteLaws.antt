@@ -16,7 +16,7 @@ use Rattle.egl_calls.specs.declared.kinds.Kind.TheVariants.{Egl, Gl, Own}
 use Rattle.egl_calls.specs.declared.kinds.EglKind.{EglKind}
 use Rattle.egl_calls.specs.declared.kinds.EglKind.TheVariants.{ClientWaitSync, CreateContext, CreatePbufferSurface, CreateSync, CreateWindowSurface, MakeCurrent, ReleaseThread, SurfaceAttrib, SwapBuffers, WaitClient, WaitSync}
 use Rattle.egl_calls.specs.declared.kinds.GlKind.{GlKind}
-use Rattle.egl_calls.specs.declared.kinds.GlKind.TheVariants.{BindTexture, Clear, CopyTexImage2d, CopyTexSubImage2d, DeleteTextures, DrawTexi, DrawTexx, Finish, Flush, GenTextures, ReadPixels, TexImage2d, TexParameterx, TexParameteriv, TexSubImage2d}
+use Rattle.egl_calls.specs.declared.kinds.GlKind.TheVariants.{BindTexture, Clear, CopyTexImage2d, CopyTexSubImage2d, DeleteTextures, DrawTexi, DrawTexx, Finish, Flush, GenTextures, ReadPixels, TexImage2d, TexParameterx, TexParameteriv, TexSubImage2d, GenBuffers, DeleteBuffers, BindBuffer, BufferData, BufferSubData}
 use Rattle.egl_calls.specs.declared.kinds.OwnKind.{OwnKind}
 use Rattle.egl_calls.specs.declared.kinds.OwnKind.TheVariants.{ReadBuffer, WaitEnd}
 use Rattle.call_rules.specs.EglRules.{is_release}
@@ -25,7 +25,8 @@ use Rattle.context_state.specs.Kinds.{context_gl_call}
 use Rattle.context_state.specs.declared.kinds.ContextCall.{ContextCall}
 use Rattle.context_state.specs.Parts.{PartValue, noted}
 use Rattle.share_group.specs.Groups.{GroupValue}
-use Rattle.share_group.specs.declared.names.NameKind.TheVariants.{Texture as textures}
+use Rattle.share_group.specs.declared.names.NameKind.{NameKind}
+use Rattle.share_group.specs.declared.names.NameKind.TheVariants.{Texture as textures, Buffer as buffers}
 use Rattle.surface_store.specs.Surfaces.{SurfaceValue}
 use Rattle.surface_store.specs.Windows.{WindowValue, posted}
 use Rattle.surface_store.specs.WindowTables.{fits, no_window, place_of, posted_to, swapped_windows, window_at}
@@ -33,8 +34,12 @@ use Rattle.driver_objects.specs.Storages.{StorageValue, shown_by}
 use Rattle.driver_objects.specs.declared.contexts.Context.{Context as ContextObject}
 use Rattle.driver_objects.specs.declared.fences.Fence.{Fence}
 use Rattle.driver_objects.specs.declared.objects.Object.{Object}
-use Rattle.driver_objects.specs.declared.objects.Object.TheVariants.{Context, Group, Texture, Surface, Storage, Sync}
+use Rattle.driver_objects.specs.declared.objects.Object.TheVariants.{Context, Group, Texture, Buffer, Surface, Storage, Sync}
 use Rattle.driver_objects.specs.declared.surfaces.BackedSurface.{BackedSurface}
+use Rattle.buffer_objects.specs.Buffers.{BufferValue}
+use Rattle.driver_objects.specs.Targets.{buffer_target, name_kind}
+use Rattle.driver_objects.specs.declared.targets.BindTarget.{BindTarget}
+use Rattle.driver_objects.specs.declared.targets.BindTarget.TheVariants.{Texture as TextureTarget}
 use Rattle.driver_objects.specs.declared.textures.BackedTexture.{BackedTexture}
 use Rattle.display_table.specs.declared.handles.Handle.{Handle}
 use Rattle.pixel_rows.specs.Images.{ImageValue}
@@ -53,8 +58,10 @@ use Rattle.egl_model.specs.GlEffects.{effect_by, gl_effect, object_effect}
 use Rattle.egl_model.specs.GlFacts.{gl_refusal}
 use Rattle.egl_model.specs.Graph.{reached}
 use Rattle.egl_model.specs.MakeCurrent.{bind, bound_anew, bound_by, context_handle, draw_handle, first_use, read_handle, unbound}
+use Rattle.egl_model.specs.Bindings.{bound_named, bound_object, deleted_in, deleted_name, freed, unbound_in}
+use Rattle.egl_model.specs.Buffers.{set_data, set_part_of, target_buffer}
 use Rattle.egl_model.specs.Names.{group_of, object_named}
-use Rattle.egl_model.specs.Objects.{as_storage, as_texture, change_context, change_fence, change_group, change_part, change_storage, change_surface, change_texture, with_context, with_fence, with_group, with_part, with_surface}
+use Rattle.egl_model.specs.Objects.{as_buffer, as_storage, as_texture, change_buffer, change_context, change_fence, change_group, change_part, change_storage, change_surface, change_texture, with_context, with_fence, with_group, with_part, with_surface}
 use Rattle.egl_model.specs.OwnCalls.{buffer_effect, buffer_refusal}
 use Rattle.egl_model.specs.State.{State, record_of}
 use Rattle.egl_model.specs.Step.{Stepped, after_egl_rules, after_gl_rules, buffer_step_on, egl_step, gl_step, gl_step_on, own_step, step, step_by, step_in, wait_step}
@@ -66,14 +73,14 @@ use Rattle.egl_model.specs.Waits.{is_signalled, is_wait_end, waiting}
 use Rattle.egl_model.specs.Windows.{swapped_surface, swapped_with}
 use Rattle.model_laws.proofs.SweepLaws.{length-swept, object_at-swept}
 use Rattle.race_report.specs.Leading.{is_done}
-use Rattle.race_report.specs.Touches.{egl_touches, front, gl_touches, gl_touches_on, nothing, object, object_touches, own_touches, swap_of, swap_with, touches_by, touches_by_class, touches_of, unbuilt, writing}
+use Rattle.race_report.specs.Touches.{buffer_touches_on, egl_touches, front, gl_touches, gl_touches_on, nothing, object, object_touches, own_touches, swap_of, swap_with, touches_by, touches_by_class, touches_of, writing}
 use Rattle.race_report.specs.Writes.{IsAsItWas, IsWrittenBy, Shows, Spares}
 use Rattle.race_report.specs.declared.touched.Touches.{Touches}
 use Rattle.race_report.proofs.WordLaws.{contains_first, contains_later}
 
 -- ---- One object.
 as_it_was : (o : Option Object) → IsAsItWas o o
-as_it_was o = (inl refl, inl refl)
+as_it_was o = (inl refl, (inl refl, inl refl))
 
 one_then : {A : Type 0} (x y z : Option A) → (y ≡ x) ⊎ (y ≡ None) → (z ≡ y) ⊎ (z ≡ None) → (z ≡ x) ⊎ (z ≡ None)
 one_then x y z f g = elim g [
@@ -82,60 +89,65 @@ one_then x y z f g = elim g [
 ]
 
 was_then : (o p q : Option Object) → IsAsItWas o p → IsAsItWas p q → IsAsItWas o q
-was_then o p q f g = (one_then (as_texture o) (as_texture p) (as_texture q) f.0 g.0, one_then (as_storage o) (as_storage p) (as_storage q) f.1 g.1)
+was_then o p q f g = (one_then (as_texture o) (as_texture p) (as_texture q) f.0 g.0, (one_then (as_storage o) (as_storage p) (as_storage q) f.1.0 g.1.0, one_then (as_buffer o) (as_buffer p) (as_buffer q) f.1.1 g.1.1))
 
 gone_or_not : (b : Bool) (o : Option Object) → IsAsItWas o (if b then o else None)
 gone_or_not true o = as_it_was o
-gone_or_not false o = (inr refl, inr refl)
+gone_or_not false o = (inr refl, (inr refl, inr refl))
 
--- no change of an object of another kind is one of a texture or a storage
+-- no change of an object of another kind is one of a texture, a storage or a buffer
 abbrev Spared : (Option Object → Option Object) → Type 0
 Spared f = (o : Option Object) → IsAsItWas o (f o)
 
 spared-context : (f : ContextObject → ContextObject) → Spared (with_context f)
-spared-context f None = (inl refl, inl refl)
-spared-context f (Some (Context x)) = (inl refl, inl refl)
-spared-context f (Some (Group x)) = (inl refl, inl refl)
-spared-context f (Some (Texture x)) = (inl refl, inl refl)
-spared-context f (Some (Surface x)) = (inl refl, inl refl)
-spared-context f (Some (Storage x)) = (inl refl, inl refl)
-spared-context f (Some (Sync x)) = (inl refl, inl refl)
+spared-context f None = (inl refl, (inl refl, inl refl))
+spared-context f (Some (Context x)) = (inl refl, (inl refl, inl refl))
+spared-context f (Some (Group x)) = (inl refl, (inl refl, inl refl))
+spared-context f (Some (Texture x)) = (inl refl, (inl refl, inl refl))
+spared-context f (Some (Buffer x)) = (inl refl, (inl refl, inl refl))
+spared-context f (Some (Surface x)) = (inl refl, (inl refl, inl refl))
+spared-context f (Some (Storage x)) = (inl refl, (inl refl, inl refl))
+spared-context f (Some (Sync x)) = (inl refl, (inl refl, inl refl))
 
 spared-part : (f : PartValue → PartValue) → Spared (with_part f)
-spared-part f None = (inl refl, inl refl)
-spared-part f (Some (Context x)) = (inl refl, inl refl)
-spared-part f (Some (Group x)) = (inl refl, inl refl)
-spared-part f (Some (Texture x)) = (inl refl, inl refl)
-spared-part f (Some (Surface x)) = (inl refl, inl refl)
-spared-part f (Some (Storage x)) = (inl refl, inl refl)
-spared-part f (Some (Sync x)) = (inl refl, inl refl)
+spared-part f None = (inl refl, (inl refl, inl refl))
+spared-part f (Some (Context x)) = (inl refl, (inl refl, inl refl))
+spared-part f (Some (Group x)) = (inl refl, (inl refl, inl refl))
+spared-part f (Some (Texture x)) = (inl refl, (inl refl, inl refl))
+spared-part f (Some (Buffer x)) = (inl refl, (inl refl, inl refl))
+spared-part f (Some (Surface x)) = (inl refl, (inl refl, inl refl))
+spared-part f (Some (Storage x)) = (inl refl, (inl refl, inl refl))
+spared-part f (Some (Sync x)) = (inl refl, (inl refl, inl refl))
 
 spared-group : (f : GroupValue → GroupValue) → Spared (with_group f)
-spared-group f None = (inl refl, inl refl)
-spared-group f (Some (Context x)) = (inl refl, inl refl)
-spared-group f (Some (Group x)) = (inl refl, inl refl)
-spared-group f (Some (Texture x)) = (inl refl, inl refl)
-spared-group f (Some (Surface x)) = (inl refl, inl refl)
-spared-group f (Some (Storage x)) = (inl refl, inl refl)
-spared-group f (Some (Sync x)) = (inl refl, inl refl)
+spared-group f None = (inl refl, (inl refl, inl refl))
+spared-group f (Some (Context x)) = (inl refl, (inl refl, inl refl))
+spared-group f (Some (Group x)) = (inl refl, (inl refl, inl refl))
+spared-group f (Some (Texture x)) = (inl refl, (inl refl, inl refl))
+spared-group f (Some (Buffer x)) = (inl refl, (inl refl, inl refl))
+spared-group f (Some (Surface x)) = (inl refl, (inl refl, inl refl))
+spared-group f (Some (Storage x)) = (inl refl, (inl refl, inl refl))
+spared-group f (Some (Sync x)) = (inl refl, (inl refl, inl refl))
 
 spared-fence : (f : Fence → Fence) → Spared (with_fence f)
-spared-fence f None = (inl refl, inl refl)
-spared-fence f (Some (Context x)) = (inl refl, inl refl)
-spared-fence f (Some (Group x)) = (inl refl, inl refl)
-spared-fence f (Some (Texture x)) = (inl refl, inl refl)
-spared-fence f (Some (Surface x)) = (inl refl, inl refl)
-spared-fence f (Some (Storage x)) = (inl refl, inl refl)
-spared-fence f (Some (Sync x)) = (inl refl, inl refl)
+spared-fence f None = (inl refl, (inl refl, inl refl))
+spared-fence f (Some (Context x)) = (inl refl, (inl refl, inl refl))
+spared-fence f (Some (Group x)) = (inl refl, (inl refl, inl refl))
+spared-fence f (Some (Texture x)) = (inl refl, (inl refl, inl refl))
+spared-fence f (Some (Buffer x)) = (inl refl, (inl refl, inl refl))
+spared-fence f (Some (Surface x)) = (inl refl, (inl refl, inl refl))
+spared-fence f (Some (Storage x)) = (inl refl, (inl refl, inl refl))
+spared-fence f (Some (Sync x)) = (inl refl, (inl refl, inl refl))
 
 spared-surface : (f : SurfaceValue → SurfaceValue) → Spared (with_surface f)
-spared-surface f None = (inl refl, inl refl)
-spared-surface f (Some (Context x)) = (inl refl, inl refl)
-spared-surface f (Some (Group x)) = (inl refl, inl refl)
-spared-surface f (Some (Texture x)) = (inl refl, inl refl)
-spared-surface f (Some (Surface x)) = (inl refl, inl refl)
-spared-surface f (Some (Storage x)) = (inl refl, inl refl)
-spared-surface f (Some (Sync x)) = (inl refl, inl refl)
+spared-surface f None = (inl refl, (inl refl, inl refl))
+spared-surface f (Some (Context x)) = (inl refl, (inl refl, inl refl))
+spared-surface f (Some (Group x)) = (inl refl, (inl refl, inl refl))
+spared-surface f (Some (Texture x)) = (inl refl, (inl refl, inl refl))
+spared-surface f (Some (Buffer x)) = (inl refl, (inl refl, inl refl))
+spared-surface f (Some (Surface x)) = (inl refl, (inl refl, inl refl))
+spared-surface f (Some (Storage x)) = (inl refl, (inl refl, inl refl))
+spared-surface f (Some (Sync x)) = (inl refl, (inl refl, inl refl))
 
 -- ---- Objects.
 record Kept (ws : List ℤ) (os ps : List (Option Object)) : Type 0 where
@@ -209,6 +221,10 @@ kept-texture ws f n os w = kept_set ws os n _ (inl w)
 kept-storage : (ws : List ℤ) (f : StorageValue → StorageValue) (n : ℕ) (os : List (Option Object)) → Contains ws (pos n) → Kept ws os (change_storage f n os)
 unfolding change_storage
 kept-storage ws f n os w = kept_set ws os n _ (inl w)
+
+kept-buffer : (ws : List ℤ) (f : BufferValue → BufferValue) (n : ℕ) (os : List (Option Object)) → Contains ws (pos n) → Kept ws os (change_buffer f n os)
+unfolding change_buffer
+kept-buffer ws f n os w = kept_set ws os n _ (inl w)
 
 kept-flush : (ws : List ℤ) (o : Option ℕ) (os : List (Option Object)) → Kept ws os (flush_in o os)
 kept-flush ws None os = kept_self ws os
@@ -321,32 +337,40 @@ told-clear s None o true = tells_self (object o) s.objects s.windows
 told-clear s (Some p) None true = tells_self [] s.objects s.windows
 told-clear s (Some p) (Some n) true = with_objects (object (Some n)) s.objects _ s.windows (kept-storage (object (Some n)) _ n s.objects (has_object n))
 
-kept-bound : (ws : List ℤ) (n : ℕ) (o : Option ℕ) (name : ℕ) (os : List (Option Object)) → Kept ws os (calls.bound_texture n o name os)
-kept-bound ws n o name os = kept_then ws os _ _ (kept-context ws _ n os) (kept-context ws _ n _)
+kept-bound : (ws : List ℤ) (b : BindTarget) (n : ℕ) (o : Option ℕ) (name : ℕ) (os : List (Option Object)) → Kept ws os (bound_object b n o name os)
+kept-bound ws b n o name os = kept_then ws os _ _ (kept-context ws _ n os) (kept-context ws _ n _)
 
-told-named : (s : State) (g n name : ℕ) (o : Option ℕ) → Told [] s (calls.bound_named g n name o s)
-told-named s g n name (Some x) = with_objects [] s.objects _ s.windows (kept-bound [] n (Some x) name s.objects)
-told-named s g n name None = with_objects [] s.objects _ s.windows (kept_then [] s.objects _ _ (kept_then [] s.objects _ _ (kept_more [] s.objects _) (kept-group [] _ g _)) (kept-bound [] n _ name _))
+told-named : (s : State) (b : BindTarget) (g n name : ℕ) (o : Option ℕ) → Told [] s (bound_named b g n name o s)
+told-named s b g n name (Some x) = with_objects [] s.objects _ s.windows (kept-bound [] b n (Some x) name s.objects)
+told-named s b g n name None = with_objects [] s.objects _ s.windows (kept_then [] s.objects _ _ (kept_then [] s.objects _ _ (kept_more [] s.objects _) (kept-group [] _ g _)) (kept-bound [] b n _ name _))
 
-told-bind : (s : State) (n name : ℕ) (b : Bool) → Told [] s (if b then record s { objects = calls.bound_texture n None 0 s.objects } else calls.bound_named (group_of s n) n name (object_named s (group_of s n) textures name) s)
-told-bind s n name true = with_objects [] s.objects _ s.windows (kept-bound [] n None 0 s.objects)
-told-bind s n name false = told-named s (group_of s n) n name (object_named s (group_of s n) textures name)
+told-bind : (s : State) (b : BindTarget) (n name : ℕ) (is_zero : Bool) → Told [] s (if is_zero then record s { objects = bound_object b n None 0 s.objects } else bound_named b (group_of s n) n name (object_named s (group_of s n) (name_kind b) name) s)
+told-bind s b n name true = with_objects [] s.objects _ s.windows (kept-bound [] b n None 0 s.objects)
+told-bind s b n name false = told-named s b (group_of s n) n name (object_named s (group_of s n) (name_kind b) name)
 
-kept-unbound : (ws : List ℤ) (n : ℕ) (o : Option ℕ) (os : List (Option Object)) → Kept ws os (calls.unbound_in n o os)
-kept-unbound ws n None os = kept_self ws os
-kept-unbound ws n (Some x) os = kept-context ws _ n os
+kept-unbound : (ws : List ℤ) (k : NameKind) (n : ℕ) (o : Option ℕ) (os : List (Option Object)) → Kept ws os (unbound_in k n o os)
+kept-unbound ws k n None os = kept_self ws os
+kept-unbound ws k n (Some x) os = kept-context ws _ n os
 
-kept-freed : (ws : List ℤ) (g n name : ℕ) (o : Option ℕ) (os : List (Option Object)) → Kept ws os (calls.freed g n name o os)
-kept-freed ws g n name o os = kept_then ws os _ _ (kept-unbound ws n o os) (kept-group ws _ g _)
+kept-freed : (ws : List ℤ) (k : NameKind) (g n name : ℕ) (o : Option ℕ) (os : List (Option Object)) → Kept ws os (freed k g n name o os)
+kept-freed ws k g n name o os = kept_then ws os _ _ (kept-unbound ws k n o os) (kept-group ws _ g _)
 
 tells_before : (ws : List ℤ) (os ps qs : List (Option Object)) (vs us : List WindowValue) → Kept ws os ps → Tells ws ps vs qs us → Tells ws os vs qs us
 tells_before ws os ps qs vs us k f = record { kept = kept_then ws os ps qs k f.kept; shows = f.shows }
 
-told-deleted : (ws : List ℤ) (g n : ℕ) (xs : List ℤ) (s : State) → Told ws s (calls.deleted_in g n xs s)
-told-deleted ws g n [] s = tells_self ws s.objects s.windows
-told-deleted ws g n (x ∷ xs) s =
-    let a = calls.deleted_texture g n (unsigned x) s in
-    tells_before ws s.objects a.objects _ s.windows _ (kept-freed ws g n (unsigned x) (object_named s g textures (unsigned x)) s.objects) (told-deleted ws g n xs a)
+told-deleted : (ws : List ℤ) (k : NameKind) (g n : ℕ) (xs : List ℤ) (s : State) → Told ws s (deleted_in k g n xs s)
+told-deleted ws k g n [] s = tells_self ws s.objects s.windows
+told-deleted ws k g n (x ∷ xs) s =
+    let a = deleted_name k g n (unsigned x) s in
+    tells_before ws s.objects a.objects _ s.windows _ (kept-freed ws k g n (unsigned x) (object_named s g k (unsigned x)) s.objects) (told-deleted ws k g n xs a)
+
+told-data : (s : State) (c : CallValue) (o : Option ℕ) → Told (object o) s (set_data c o s)
+told-data s c None = tells_self [] s.objects s.windows
+told-data s c (Some x) = with_objects (object (Some x)) s.objects _ s.windows (kept-buffer (object (Some x)) _ x s.objects (has_object x))
+
+told-part_of : (s : State) (c : CallValue) (o : Option ℕ) → Told (object o) s (set_part_of c o s)
+told-part_of s c None = tells_self [] s.objects s.windows
+told-part_of s c (Some x) = with_objects (object (Some x)) s.objects _ s.windows (kept-buffer (object (Some x)) _ x s.objects (has_object x))
 
 told-parameter : (s : State) (pname value : ℕ) (o : Option ℕ) → Told (object o) s (calls.set_parameter pname value o s)
 told-parameter s pname value None = tells_self [] s.objects s.windows
@@ -390,8 +414,8 @@ told-object s t n c Flush = with_objects [] s.objects _ s.windows (kept-flush []
 told-object s t n c Finish = with_objects [] s.objects _ s.windows (kept-flush [] (Some n) s.objects)
 told-object s t n c Clear = told-clear s (part_of_context s n) (draw_storage s t) (clears_colour c)
 told-object s t n c GenTextures = with_objects [] s.objects _ s.windows (kept-group [] _ (group_of s n) s.objects)
-told-object s t n c DeleteTextures = told-deleted _ (group_of s n) n c.list s
-told-object s t n c BindTexture = told-bind s n (number c 1) (number c 1 == 0)
+told-object s t n c DeleteTextures = told-deleted _ textures (group_of s n) n c.list s
+told-object s t n c BindTexture = told-bind s TextureTarget n (number c 1) (number c 1 == 0)
 told-object s t n c TexParameterx = told-parameter s (number c 1) (number c 2) (calls.target_texture s n)
 told-object s t n c TexParameteriv = told-crop s c.list (calls.target_texture s n)
 told-object s t n c TexImage2d = told-specified s (calls.level_of c) (calls.new_level c (calls.unpack_alignment s n)) (calls.target_texture s n)
@@ -400,6 +424,11 @@ told-object s t n c DrawTexi = told-draw s (part_of_context s n) (draw_storage s
 told-object s t n c DrawTexx = told-draw s (part_of_context s n) (draw_storage s t) (sampler s n (drawn_rect DrawTexx c)) (drawn_rect DrawTexx c)
 told-object s t n c CopyTexImage2d = told-copied s c (copies_nothing c) (read_image s t) (calls.target_texture s n)
 told-object s t n c CopyTexSubImage2d = told-copied_part s c (read_image s t) (calls.level_storage s n (calls.level_of c))
+told-object s t n c GenBuffers = with_objects [] s.objects _ s.windows (kept-group [] _ (group_of s n) s.objects)
+told-object s t n c DeleteBuffers = told-deleted _ buffers (group_of s n) n c.list s
+told-object s t n c BindBuffer = told-bind s (buffer_target (number c 0)) n (number c 1) (number c 1 == 0)
+told-object s t n c BufferData = told-data s c (target_buffer s n c)
+told-object s t n c BufferSubData = told-part_of s c (target_buffer s n c)
 told-object s t n c k = tells_self _ s.objects s.windows
 
 told_by-gl : (o : Option ContextCall) (s : State) (t n : ℕ) (c : CallValue) (k : GlKind) → Told (touches_by_class o s t n k c).writes s (effect_by o s t n k c).state
@@ -448,18 +477,19 @@ gl_on : (s : State) (t : ℕ) (c : CallValue) (k : GlKind) (o : Option ℕ) → 
 gl_on s t c k None = tells_self [] s.objects s.windows
 gl_on s t c k (Some n) = gl_ruled s t n c k (gl_refusal s t n k c)
 
-buffer_ruled : (s : State) (t n : ℕ) (c : CallValue) (o : Option GlError) → ToldBy unbuilt s (after_gl_rules s n o (buffer_effect s t n c))
+-- readBuffer writes nothing
+buffer_ruled : (s : State) (t n : ℕ) (c : CallValue) (o : Option GlError) → ToldBy (buffer_touches_on s (Some n) c) s (after_gl_rules s n o (buffer_effect s t n c))
 buffer_ruled s t n c (Some e) = told-part [] s n (noted e)
-buffer_ruled s t n c None = with_objects unbuilt.writes s.objects _ s.windows (kept_swept unbuilt.writes _ s.objects)
+buffer_ruled s t n c None = with_objects [] s.objects _ s.windows (kept_swept [] _ s.objects)
 
-buffer_on : (s : State) (t : ℕ) (c : CallValue) (o : Option ℕ) → ToldBy unbuilt s (buffer_step_on s t o c)
-buffer_on s t c None = tells_self unbuilt.writes s.objects s.windows
+buffer_on : (s : State) (t : ℕ) (c : CallValue) (o : Option ℕ) → ToldBy (buffer_touches_on s o c) s (buffer_step_on s t o c)
+buffer_on s t c None = tells_self [] s.objects s.windows
 buffer_on s t c (Some n) = buffer_ruled s t n c (buffer_refusal s t n c)
 
-own_told : (s : State) (t : ℕ) (c : CallValue) (k : OwnKind) → ToldBy (own_touches s k c) s (own_step s t k c)
+own_told : (s : State) (t : ℕ) (c : CallValue) (k : OwnKind) → ToldBy (own_touches s t k c) s (own_step s t k c)
 own_told s t c ReadBuffer = buffer_on s t c (current_context s t)
 own_told s t c WaitEnd = tells_self [] s.objects s.windows
-own_told s t c k = tells_self (own_touches s k c).writes s.objects s.windows
+own_told s t c k = tells_self (own_touches s t k c).writes s.objects s.windows
 
 kind_told : (s : State) (t : ℕ) (c : CallValue) (k : Kind) → ToldBy (touches_by s t k c) s (step_by s t k c)
 unfolding egl_step gl_step

@@ -9,18 +9,20 @@ use Rattle.egl_calls.specs.declared.kinds.Kind.TheVariants.{Egl, Gl, Own}
 use Rattle.egl_calls.specs.declared.kinds.EglKind.{EglKind}
 use Rattle.egl_calls.specs.declared.kinds.EglKind.TheVariants.{SwapBuffers}
 use Rattle.egl_calls.specs.declared.kinds.GlKind.{GlKind}
-use Rattle.egl_calls.specs.declared.kinds.GlKind.TheVariants.{Flush, Finish, Clear, ReadPixels, DrawTexi, DrawTexx, GenTextures, DeleteTextures, IsTexture, BindTexture, TexParameterx, TexParameteriv, TexImage2d, TexSubImage2d, CopyTexImage2d, CopyTexSubImage2d}
+use Rattle.egl_calls.specs.declared.kinds.GlKind.TheVariants.{Flush, Finish, Clear, ReadPixels, DrawTexi, DrawTexx, GenTextures, DeleteTextures, IsTexture, BindTexture, TexParameterx, TexParameteriv, TexImage2d, TexSubImage2d, CopyTexImage2d, CopyTexSubImage2d, GenBuffers, DeleteBuffers, IsBuffer, BindBuffer, BufferData, BufferSubData, GetBufferParameteriv}
 use Rattle.egl_calls.specs.declared.kinds.OwnKind.{OwnKind}
 use Rattle.egl_calls.specs.declared.kinds.OwnKind.TheVariants.{ReadBuffer, ReadFront}
 use Rattle.egl_calls.specs.declared.places.TheConstants.{FRONT}
 use Rattle.context_state.specs.Kinds.{context_gl_call}
 use Rattle.context_state.specs.Parts.{PartValue}
 use Rattle.context_state.specs.declared.kinds.ContextCall.{ContextCall}
-use Rattle.share_group.specs.declared.names.NameKind.TheVariants.{Texture as textures}
+use Rattle.share_group.specs.declared.names.NameKind.TheVariants.{Texture as textures, Buffer as buffers}
 use Rattle.driver_objects.specs.Objects.{filled}
+use Rattle.share_group.specs.declared.names.NameKind.{NameKind}
 use Rattle.driver_objects.specs.declared.surfaces.BackedSurface.{BackedSurface}
 use Rattle.egl_model.specs.Arguments.{number}
 use Rattle.egl_model.specs.Currents.{bound_surface, current_context, draw_storage, part_of_context, read_storage}
+use Rattle.egl_model.specs.Buffers.{target_buffer}
 use Rattle.egl_model.specs.Drawing.{clears_colour}
 use Rattle.egl_model.specs.Names.{group_of, object_named}
 use Rattle.egl_model.specs.Objects.{texture_in}
@@ -66,9 +68,9 @@ egl_touches s t SwapBuffers = swap_of (bound_surface s (record_of s t).draw)
 egl_touches s t k = nothing
 
 -- ---- Calls of OpenGL ES, of thread t, whose current context is n.
--- the objects that names of textures have
-abbrev pub textures_named : State → ℕ → List ℤ → List ℤ
-textures_named s n xs = map pos (filter_map (λ x. object_named s (group_of s n) textures (unsigned x)) xs)
+-- the objects that names of a kind have
+abbrev pub objects_named : State → ℕ → NameKind → List ℤ → List ℤ
+objects_named s n k xs = map pos (filter_map (λ x. object_named s (group_of s n) k (unsigned x)) xs)
 
 -- a texture, and the storages of its levels
 abbrev pub with_levels : State → Option ℕ → List ℤ
@@ -96,14 +98,22 @@ object_touches s t n TexParameteriv c = writing (object (target_texture s n))
 object_touches s t n TexSubImage2d c = record { reads = object (target_texture s n); writes = object (level_storage s n (level_of c)) }
 object_touches s t n CopyTexImage2d c = record { reads = object (read_storage s t); writes = object (target_texture s n) }
 object_touches s t n CopyTexSubImage2d c = record { reads = object (target_texture s n) ++ object (read_storage s t); writes = object (level_storage s n (level_of c)) }
+-- the buffer on which calls work
+object_touches s t n BufferData c = writing (object (target_buffer s n c))
+object_touches s t n BufferSubData c = writing (object (target_buffer s n c))
+object_touches s t n GetBufferParameteriv c = reading (object (target_buffer s n c))
 -- what is deleted
-object_touches s t n DeleteTextures c = writing (textures_named s n c.list)
+object_touches s t n DeleteTextures c = writing (objects_named s n textures c.list)
+object_touches s t n DeleteBuffers c = writing (objects_named s n buffers c.list)
 -- nothing but names, and what the context has flushed
 object_touches s t n Flush c = nothing
 object_touches s t n Finish c = nothing
 object_touches s t n GenTextures c = nothing
 object_touches s t n IsTexture c = nothing
 object_touches s t n BindTexture c = nothing
+object_touches s t n GenBuffers c = nothing
+object_touches s t n IsBuffer c = nothing
+object_touches s t n BindBuffer c = nothing
 object_touches s t n k c = unbuilt
 
 -- a call of its context's own state touches nothing else
@@ -120,16 +130,21 @@ gl_touches_on s t None k c = nothing
 gl_touches_on s t (Some n) k c = gl_touches s t n k c
 
 -- ---- This project's own calls.
-abbrev pub own_touches : State → OwnKind → CallValue → Touches
-own_touches s ReadFront c = if is_some (front_of (number c FRONT) s) then reading (front (number c FRONT) ∷ []) else nothing
-own_touches s ReadBuffer c = unbuilt
-own_touches s k c = nothing
+-- readBuffer is one of the calls on a buffer
+abbrev pub buffer_touches_on : State → Option ℕ → CallValue → Touches
+buffer_touches_on s None c = nothing
+buffer_touches_on s (Some n) c = reading (object (target_buffer s n c))
+
+abbrev pub own_touches : State → ℕ → OwnKind → CallValue → Touches
+own_touches s t ReadFront c = if is_some (front_of (number c FRONT) s) then reading (front (number c FRONT) ∷ []) else nothing
+own_touches s t ReadBuffer c = buffer_touches_on s (current_context s t) c
+own_touches s t k c = nothing
 
 -- ---- All calls.
 abbrev pub touches_by : State → ℕ → Kind → CallValue → Touches
 touches_by s t (Egl k) c = egl_touches s t k
 touches_by s t (Gl k) c = gl_touches_on s t (current_context s t) k c
-touches_by s t (Own k) c = own_touches s k c
+touches_by s t (Own k) c = own_touches s t k c
 
 -- what a call of thread t touches: nothing where it is refused or waits
 unfoldable pub touches_of : State → ℕ → CallValue → Touches

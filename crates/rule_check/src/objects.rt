@@ -3,11 +3,17 @@ ghost use Rattle.std.specs.Prelude.{◌≡◌};
 ghost use Rattle.egl_calls.specs.declared.kinds.Kind.TheVariants.{Gl};
 ghost use Rattle.egl_calls.specs.declared.kinds.GlKind.TheVariants.{ClearColorx};
 
+use buffer_objects::Buffer;
 use context_state::{Bindings, ContextPart};
 use driver_objects::{
-    BackedSurface, BackedTexture, BoundObjects, Context, Object, ObjectKind, Storage,
+    BackedSurface, BackedTexture, BindTarget, BoundObjects, Context, Object, ObjectKind, Storage,
+    buffer_target,
 };
 use egl_calls::{Call, GlKind, Kind, Numbers};
+use egl_names::codes::{
+    GL_ARRAY_BUFFER, GL_ARRAY_BUFFER_BINDING, GL_ELEMENT_ARRAY_BUFFER,
+    GL_ELEMENT_ARRAY_BUFFER_BINDING, GL_TEXTURE_BINDING_2D,
+};
 use pixel_formats::Format;
 use pixel_rows::{Image, Rect};
 use share_group::{Group, NameKind};
@@ -207,6 +213,58 @@ fn groups_and_textures_have_those_that_are_set(rt: HostRuntime) {
     let named = group(&rt, alloc);
     expect_object(&rt, alloc, named, (ObjectKind::Group, 0), &[8]);
     expect_object(&rt, alloc, texture(), (ObjectKind::Texture, 0), &[5, 6]);
+}
+
+#[test]
+fn a_buffer_has_its_bytes_and_no_reference(rt: HostRuntime) {
+    let alloc = rt.alloc();
+    let mut buffer = Buffer::new(alloc);
+    buffer.data(7, 0, None).expect(&rt, "memory is ample");
+    expect_object(
+        &rt,
+        alloc,
+        Object::Buffer(buffer),
+        (ObjectKind::Buffer, 7),
+        &[],
+    );
+}
+
+#[test]
+fn each_target_has_its_slot_and_its_names(rt: HostRuntime) {
+    let bound = BoundObjects {
+        texture: Some(1),
+        array_buffer: Some(2),
+        element_array_buffer: Some(3),
+        renderbuffer: None,
+        framebuffer: None,
+    };
+    for (target, slot, binding, names, object) in [
+        (
+            BindTarget::Texture,
+            2,
+            GL_TEXTURE_BINDING_2D,
+            NameKind::Texture,
+            1,
+        ),
+        (
+            buffer_target(GL_ARRAY_BUFFER),
+            3,
+            GL_ARRAY_BUFFER_BINDING,
+            NameKind::Buffer,
+            2,
+        ),
+        (
+            buffer_target(GL_ELEMENT_ARRAY_BUFFER),
+            4,
+            GL_ELEMENT_ARRAY_BUFFER_BINDING,
+            NameKind::Buffer,
+            3,
+        ),
+    ] {
+        assert_eq!(rt; (target.slot(), target.binding()), (slot, binding));
+        assert_eq!(rt; target.names(), names);
+        assert_eq!(rt; target.bound(&bound), Some(object));
+    }
 }
 
 #[test]

@@ -1,5 +1,8 @@
-use Rattle.model_laws.proofs.TextureLaws.{deleted_is_free}
+use Rattle.model_laws.proofs.NameLaws.{deleted_buffer_is_free, deleted_texture_is_free}
 use Rattle.model_laws.proofs.laws.a_deleted_name_is_free.Goals as goal
 
-pub returns : goal.returns
-returns c = deleted_is_free
+pub returns-clause-textures : goal.returns-clause-textures
+returns-clause-textures c = deleted_texture_is_free
+
+pub returns-clause-buffers : goal.returns-clause-buffers
+returns-clause-buffers c = deleted_buffer_is_free

@@ -1,6 +1,6 @@
 use Rattle.std.proofs.Common.{refl}
 use Rattle.egl_model.specs.Objects.{with_context, change_context}
-use Rattle.egl_model.specs.Textures.{named_at}
+use Rattle.egl_model.specs.Bindings.{named_at}
 use Rattle.object_table.proofs.ChangeLaws.{Changes, changes, context_apart}
 use Rattle.object_table.proofs.table.ObjectTable.bind_name.Goals as goal
 

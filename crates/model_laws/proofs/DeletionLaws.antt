@@ -1,0 +1,179 @@
+-- Where a name is deleted, its object is unbound from the caller's context, and other contexts keep what they have.
+use Rattle.std.proofs.Common.{◌≡◌, ◌≢◌, ℕ, zero, suc, ◌<◌, arith, ℤ, Bool, true, false, inl, inr, List, [], ◌∷◌, length, get_or, set, refl, sym, ap, subst, ◌∙◌, Option, None, Some}
+use Rattle.std.specs.Prelude.{Contains, IfSome}
+use Rattle.std.specs.Option.{option_map_or}
+use Rattle.std.proofs.lemmas.Bool.{cases_eq, cond_both, eq-eqb, false≢true}
+use Rattle.std.proofs.lemmas.List.{get_or-set_other}
+use Rattle.std.proofs.lemmas.Option.{none-some}
+use Rattle.egl_calls.specs.Calls.{CallValue}
+use Rattle.egl_calls.specs.Ranges.{unsigned}
+use Rattle.egl_calls.specs.declared.kinds.GlKind.TheVariants.{DeleteBuffers, DeleteTextures}
+use Rattle.driver_objects.specs.Links.{bound_in}
+use Rattle.driver_objects.specs.Targets.{binding_of, slot_of}
+use Rattle.driver_objects.specs.declared.contexts.Context.{Context as ContextObject}
+use Rattle.driver_objects.specs.declared.objects.Object.{Object}
+use Rattle.driver_objects.specs.declared.objects.Object.TheVariants.{Context, Group}
+use Rattle.driver_objects.specs.declared.targets.BindTarget.{BindTarget}
+use Rattle.driver_objects.specs.declared.targets.BindTarget.TheVariants.{Texture as TextureTarget, ArrayBuffer, ElementArrayBuffer}
+use Rattle.share_group.specs.Groups.{GroupValue}
+use Rattle.share_group.specs.Names.{object_of}
+use Rattle.share_group.specs.declared.names.NameKind.{NameKind}
+use Rattle.share_group.specs.declared.names.NameKind.TheVariants.{Texture as textures, Buffer as buffers, Renderbuffer as renderbuffers, Framebuffer as framebuffers}
+use Rattle.share_group.proofs.FreeLaws.{frees_one}
+use Rattle.model_laws.specs.Deleted.{HasUnbound}
+use Rattle.model_laws.specs.Laws.{IsAllowedGl}
+use Rattle.egl_model.specs.Bindings.{bound_at, deleted_in, deleted_name, deleted_names, named_at, unbound_at, unbound_in, unbound_object}
+use Rattle.egl_model.specs.Names.{group_of, object_named, with_name_of}
+use Rattle.egl_model.specs.Objects.{as_context, as_group, change_context, change_group, context_in, with_context, with_group}
+use Rattle.egl_model.specs.Parts.{is_place}
+use Rattle.egl_model.specs.State.{State, object_at}
+use Rattle.egl_model.specs.Step.{Stepped, step}
+use Rattle.egl_model.specs.Sweep.{sweep, roots}
+use Rattle.model_laws.proofs.NameLaws.{names_at, names_deleted}
+use Rattle.model_laws.proofs.Places.{same_at_set}
+use Rattle.model_laws.proofs.TextureLaws.{allowed_gl, changed_at, swept_same}
+
+-- ---- Other contexts.
+group_context : (f : GroupValue → GroupValue) (o : Option Object) → as_context (with_group f o) ≡ as_context o
+group_context f (Some (Group g)) = refl
+group_context f o = refl
+
+freed_context : (k : NameKind) (g m name : ℕ) (os : List (Option Object)) → context_in (change_group (with_name_of k name None) g os) m ≡ context_in os m
+unfolding change_group
+freed_context k g m name os = same_at_set as_context os g (with_group (with_name_of k name None) (get_or os g None)) None (group_context (with_name_of k name None) (get_or os g None)) m
+
+unbound_elsewhere : (k : NameKind) (n m : ℕ) (o : Option ℕ) (os : List (Option Object)) → m ≢ n → context_in (unbound_in k n o os) m ≡ context_in os m
+unfolding change_context
+unbound_elsewhere k n m None os ne = refl
+unbound_elsewhere k n m (Some x) os ne = ap as_context (get_or-set_other os n m (with_context (unbound_object k x) (get_or os n None)) None ne)
+
+kept_elsewhere : (k : NameKind) (g n m : ℕ) (xs : List ℤ) (s : State) → m ≢ n → context_in (deleted_in k g n xs s).objects m ≡ context_in s.objects m
+kept_elsewhere k g n m [] s ne = refl
+kept_elsewhere k g n m (x ∷ xs) s ne =
+    let o = object_named s g k (unsigned x) in
+    kept_elsewhere k g n m xs (deleted_name k g n (unsigned x) s) ne ∙ freed_context k g m (unsigned x) (unbound_in k n o s.objects) ∙ unbound_elsewhere k n m o s.objects ne
+
+still_there : (s a : State) (m : ℕ) (y : ContextObject) → context_in a.objects m ≡ context_in s.objects m → context_in (sweep a).objects m ≡ Some y → context_in s.objects m ≡ Some y
+still_there s a m y e h = elim (swept_same (roots a) a.objects m) [
+  | inl gone ↦ absurd (none-some y (sym (ap as_context gone) ∙ h))
+  | inr same ↦ sym e ∙ sym (ap as_context same) ∙ h
+]
+
+elsewhere : (k : NameKind) (s : State) (n m : ℕ) (xs : List ℤ) (y : ContextObject) → m ≢ n → context_in (sweep (deleted_names k s n xs)).objects m ≡ Some y → context_in s.objects m ≡ Some y
+elsewhere k s n m xs y ne h = still_there s (deleted_names k s n xs) m y (kept_elsewhere k (group_of s n) n m xs s ne) h
+
+pub textures_stay_elsewhere : (s : State) (t n m : ℕ) (c : CallValue) (y : ContextObject) → IsAllowedGl s t n DeleteTextures c → m ≢ n → context_in (step s t c).state.objects m ≡ Some y → context_in s.objects m ≡ Some y
+textures_stay_elsewhere s t n m c y a ne h = elsewhere textures s n m c.list y ne (subst (λ (z : Stepped). context_in z.state.objects m ≡ Some y) (allowed_gl s t n DeleteTextures c a) h)
+
+pub buffers_stay_elsewhere : (s : State) (t n m : ℕ) (c : CallValue) (y : ContextObject) → IsAllowedGl s t n DeleteBuffers c → m ≢ n → context_in (step s t c).state.objects m ≡ Some y → context_in s.objects m ≡ Some y
+buffers_stay_elsewhere s t n m c y a ne h = elsewhere buffers s n m c.list y ne (subst (λ (z : Stepped). context_in z.state.objects m ≡ Some y) (allowed_gl s t n DeleteBuffers c a) h)
+
+-- ---- The caller's context.
+NotAt : BindTarget → ℕ → ContextObject → Type 0
+NotAt b x c = bound_in (slot_of b) c.bound ≢ Some x
+
+none_at : (b : BindTarget) (x : ℕ) (c : ContextObject) → NotAt b x (bound_at (slot_of b) None c)
+unfolding NotAt
+none_at TextureTarget x c h = none-some x h
+none_at ArrayBuffer x c h = none-some x h
+none_at ElementArrayBuffer x c h = none-some x h
+
+no_place : (x : ℕ) (o : Option ℕ) → is_place x o ≡ false → o ≢ Some x
+no_place x o e h = false≢true (sym e ∙ ap (is_place x) h ∙ eq-eqb x x refl)
+
+unbound_here : (b : BindTarget) (x : ℕ) (c : ContextObject) → NotAt b x (unbound_at b x c)
+unfolding NotAt
+unbound_here b x c = cond_both (is_place x (bound_in (slot_of b) c.bound)) (bound_at (slot_of b) None (named_at (binding_of b) 0 c)) c (λ (d : ContextObject). NotAt b x d)
+    (λ e. none_at b x (named_at (binding_of b) 0 c)) (λ e. no_place x (bound_in (slot_of b) c.bound) e)
+
+less_at : (a b : BindTarget) (x : ℕ) (c : ContextObject) → NotAt b x c → NotAt b x (bound_at (slot_of a) None c)
+unfolding NotAt
+less_at TextureTarget TextureTarget x c h e = none-some x e
+less_at TextureTarget ArrayBuffer x c h e = h e
+less_at TextureTarget ElementArrayBuffer x c h e = h e
+less_at ArrayBuffer TextureTarget x c h e = h e
+less_at ArrayBuffer ArrayBuffer x c h e = none-some x e
+less_at ArrayBuffer ElementArrayBuffer x c h e = h e
+less_at ElementArrayBuffer TextureTarget x c h e = h e
+less_at ElementArrayBuffer ArrayBuffer x c h e = h e
+less_at ElementArrayBuffer ElementArrayBuffer x c h e = none-some x e
+
+still_not : (a b : BindTarget) (z x : ℕ) (c : ContextObject) → NotAt b x c → NotAt b x (unbound_at a z c)
+unfolding NotAt
+still_not a b z x c h = cond_both (is_place z (bound_in (slot_of a) c.bound)) (bound_at (slot_of a) None (named_at (binding_of a) 0 c)) c (λ (d : ContextObject). NotAt b x d)
+    (λ e. less_at a b x (named_at (binding_of a) 0 c) h) (λ e. h)
+
+unbound_of : (k : NameKind) (x : ℕ) (c : ContextObject) → HasUnbound k x (unbound_object k x c)
+unfolding NotAt
+unbound_of textures x c = unbound_here TextureTarget x c
+unbound_of buffers x c = (still_not ElementArrayBuffer ArrayBuffer x x (unbound_at ArrayBuffer x c) (unbound_here ArrayBuffer x c), unbound_here ElementArrayBuffer x (unbound_at ArrayBuffer x c))
+unbound_of renderbuffers x c = tt
+unbound_of framebuffers x c = tt
+
+still_of : (k : NameKind) (z x : ℕ) (c : ContextObject) → HasUnbound k x c → HasUnbound k x (unbound_object k z c)
+unfolding NotAt
+still_of textures z x c h = still_not TextureTarget TextureTarget z x c h
+still_of buffers z x c h = let d = unbound_at ArrayBuffer z c in
+    (still_not ElementArrayBuffer ArrayBuffer z x d (still_not ArrayBuffer ArrayBuffer z x c h.0), still_not ElementArrayBuffer ElementArrayBuffer z x d (still_not ArrayBuffer ElementArrayBuffer z x c h.1))
+still_of renderbuffers z x c h = h
+still_of framebuffers z x c h = h
+
+-- a context, if it is one, has the object unbound
+abbrev IsUnbound : NameKind → ℕ → Option Object → Type 0
+IsUnbound k x o = IfSome (as_context o) (HasUnbound k x)
+
+made_unbound : (k : NameKind) (x : ℕ) (o : Option Object) → IsUnbound k x (with_context (unbound_object k x) o)
+made_unbound k x (Some (Context c)) = unbound_of k x c
+made_unbound k x o = tt
+
+kept_unbound : (k : NameKind) (z x : ℕ) (o : Option Object) → IsUnbound k x o → IsUnbound k x (with_context (unbound_object k z) o)
+kept_unbound k z x (Some (Context c)) h = still_of k z x c h
+kept_unbound k z x o h = tt
+
+first_unbound : (k : NameKind) (n x : ℕ) (os : List (Option Object)) → IfSome (context_in (unbound_in k n (Some x) os) n) (HasUnbound k x)
+unfolding change_context
+first_unbound k n x os = subst (IsUnbound k x) (sym (changed_at (with_context (unbound_object k x)) refl n os)) (made_unbound k x (get_or os n None))
+
+later_unbound : (k : NameKind) (n x : ℕ) (o : Option ℕ) (os : List (Option Object)) → IfSome (context_in os n) (HasUnbound k x) → IfSome (context_in (unbound_in k n o os) n) (HasUnbound k x)
+unfolding change_context
+later_unbound k n x None os h = h
+later_unbound k n x (Some z) os h = subst (IsUnbound k x) (sym (changed_at (with_context (unbound_object k z)) refl n os)) (kept_unbound k z x (get_or os n None) h)
+
+name_later : (k : NameKind) (g n name x : ℕ) (s : State) → IfSome (context_in s.objects n) (HasUnbound k x) → IfSome (context_in (deleted_name k g n name s).objects n) (HasUnbound k x)
+name_later k g n name x s h =
+    let o = object_named s g k name in
+    subst (λ c. IfSome c (HasUnbound k x)) (sym (freed_context k g n name (unbound_in k n o s.objects))) (later_unbound k n x o s.objects h)
+
+name_first : (k : NameKind) (g n name x : ℕ) (s : State) → object_named s g k name ≡ Some x → IfSome (context_in (deleted_name k g n name s).objects n) (HasUnbound k x)
+name_first k g n name x s e =
+    let o = object_named s g k name in
+    subst (λ c. IfSome c (HasUnbound k x)) (sym (freed_context k g n name (unbound_in k n o s.objects))) (subst (λ p. IfSome (context_in (unbound_in k n p s.objects) n) (HasUnbound k x)) (sym e) (first_unbound k n x s.objects))
+
+all_later : (k : NameKind) (g n x : ℕ) (xs : List ℤ) (s : State) → IfSome (context_in s.objects n) (HasUnbound k x) → IfSome (context_in (deleted_in k g n xs s).objects n) (HasUnbound k x)
+all_later k g n x [] s h = h
+all_later k g n x (z ∷ xs) s h = all_later k g n x xs (deleted_name k g n (unsigned z) s) (name_later k g n (unsigned z) x s h)
+
+-- another name keeps its object
+other_name : (k : NameKind) (g n name other : ℕ) (s : State) → other ≢ name → object_named (deleted_name k g n name s) g k other ≡ object_named s g k other
+unfolding names_at
+other_name k g n name other s ne = ap (object_of other) (names_deleted k g n name s) ∙ ((frees_one name (names_at k (object_at s g))).others other ne).1
+
+each_unbound : (k : NameKind) (g n i x : ℕ) (v : ℤ) (xs : List ℤ) (s : State) → i < length xs → get_or xs i v ≡ v → object_named s g k (unsigned v) ≡ Some x → IfSome (context_in (deleted_in k g n xs s).objects n) (HasUnbound k x)
+each_unbound k g n i x v [] s l e h = absurd (omega arith)
+each_unbound k g n zero x v (z ∷ zs) s l e h = all_later k g n x zs (deleted_name k g n (unsigned z) s) (name_first k g n (unsigned z) x s (ap (λ y. object_named s g k (unsigned y)) e ∙ h))
+each_unbound k g n (suc i) x v (z ∷ zs) s l e h = elim (cases_eq (unsigned v) (unsigned z)) [
+  | inl q ↦ all_later k g n x zs (deleted_name k g n (unsigned z) s) (name_first k g n (unsigned z) x s (ap (λ y. object_named s g k y) (sym q) ∙ h))
+  | inr ne ↦ each_unbound k g n i x v zs (deleted_name k g n (unsigned z) s) (omega (arith, l)) e (other_name k g n (unsigned z) (unsigned v) s ne ∙ h)
+]
+
+swept_unbound : (k : NameKind) (n x : ℕ) (a : State) → IfSome (context_in a.objects n) (HasUnbound k x) → IfSome (context_in (sweep a).objects n) (HasUnbound k x)
+swept_unbound k n x a h = elim (swept_same (roots a) a.objects n) [
+  | inl gone ↦ subst (IsUnbound k x) (sym gone) tt
+  | inr same ↦ subst (IsUnbound k x) (sym same) h
+]
+
+pub texture_is_unbound : (s : State) (t n x : ℕ) (c : CallValue) (v : ℤ) → IsAllowedGl s t n DeleteTextures c → Contains c.list v → object_named s (group_of s n) textures (unsigned v) ≡ Some x → IfSome (context_in (step s t c).state.objects n) (HasUnbound textures x)
+texture_is_unbound s t n x c v a i e = subst (λ (z : Stepped). IfSome (context_in z.state.objects n) (HasUnbound textures x)) (sym (allowed_gl s t n DeleteTextures c a)) (swept_unbound textures n x (deleted_names textures s n c.list) (each_unbound textures (group_of s n) n i.0 x v c.list s i.1 i.2 e))
+
+pub buffer_is_unbound : (s : State) (t n x : ℕ) (c : CallValue) (v : ℤ) → IsAllowedGl s t n DeleteBuffers c → Contains c.list v → object_named s (group_of s n) buffers (unsigned v) ≡ Some x → IfSome (context_in (step s t c).state.objects n) (HasUnbound buffers x)
+buffer_is_unbound s t n x c v a i e = subst (λ (z : Stepped). IfSome (context_in z.state.objects n) (HasUnbound buffers x)) (sym (allowed_gl s t n DeleteBuffers c a)) (swept_unbound buffers n x (deleted_names buffers s n c.list) (each_unbound buffers (group_of s n) n i.0 x v c.list s i.1 i.2 e))

@@ -1,0 +1,105 @@
+-- A name that is deleted is free, of whatever kind it is.
+use Rattle.std.proofs.Common.{◌≡◌, ◌≢◌, ℕ, zero, suc, ◌<◌, arith, ℤ, Bool, true, false, cond, not, is_some, inl, inr, List, [], ◌∷◌, length, get_or, refl, sym, ap, ◌∙◌, Option, None, Some}
+use Rattle.std.specs.Prelude.{Contains}
+use Rattle.std.specs.List.{find}
+use Rattle.std.specs.Option.{option_map_or}
+use Rattle.std.proofs.lemmas.Bool.{cases_eq, cond_both, false≢true}
+use Rattle.std.proofs.lemmas.List.{get_or-set_other}
+use Rattle.egl_calls.specs.Calls.{CallValue}
+use Rattle.egl_calls.specs.Ranges.{unsigned}
+use Rattle.egl_calls.specs.declared.kinds.GlKind.TheVariants.{DeleteBuffers, DeleteTextures}
+use Rattle.driver_objects.specs.declared.objects.Object.{Object}
+use Rattle.driver_objects.specs.declared.objects.Object.TheVariants.{Context, Group}
+use Rattle.share_group.specs.Groups.{GroupValue, names_of, with_names}
+use Rattle.share_group.specs.Names.{is_of, is_used, without}
+use Rattle.share_group.specs.declared.names.Name.{Name}
+use Rattle.share_group.specs.declared.names.NameKind.{NameKind}
+use Rattle.share_group.specs.declared.names.NameKind.TheVariants.{Texture as textures, Buffer as buffers, Renderbuffer as renderbuffers, Framebuffer as framebuffers}
+use Rattle.model_laws.specs.Laws.{IsAllowedGl}
+use Rattle.egl_model.specs.Bindings.{deleted_in, deleted_name, deleted_names, unbound_in, unbound_object}
+use Rattle.egl_model.specs.Names.{group_of, names_in, object_named, with_name_of}
+use Rattle.egl_model.specs.Objects.{as_group, change_context, change_group, with_context, with_group}
+use Rattle.egl_model.specs.State.{State, object_at}
+use Rattle.egl_model.specs.Step.{Stepped, step}
+use Rattle.egl_model.specs.Sweep.{sweep, roots}
+use Rattle.model_laws.proofs.TextureLaws.{allowed_gl, changed_at, swept_same}
+
+unused_without : (name y : ℕ) (xs : List Name) → is_used name xs ≡ false → is_used name (without y xs) ≡ false
+unused_without name y [] h = refl
+unused_without name y (x ∷ xs) h =
+    let here : (is_of name x ≡ false) × (is_used name xs ≡ false) = parts (is_of name x) (find (is_of name) xs) h in
+    cond_both (not (is_of y x)) (x ∷ without y xs) (without y xs) (λ ys. is_used name ys ≡ false)
+    (λ e. ap (λ b. is_some (cond b (Some x) (find (is_of name) (without y xs)))) here.0 ∙ unused_without name y xs here.1)
+    (λ e. unused_without name y xs here.1)
+  where
+    parts : (b : Bool) (o : Option Name) → is_some (cond b (Some x) o) ≡ false → (b ≡ false) × (is_some o ≡ false)
+    parts true o g = absurd (false≢true (sym g))
+    parts false o g = (refl, g)
+
+gone_one : (name : ℕ) (x : Name) (ys : List Name) (b : Bool) → is_of name x ≡ b → is_used name ys ≡ false → is_used name (cond (not b) (x ∷ ys) ys) ≡ false
+gone_one name x ys true e h = h
+gone_one name x ys false e h = ap (λ b. is_some (cond b (Some x) (find (is_of name) ys))) e ∙ h
+
+gone_without : (name : ℕ) (xs : List Name) → is_used name (without name xs) ≡ false
+gone_without name [] = refl
+gone_without name (x ∷ xs) = gone_one name x (without name xs) (is_of name x) refl (gone_without name xs)
+
+unfoldable pub names_at : NameKind → Option Object → List Name
+names_at k o = option_map_or (names_of k) (as_group o) []
+
+names_set : (k : NameKind) (xs : List Name) (g : GroupValue) → names_of k (with_names k xs g) ≡ xs
+names_set textures xs g = refl
+names_set buffers xs g = refl
+names_set renderbuffers xs g = refl
+names_set framebuffers xs g = refl
+
+names_freed : (k : NameKind) (name : ℕ) (o : Option Object) → names_at k (with_group (with_name_of k name None) o) ≡ without name (names_at k o)
+unfolding names_at
+names_freed k name (Some (Group g)) = names_set k (without name (names_of k g)) g
+names_freed k name o = refl
+
+names_context : (k : NameKind) (x : ℕ) (o : Option Object) → names_at k (with_context (unbound_object k x) o) ≡ names_at k o
+unfolding names_at
+names_context k x (Some (Context c)) = refl
+names_context k x o = refl
+
+names_unbound : (k : NameKind) (n g : ℕ) (o : Option ℕ) (os : List (Option Object)) → names_at k (get_or (unbound_in k n o os) g None) ≡ names_at k (get_or os g None)
+unfolding change_context
+names_unbound k n g None os = refl
+names_unbound k n g (Some x) os = elim (cases_eq g n) [
+  | inl e ↦ rw e (ap (names_at k) (changed_at (with_context (unbound_object k x)) refl n os) ∙ names_context k x (get_or os n None))
+  | inr ne ↦ ap (names_at k) (get_or-set_other os n g (with_context (unbound_object k x) (get_or os n None)) None ne)
+]
+
+pub names_deleted : (k : NameKind) (g n name : ℕ) (s : State) → names_at k (object_at (deleted_name k g n name s) g) ≡ without name (names_at k (object_at s g))
+unfolding change_group
+names_deleted k g n name s =
+    let os : List (Option Object) = unbound_in k n (object_named s g k name) s.objects in
+    ap (names_at k) (changed_at (with_group (with_name_of k name None)) refl g os) ∙ names_freed k name (get_or os g None) ∙ ap (without name) (names_unbound k n g (object_named s g k name) s.objects)
+
+still_unused : (k : NameKind) (g n name : ℕ) (xs : List ℤ) (s : State) → is_used name (names_at k (object_at s g)) ≡ false → is_used name (names_at k (object_at (deleted_in k g n xs s) g)) ≡ false
+still_unused k g n name [] s h = h
+still_unused k g n name (x ∷ xs) s h = still_unused k g n name xs (deleted_name k g n (unsigned x) s) (ap (is_used name) (names_deleted k g n (unsigned x) s) ∙ unused_without name (unsigned x) (names_at k (object_at s g)) h)
+
+each_unused : (k : NameKind) (g n i : ℕ) (x : ℤ) (xs : List ℤ) (s : State) → i < length xs → get_or xs i x ≡ x → is_used (unsigned x) (names_at k (object_at (deleted_in k g n xs s) g)) ≡ false
+each_unused k g n i x [] s l e = absurd (omega arith)
+each_unused k g n zero x (y ∷ ys) s l e = still_unused k g n (unsigned x) ys (deleted_name k g n (unsigned y) s)
+    (ap (is_used (unsigned x)) (names_deleted k g n (unsigned y) s) ∙ ap (λ z. is_used (unsigned x) (without (unsigned z) (names_at k (object_at s g)))) e ∙ gone_without (unsigned x) (names_at k (object_at s g)))
+each_unused k g n (suc i) x (y ∷ ys) s l e = each_unused k g n i x ys (deleted_name k g n (unsigned y) s) (omega (arith, l)) e
+
+unused_swept : (k : NameKind) (name g : ℕ) (a : State) → is_used name (names_at k (object_at a g)) ≡ false → is_used name (names_at k (object_at (sweep a) g)) ≡ false
+unfolding names_at
+unused_swept k name g a h = elim (swept_same (roots a) a.objects g) [
+  | inl e ↦ ap (λ o. is_used name (names_at k o)) e
+  | inr e ↦ ap (λ o. is_used name (names_at k o)) e ∙ h
+]
+
+free_after : (k : NameKind) (s : State) (n : ℕ) (xs : List ℤ) (x : ℤ) → Contains xs x → is_used (unsigned x) (names_in (sweep (deleted_names k s n xs)) (group_of s n) k) ≡ false
+unfolding names_at
+free_after k s n xs x i = unused_swept k (unsigned x) (group_of s n) (deleted_names k s n xs) (each_unused k (group_of s n) n i.0 x xs s i.1 i.2)
+
+pub deleted_texture_is_free : (s : State) (t n : ℕ) (c : CallValue) (x : ℤ) → IsAllowedGl s t n DeleteTextures c → Contains c.list x → is_used (unsigned x) (names_in (step s t c).state (group_of s n) textures) ≡ false
+deleted_texture_is_free s t n c x h i = ap (λ (y : Stepped). is_used (unsigned x) (names_in y.state (group_of s n) textures)) (allowed_gl s t n DeleteTextures c h) ∙ free_after textures s n c.list x i
+
+pub deleted_buffer_is_free : (s : State) (t n : ℕ) (c : CallValue) (x : ℤ) → IsAllowedGl s t n DeleteBuffers c → Contains c.list x → is_used (unsigned x) (names_in (step s t c).state (group_of s n) buffers) ≡ false
+deleted_buffer_is_free s t n c x h i = ap (λ (y : Stepped). is_used (unsigned x) (names_in y.state (group_of s n) buffers)) (allowed_gl s t n DeleteBuffers c h) ∙ free_after buffers s n c.list x i

@@ -1,0 +1,18 @@
+use Rattle.std.proofs.Common.{◌≡◌, inl, inr}
+use Rattle.egl_model.specs.Bindings.{unbound_object}
+use Rattle.egl_model.specs.Objects.{change_context}
+use Rattle.object_table.specs.Links.{IsLeft}
+use Rattle.object_table.proofs.DeleteLaws.{unbind_both, unbind_none}
+use Rattle.object_table.proofs.table.ObjectTable.unbind.Goals as goal
+
+pub returns-in-Texture-clause-objects : goal.returns-in-Texture-clause-objects
+returns-in-Texture-clause-objects g c = rw c.in-Texture.is c.unbind_at.ensures.objects
+
+pub returns-in-Buffer-clause-objects : goal.returns-in-Buffer-clause-objects
+returns-in-Buffer-clause-objects g c = rw c.in-Buffer.is (unbind_both c.args.self.now.objects c.unbind_at-in-Buffer.new.self.objects c.unbind_at-in-Buffer-2.new.self.objects c.args.n c.args.object c.unbind_at-in-Buffer.ensures.objects c.unbind_at-in-Buffer-2.ensures.objects)
+
+pub returns-in-Renderbuffer-clause-objects : goal.returns-in-Renderbuffer-clause-objects
+returns-in-Renderbuffer-clause-objects g c = elim c.in-Renderbuffer.is [
+  | inl e ↦ rw e (unbind_none c.args.self.now.objects c.args.n)
+  | inr e ↦ rw e (unbind_none c.args.self.now.objects c.args.n)
+]
