@@ -5,11 +5,11 @@ ghost use Rattle.egl_calls.specs.declared.kinds.GlKind.TheVariants.{ReadPixels};
 ghost use Rattle.refusal_rows.specs.Rows.{first_error};
 ghost use Rattle.call_rules.specs.GlRules.{gl_refusal, object_rows, draw_rows, draws_nothing, is_clear_mask, is_no_side, is_read_format, is_read_type, is_read_pair};
 
-use crate::copy_rules::{copy_tex_image, copy_tex_sub_image};
-use crate::framebuffer_rules::incomplete;
 use crate::buffer_rules::{
     buffer_data, buffer_part, not_bound, wrong_buffer_parameter, wrong_buffer_target,
 };
+use crate::copy_rules::{copy_tex_image, copy_tex_sub_image};
+use crate::framebuffer_rules::incomplete;
 use crate::gl_facts::GlFacts;
 use crate::texture_rules::{
     tex_image, tex_parameteriv, tex_sub_image, wrong_count, wrong_name, wrong_parameter,

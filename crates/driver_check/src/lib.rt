@@ -43,3 +43,5 @@ mod traces;
 mod variables;
 #[cfg(test)]
 mod waits;
+#[cfg(test)]
+mod wakings;

@@ -9,7 +9,7 @@ use crate::draws::{call_with, surface_list};
 use driver_core::Driver;
 use egl_calls::{Call, EglKind, GlKind, Journal, Kind, NoMemory, Numbers, Outcome, OwnKind, Reply};
 use egl_names::codes::{EGL_CONDITION_SATISFIED, EGL_FOREVER, EGL_SYNC_FENCE};
-use shared_driver::{Pick, Picked, Picker, Shared, Thread};
+use shared_driver::{Pick, Picked, Picker, Shared, Thread, Wanted};
 use std::alloc::Global;
 use std::process::Abort;
 use std::sync::Wait;
@@ -131,7 +131,7 @@ impl Picker for Seeing {
                 return Ok(Pick::Call(9, call));
             }
         }
-        Ok(Pick::Wait)
+        Ok(Pick::Wait(Wanted::Entry))
     }
 }
 

@@ -1,7 +1,6 @@
 -- Where a name is deleted, its object is unbound from the caller's context, and other contexts keep what they have.
-use Rattle.std.proofs.Common.{◌≡◌, ◌≢◌, ℕ, zero, suc, ◌<◌, arith, ℤ, Bool, true, false, inl, inr, List, [], ◌∷◌, length, get_or, set, refl, sym, ap, subst, ◌∙◌, Option, None, Some}
+use Rattle.std.proofs.Common.{◌≡◌, ◌≢◌, ℕ, zero, suc, ◌<◌, arith, ℤ, false, inl, inr, List, [], ◌∷◌, length, get_or, refl, sym, ap, subst, ◌∙◌, Option, None, Some}
 use Rattle.std.specs.Prelude.{Contains, IfSome}
-use Rattle.std.specs.Option.{option_map_or}
 use Rattle.std.proofs.lemmas.Bool.{cases_eq, cond_both, eq-eqb, false≢true}
 use Rattle.std.proofs.lemmas.List.{get_or-set_other}
 use Rattle.std.proofs.lemmas.Option.{none-some}
@@ -24,7 +23,7 @@ use Rattle.model_laws.specs.Deleted.{HasUnbound}
 use Rattle.model_laws.specs.Laws.{IsAllowedGl}
 use Rattle.egl_model.specs.Bindings.{bound_at, deleted_in, deleted_name, deleted_names, named_at, unbound_at, unbound_in, unbound_object}
 use Rattle.egl_model.specs.Names.{group_of, object_named, with_name_of}
-use Rattle.egl_model.specs.Objects.{as_context, as_group, change_context, change_group, context_in, with_context, with_group}
+use Rattle.egl_model.specs.Objects.{as_context, change_context, change_group, context_in, with_context, with_group}
 use Rattle.egl_model.specs.Parts.{is_place}
 use Rattle.egl_model.specs.State.{State, object_at}
 use Rattle.egl_model.specs.Step.{Stepped, step}

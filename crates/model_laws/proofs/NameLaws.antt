@@ -1,5 +1,5 @@
 -- A name that is deleted is free, of whatever kind it is.
-use Rattle.std.proofs.Common.{◌≡◌, ◌≢◌, ℕ, zero, suc, ◌<◌, arith, ℤ, Bool, true, false, cond, not, is_some, inl, inr, List, [], ◌∷◌, length, get_or, refl, sym, ap, ◌∙◌, Option, None, Some}
+use Rattle.std.proofs.Common.{◌≡◌, ℕ, zero, suc, ◌<◌, arith, ℤ, Bool, true, false, cond, not, is_some, inl, inr, List, [], ◌∷◌, length, get_or, refl, sym, ap, ◌∙◌, Option, None, Some}
 use Rattle.std.specs.Prelude.{Contains}
 use Rattle.std.specs.List.{find}
 use Rattle.std.specs.Option.{option_map_or}

@@ -25,7 +25,7 @@ use Rattle.context_state.specs.Parts.{PartValue}
 use Rattle.share_group.specs.Names.{given}
 use Rattle.share_group.specs.declared.names.NameKind.{NameKind}
 use Rattle.share_group.specs.declared.names.NameKind.TheVariants.{Texture as textures, Buffer as buffers}
-use Rattle.egl_model.specs.Buffers.{buffer_of, buffer_parameter, part_read}
+use Rattle.egl_model.specs.Buffers.{buffer_parameter, part_read}
 use Rattle.egl_model.specs.GlFacts.{bound_facts, buffer_facts, image_facts}
 use Rattle.egl_model.specs.Names.{generated, group_of, name_value, object_named}
 use Rattle.model_laws.proofs.CopyCalls.{blind-copy_facts, blind-copy_part_facts}

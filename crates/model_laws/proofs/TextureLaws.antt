@@ -13,7 +13,6 @@ use Rattle.driver_objects.specs.Storages.{StorageValue}
 use Rattle.driver_objects.specs.declared.objects.Object.{Object}
 use Rattle.driver_objects.specs.declared.objects.Object.TheVariants.{Texture, Storage}
 use Rattle.driver_objects.specs.declared.textures.BackedTexture.{BackedTexture}
-use Rattle.share_group.specs.declared.names.NameKind.TheVariants.{Texture as textures}
 use Rattle.egl_model.specs.Currents.{current_context}
 use Rattle.egl_model.specs.GlEffects.{gl_effect}
 use Rattle.egl_model.specs.GlFacts.{copy_facts, gl_refusal, image_facts}

@@ -1,6 +1,6 @@
 -- What threads may go on to isn't hidden with the parts that are out.
-use Rattle.std.proofs.Common.{◌≡◌, ℕ, ◌+◌, Bool, true, false, not, ◌&&◌, ◌||◌, List, [], ◌∷◌, refl, sym, ap, ◌∙◌, subst, Option, None, Some, inl, inr}
-use Rattle.std.specs.Prelude.{◌⊎◌, if◌then◌else◌}
+use Rattle.std.proofs.Common.{◌≡◌, ℕ, Bool, false, not, ◌&&◌, ◌||◌, List, [], ◌∷◌, refl, sym, ap, ◌∙◌, Option, None, Some, inl, inr}
+use Rattle.std.specs.Prelude.{if◌then◌else◌}
 use Rattle.std.specs.List.{list_all}
 use Rattle.std.specs.Option.{option_map_or}
 use Rattle.egl_calls.specs.declared.entries.Entry.{Entry}
@@ -16,7 +16,7 @@ use Rattle.trace_model.specs.Turns.{next_line, has_begun, is_free, goes_on, is_h
 use Rattle.trace_model.specs.Stalled.{is_at_rest, is_complete, is_stalled, threads_of}
 use Rattle.shared_driver.specs.declared.picks.Pick.{Pick}
 use Rattle.shared_driver.specs.declared.picks.Pick.TheVariants.{Call, Wait, Stop}
-use Rattle.play_threads.specs.Picks.{IsOver, IsPickOf, have_others_halted}
+use Rattle.play_threads.specs.Picks.{IsOver, IsPickOf}
 
 ready_by : (p : Places) (v : ℕ) (x : Own) (s : State) (wait : Option ℕ) → option_map_or (is_signalled (put_at p v x s)) wait false ≡ option_map_or (is_signalled s) wait false
 ready_by p v x s None = refl
@@ -60,5 +60,5 @@ module _ (t : TraceValue) (es : List Entry) (a b : State) (same : (n : ℕ) → 
 
   pub pick_same : (n : ℕ) (k : Pick) → IsPickOf t es a n k → IsPickOf t es b n k
   pick_same n (Call mark call) (l, next, goes, at, is) = (l, next, sym (goes_same n l) ∙ goes, at, is)
-  pick_same n Wait h = sym (blocked_same n) ∙ h
+  pick_same n (Wait what) h = sym (blocked_same n) ∙ h
   pick_same n Stop h = over_same n h

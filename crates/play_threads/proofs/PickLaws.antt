@@ -24,7 +24,7 @@ use Rattle.trace_session.specs.Sessions.{Knows, SessionValue}
 use Rattle.trace_session.proofs.AlikeLaws.{knows_alike}
 use Rattle.shared_driver.specs.Cores.{of_number}
 use Rattle.play_threads.specs.declared.pickers.LinePicker.{LinePicker}
-use Rattle.play_threads.specs.Picks.{HasLearnt, IsPickOf, Picks, have_others_halted, is_halt_beside}
+use Rattle.play_threads.specs.Picks.{HasLearnt, IsPickOf, MayRest, Picks, have_others_halted, is_halt_beside}
 
 abbrev pub of_others : ℕ → List Entry → Type 0
 of_others n es = All (λ e. e.thread ≢ n) es
@@ -211,8 +211,8 @@ picked_line t es s n mark call at free is = picked_by t es s n mark call (next_l
 
 -- what was picked by all that was learnt
 pub picks_if_ok : (x : Result Pick NoMemory) (p q : LinePicker) (es : List Entry) (d : Machine) → q.thread ≡ p.thread → q.session.trace ≡ p.session.trace → q.learnt ≡ length es → HasLearnt q (of_number p.thread es) es
-    → IfOk x (IsPickOf q.session.trace es d.state q.thread) → IfOk x (λ k. Picks p es d k q)
-picks_if_ok (Ok k) p q es d thread trace all learnt pick = record {
+    → IfOk x (IsPickOf q.session.trace es d.state q.thread) → IfOk x (MayRest q.session.trace es d) → IfOk x (λ k. Picks p es d k q)
+picks_if_ok (Ok k) p q es d thread trace all learnt pick rests = record {
   thread = thread;
   trace = trace;
   all = all;
@@ -221,8 +221,9 @@ picks_if_ok (Ok k) p q es d thread trace all learnt pick = record {
       let T : TraceValue → Type 0 = λ t. IsPickOf t es d.state q.thread k in
       let N : ℕ → Type 0 = λ n. IsPickOf p.session.trace es d.state n k in
       subst N thread (subst T trace pick);
+  rests = let R : TraceValue → Type 0 = λ t. MayRest t es d k in subst R trace rests;
 }
-picks_if_ok (Err e) p q es d thread trace all learnt pick = tt
+picks_if_ok (Err e) p q es d thread trace all learnt pick rests = tt
 
 pub learnt_of : (p q : LinePicker) (es : List Entry) → q.thread ≡ p.thread → HasLearnt q (of_number p.thread es) es → HasLearnt q (of_number q.thread es) es
 learnt_of p q es thread h = let P : List Entry → Type 0 = λ own. HasLearnt q own es in subst P (ap (λ (n : ℕ). of_number n es) (sym thread)) h

@@ -1,5 +1,5 @@
 -- What a worker takes along to another thread, and what is lent to it.
-use denote.Builtin.{i64, u8}
+use denote.Builtin.{i64}
 use denote.Param.Send.{IsSend, IsSync, recorded_send, recorded_sync, sendable, struct_send, struct_sync, view_sync}
 use denote.Struct.Declared as declared
 use Rattle.std.proofs.Crossing.{crosses}

@@ -1,5 +1,5 @@
 -- What a worker's turns leave of its token.
-use Rattle.std.proofs.Common.{◌≡◌, ◌≢◌, ℕ, zero, suc, ◌<◌, Bool, true, false, not, ◌&&◌, ◌||◌, List, [], ◌∷◌, ◌++◌, refl, sym, ap, ◌∙◌, arith, subst, append_assoc, Option, None, Some, Result, Ok, Err, inl}
+use Rattle.std.proofs.Common.{◌≡◌, ◌≢◌, ℕ, zero, suc, ◌<◌, Bool, true, false, not, ◌&&◌, ◌||◌, List, [], ◌∷◌, ◌++◌, refl, sym, ap, ◌∙◌, arith, subst, append_assoc, Option, Some, Result, Ok, Err, inl}
 use Rattle.std.proofs.lemmas.Bool.{eq-eqb}
 use Rattle.std.proofs.lemmas.List.{append-nil}
 use Rattle.std.proofs.lemmas.List.Elements.{All-head, All-tail, All-weaker}
@@ -244,9 +244,9 @@ module _ (t : TraceValue) (is : IsTrace t) (n : ℕ) (below : n < t.threads) (es
   plays_picked (Call mark call) (Replied reply) a legal p = played_call mark call reply legal p
   plays_picked (Call mark call) Waited a legal p = absurd a
   plays_picked (Call mark call) Stopped a legal p = absurd a
-  plays_picked Wait (Replied reply) a legal p = absurd a
-  plays_picked Wait Waited a legal p = let P : List Entry → Type 0 = λ xs. PlaysAs t n xs in subst P (sym (append-nil es)) plays
-  plays_picked Wait Stopped a legal p = absurd a
+  plays_picked (Wait what) (Replied reply) a legal p = absurd a
+  plays_picked (Wait what) Waited a legal p = let P : List Entry → Type 0 = λ xs. PlaysAs t n xs in subst P (sym (append-nil es)) plays
+  plays_picked (Wait what) Stopped a legal p = absurd a
   plays_picked Stop (Replied reply) a legal p = absurd a
   plays_picked Stop Waited a legal p = absurd a
   plays_picked Stop Stopped a legal p = let P : List Entry → Type 0 = λ xs. PlaysAs t n xs in subst P (sym (append-nil es)) plays
@@ -262,7 +262,7 @@ calm_picked t is s of n below es own x knows (Call mark call) (Replied reply) (l
     list_any-append is_halt own (entry n mark call reply ∷ []) ∙ or_none (are_halted own) _ calm (or_none (is_halt_kind call.kind) false last refl)
 calm_picked t is s of n below es own x knows (Call mark call) Waited p calm = ap are_halted (append-nil own) ∙ calm
 calm_picked t is s of n below es own x knows (Call mark call) Stopped p calm = ap are_halted (append-nil own) ∙ calm
-calm_picked t is s of n below es own x knows Wait r p calm = ap are_halted (append-nil own) ∙ calm
+calm_picked t is s of n below es own x knows (Wait what) r p calm = ap are_halted (append-nil own) ∙ calm
 calm_picked t is s of n below es own x knows Stop r p calm = ap are_halted (append-nil own) ∙ calm
 
 -- ---- A turn.
@@ -289,7 +289,7 @@ may_look u p t n same own of below h es d (between, others, is) made = record {
 over_by : (t : TraceValue) (es seen : List Entry) (n : ℕ) (k : Pick) (r : Picked) → IsAnswer k r → r ≡ Stopped → IsPickOf t es (state_behind t es) n k → seen ≡ es ++ picked_entries n k r → IsOver t seen (state_behind t seen) n
 over_by t es seen n Stop Stopped a e p h = let P : List Entry → Type 0 = λ xs. IsOver t xs (state_behind t xs) n in subst P (sym (h ∙ append-nil es)) p
 over_by t es seen n (Call mark call) Stopped a e p h = absurd a
-over_by t es seen n Wait Stopped a e p h = absurd a
+over_by t es seen n (Wait what) Stopped a e p h = absurd a
 over_by t es seen n k (Replied reply) a e p h = absurd (let f : Replied reply ≡ Stopped = e in cc)
 over_by t es seen n k Waited a e p h = absurd (let f : Waited ≡ Stopped = e in cc)
 
@@ -298,14 +298,14 @@ picked_own : (n : ℕ) (k : Pick) (r : Picked) → of_number n (picked_entries n
 picked_own n (Call mark call) (Replied reply) = of_own n (entry n mark call reply) refl
 picked_own n (Call mark call) Waited = refl
 picked_own n (Call mark call) Stopped = refl
-picked_own n Wait r = refl
+picked_own n (Wait what) r = refl
 picked_own n Stop r = refl
 
 none_waited : (n : ℕ) (k : Pick) (r : Picked) → r ≡ Waited → picked_entries n k r ≡ []
 none_waited n (Call mark call) (Replied reply) e = absurd (let f : Replied reply ≡ Waited = e in cc)
 none_waited n (Call mark call) Waited e = refl
 none_waited n (Call mark call) Stopped e = refl
-none_waited n Wait r e = refl
+none_waited n (Wait what) r e = refl
 none_waited n Stop r e = refl
 
 -- what a session learnt of its thread's answer is the entry of the pick
@@ -324,9 +324,9 @@ told_by t es s n q w reply owner of knows told (Call mark call) (Replied other) 
     subst E same (told es l knows here)
 told_by t es s n q w reply owner of knows told (Call mark call) Waited e a p = absurd a
 told_by t es s n q w reply owner of knows told (Call mark call) Stopped e a p = absurd a
-told_by t es s n q w reply owner of knows told Wait (Replied other) e a p = absurd a
-told_by t es s n q w reply owner of knows told Wait Waited e a p = absurd (let f : Waited ≡ Replied reply = e in cc)
-told_by t es s n q w reply owner of knows told Wait Stopped e a p = absurd a
+told_by t es s n q w reply owner of knows told (Wait what) (Replied other) e a p = absurd a
+told_by t es s n q w reply owner of knows told (Wait what) Waited e a p = absurd (let f : Waited ≡ Replied reply = e in cc)
+told_by t es s n q w reply owner of knows told (Wait what) Stopped e a p = absurd a
 told_by t es s n q w reply owner of knows told Stop (Replied other) e a p = absurd a
 told_by t es s n q w reply owner of knows told Stop Waited e a p = absurd a
 told_by t es s n q w reply owner of knows told Stop Stopped e a p = absurd (let f : Stopped ≡ Replied reply = e in cc)

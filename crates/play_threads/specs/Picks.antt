@@ -1,5 +1,5 @@
 -- What a worker picks in its turn.
-use Rattle.std.specs.Prelude.{◌≡◌, ◌≢◌, ◌⊎◌, ℕ, ◌<◌, ◌≤◌, Bool, true, not, ◌&&◌, ◌==◌, List, length, take, Some}
+use Rattle.std.specs.Prelude.{◌≡◌, ◌≢◌, ◌⊎◌, ℕ, ◌<◌, ◌≤◌, Bool, true, false, not, ◌&&◌, ◌==◌, List, length, take, Some}
 use Rattle.std.specs.List.{list_any}
 use Rattle.egl_calls.specs.Journals.{is_halt}
 use Rattle.egl_calls.specs.declared.entries.Entry.{Entry}
@@ -46,8 +46,13 @@ IsOver t es s thread = (is_at_end t.lines es thread ≡ true) ⊎ (is_stalled t 
 -- the call that a thread makes next, with its line's number; nothing now where the thread is blocked, and nothing any more where nothing is left
 abbrev pub IsPickOf : TraceValue → List Entry → State → ℕ → Pick → Type 0
 IsPickOf t es s thread (Call mark call) = (l : Line) × (next_line t.lines es thread ≡ Some l) × (goes_on t.lines es s thread l ≡ true) × (mark ≡ l.number) × (call ≡ next_call t.lines es thread l)
-IsPickOf t es s thread Wait = is_blocked t.lines es s thread ≡ true
+IsPickOf t es s thread (Wait what) = is_blocked t.lines es s thread ≡ true
 IsPickOf t es s thread Stop = IsOver t es s thread
+
+-- A thread waits only in a run that hasn't stalled. While threads of the trace have no token yet, that isn't asked
+abbrev pub MayRest : TraceValue → List Entry → Machine → Pick → Type 0
+MayRest t es d (Wait what) = t.threads ≤ d.made → is_stalled t es d.state ≡ false
+MayRest t es d k = Unit {0}
 
 -- a picker that has learnt all entries gave the pick of its thread
 pub record Picks (p : LinePicker) (es : List Entry) (d : Machine) (k : Pick) (q : LinePicker) : Type 0 where
@@ -56,3 +61,4 @@ pub record Picks (p : LinePicker) (es : List Entry) (d : Machine) (k : Pick) (q 
   pub all : q.learnt ≡ length es
   pub learnt : HasLearnt q (of_number p.thread es) es
   pub pick : IsPickOf p.session.trace es d.state p.thread k
+  pub rests : MayRest p.session.trace es d k

@@ -5,6 +5,7 @@
 
 mod gates;
 mod lone_lines;
+mod needs;
 mod pickers;
 mod plays;
 mod starts;

@@ -1,5 +1,5 @@
 //! What a worker picks, by what it knows of the journal.
-ghost use Rattle.std.specs.Prelude.{◌≡◌, ◌<◌, ◌+◌, ◌-◌, ◌^◌, ◌||◌, ◌∷◌, ◌++◌, [], true, length, slice_get, Some, IfOk, IfSome, OnOk, List};
+ghost use Rattle.std.specs.Prelude.{◌≡◌, ◌<◌, ◌≤◌, ◌+◌, ◌-◌, ◌^◌, ◌||◌, ◌∷◌, ◌++◌, [], true, false, length, slice_get, Some, IfOk, IfSome, OnOk, List};
 ghost use Rattle.egl_calls.specs.Journals.{is_halt};
 ghost use Rattle.egl_calls.specs.declared.entries.Entry.{Entry as AnEntry};
 ghost use Rattle.trace_reader.specs.declared.traces.Line.{Line as ALine};
@@ -11,11 +11,12 @@ ghost use Rattle.trace_session.specs.Facts.{HasFacts};
 ghost use Rattle.trace_session.specs.Sessions.{Knows};
 ghost use Rattle.shared_driver.specs.Cores.{entry, of_number};
 ghost use Rattle.shared_driver.specs.Picks.{IsBuiltPick};
-ghost use Rattle.play_threads.specs.Picks.{HasLearnt, IsPickOf, MayLook, Picks, have_others_halted};
+ghost use Rattle.play_threads.specs.Picks.{HasLearnt, IsPickOf, MayLook, MayRest, Picks, have_others_halted};
 
+use crate::needs::Needs;
 use driver_core::Driver;
-use egl_calls::{Entry, Journal, NoMemory, Reply};
-use shared_driver::{Pick, Picker};
+use egl_calls::{Entry, Journal, NoMemory, Outcome, Reply};
+use shared_driver::{Pick, Picker, Wanted};
 use std::alloc::Global;
 use trace_reader::{Line, Trace};
 use trace_session::Session;
@@ -30,6 +31,9 @@ pub struct LinePicker<'a> {
     pub(crate) learnt: u64,
     // another thread gave up
     pub(crate) halted: bool,
+    // its own thread is in a wait
+    pub(crate) waits: bool,
+    pub(crate) needs: Needs<'a>,
 }
 
 impl<'a> LinePicker<'a> {
@@ -39,12 +43,15 @@ impl<'a> LinePicker<'a> {
         ensures thread { IfOk result (λ p. p.thread ≡ thread) }
         ensures learnt { IfOk result (λ p. (es : List AnEntry) → HasLearnt p [] es) }
     {
+        let needs = Needs::new(alloc, trace)?;
         Ok(LinePicker {
             alloc,
             thread,
             session: Session::new(alloc, trace)?,
             learnt: 0,
             halted: false,
+            waits: false,
+            needs,
         })
     }
 
@@ -95,9 +102,19 @@ impl<'a> LinePicker<'a> {
 
     // Whether the run has stalled. While threads of the trace have no token yet, it hasn't.
     fn is_stalled(&self, driver: &Driver) -> bool
-        ensures { (es : List AnEntry) → Knows es self.now.session → result ≡ true → is_stalled self.now.session.trace es driver.now.state ≡ true }
+        ensures stalled { (es : List AnEntry) → Knows es self.now.session → result ≡ true → is_stalled self.now.session.trace es driver.now.state ≡ true }
+        ensures goes_on { (es : List AnEntry) → Knows es self.now.session → result ≡ false → self.now.session.trace.threads ≤ driver.now.made → is_stalled self.now.session.trace es driver.now.state ≡ false }
     {
         driver.threads() >= self.session.threads() && self.session.stalled(driver)
+    }
+
+    // What its thread waits for at the line of this number, where it is blocked.
+    fn wanted(&self, mark: u64) -> Wanted {
+        if self.waits {
+            Wanted::Signal
+        } else {
+            self.needs.wanted(&self.session, mark)
+        }
     }
 
     // The pick by all that was learnt.
@@ -106,6 +123,7 @@ impl<'a> LinePicker<'a> {
         requires made { self.now.thread < driver.now.made }
         ensures built { (es : List AnEntry) → Knows es self.now.session → IfOk result IsBuiltPick }
         ensures pick { (es : List AnEntry) → Knows es self.now.session → self.now.halted ≡ have_others_halted self.now.thread es → IfOk result (IsPickOf self.now.session.trace es driver.now.state self.now.thread) }
+        ensures rests { (es : List AnEntry) → Knows es self.now.session → IfOk result (MayRest self.now.session.trace es driver.now) }
     {
         self.session.facts();
         if self.halted {
@@ -120,7 +138,7 @@ impl<'a> LinePicker<'a> {
         if self.is_stalled(driver) {
             Ok(Pick::Stop)
         } else {
-            Ok(Pick::Wait)
+            Ok(Pick::Wait(self.wanted(mark)))
         }
     }
 
@@ -150,6 +168,7 @@ impl<'a> LinePicker<'a> {
         let Some(mark) = self.session.next(self.thread) else {
             return Ok(());
         };
+        self.waits = matches!(reply.outcome, Outcome::Waiting);
         let entry = Entry {
             thread: self.thread,
             mark,

@@ -1,11 +1,11 @@
 //! The run of all threads of a trace at once.
-ghost use Rattle.std.specs.Prelude.{◌≡◌, true, IfOk, IfErr};
+ghost use Rattle.std.specs.Prelude.{◌≡◌, ◌≤◌, true, false, IfOk, IfErr};
 ghost use Rattle.egl_model.specs.History.{IsLegalFrom, replay_from};
 ghost use Rattle.trace_reader.specs.Traces.{TraceValue};
 ghost use Rattle.trace_model.specs.Follows.{Follows};
-ghost use Rattle.trace_model.specs.Stalled.{IsComplete, is_stalled};
+ghost use Rattle.trace_model.specs.Stalled.{IsComplete, is_complete, is_stalled};
 ghost use Rattle.shared_driver.specs.Tokens.{IsOf, opening_of, token_of};
-ghost use Rattle.play_threads.specs.declared.plays.Reached.TheVariants.{End, Stall};
+ghost use Rattle.play_threads.specs.declared.plays.Reached.TheVariants.{End, Neither, Stall};
 ghost use Rattle.play_threads.specs.Plays.{IsRunOf, IsStalledRunOf, OwnersPlay};
 
 use crate::gates::Gate;
@@ -26,7 +26,7 @@ enum Reached {
     End,
     /// The threads wait for one another.
     Stall,
-    /// Neither: no worker played a line.
+    /// Neither: a thread can go on, or has no token.
     Neither,
 }
 
@@ -69,6 +69,7 @@ fn run<R: Threads + Wait + Sync, G: Gate + Sync>(
 fn how_far(alloc: Global, trace: &Trace, run: &Run) -> Result<Reached, NoMemory>
     ensures end { IfOk result (λ r. r ≡ End → IsComplete trace.now run.now.journal.entries) }
     ensures stall { IfOk result (λ r. r ≡ Stall → is_stalled trace.now run.now.journal.entries run.now.driver.state ≡ true) }
+    ensures neither { IfOk result (λ r. r ≡ Neither → (is_complete trace.now run.now.journal.entries ≡ false) × (trace.now.threads ≤ run.now.driver.made → is_stalled trace.now run.now.journal.entries run.now.driver.state ≡ false)) }
 {
     let session = Session::behind(alloc, trace, &run.journal)?;
     if session.is_complete() {

@@ -48,7 +48,7 @@ fn play_lines<R: Wait, G: Gate>(
     'turns: for _ in rt.forever() {
         play_lone(thread, alloc, gate, &mut picker, &mut told)?;
         announce(gate, number, picker.coming(), &mut told);
-        let heard = shared.heard();
+        let heard = shared.heard(thread);
         let outcome = shared.call_picked(thread, rt, alloc, &mut picker);
         what_a_token_has_seen_is_legal(shared, thread);
         let picked = outcome?;

@@ -1,5 +1,5 @@
 //! The workers of a run, each with a token.
-ghost use Rattle.std.specs.Prelude.{◌≡◌, ◌<◌, ◌+◌, [], true, false, All, vec_len, vec_capacity};
+ghost use Rattle.std.specs.Prelude.{◌≡◌, ◌<◌, ◌+◌, ◌-◌, [], true, false, All, vec_len, vec_capacity};
 ghost use Rattle.egl_model.specs.State.{opening};
 ghost use Rattle.shared_driver.specs.Tokens.{IsOf, mine, opening_of, token_of};
 ghost use Rattle.play_threads.specs.Plays.{IsReady, IsThrough, OwnersPlay};
@@ -35,7 +35,7 @@ fn worker_with(thread: Thread, threads: u32, wanted: bool) -> Worker
     Worker { thread, wanted }
 }
 
-// Makes workers for all threads but the first, in the room that there is. False where one can't be made.
+// Makes workers for all threads but the first, in the room that there is. False exactly where one can't be made.
 fn hire<R: Wait>(
     rt: &R,
     shared: &Shared,
@@ -55,6 +55,8 @@ fn hire<R: Wait>(
     ensures tail { (token_of first.new).tail ≡ [] }
     ensures workers { All (IsReady trace.now shared.now) workers.new.items }
     ensures room { vec_len workers.new < vec_capacity workers.new }
+    ensures all { result ≡ true → vec_len workers.new ≡ vec_len workers.old + (trace.now.threads - 1) }
+    ensures some { result ≡ false → vec_len workers.new < vec_len workers.old + (trace.now.threads - 1) }
 {
     let threads = trace.threads();
     'attaching: for _thread in 1..threads {

@@ -34,6 +34,7 @@ use Rattle.driver_core.specs.contracts.machine.Driver as driver
 use Rattle.thread_part.specs.contracts.thread_part.ThreadPart as thread_part
 use Rattle.shared_driver.specs.contracts.cores.Core as core
 use Rattle.shared_driver.specs.contracts.news.News as news
+use Rattle.shared_driver.specs.contracts.sleepers.Sleepers as sleepers
 use Rattle.shared_driver.specs.contracts.tokens.Shared as shared
 use Rattle.shared_driver.specs.contracts.tokens.Thread as thread
 
@@ -112,11 +113,14 @@ driver_send = let a = displays_send in let b = objects_send in let d = windows_s
 pub core_send : IsSend core.the_row
 core_send = let a = driver_send in let b = journal_send in search (sendable, crosses) depth 60
 
+pub sleepers_send : IsSend sleepers.the_row
+sleepers_send = search (sendable, crosses) depth 60 fits 20000
+
 pub news_send : IsSend news.the_row
-news_send = search (sendable, crosses) depth 60
+news_send = let a = sleepers_send in search (sendable, crosses) depth 60 fits 20000
 
 pub news_sync : IsSync news.the_row
-news_sync = search (sendable, crosses) depth 60
+news_sync = let a = sleepers_send in search (sendable, crosses) depth 60 fits 20000
 
 pub bells_send : IsSend bells.the_row
 bells_send = search (sendable, crosses) depth 60

@@ -29,7 +29,7 @@ picked_entries n p r = []
 -- each answer comes exactly by its pick
 abbrev pub IsAnswer : Pick → Picked → Type 0
 IsAnswer (Call mark call) (Replied reply) = Unit {0}
-IsAnswer Wait Waited = Unit {0}
+IsAnswer (Wait what) Waited = Unit {0}
 IsAnswer Stop Stopped = Unit {0}
 IsAnswer p r = ⊥
 
@@ -37,7 +37,7 @@ IsAnswer p r = ⊥
 abbrev pub IsDone : Core → ℕ → Pick → Picked → Core → Type 0
 IsDone x n (Call mark call) (Replied reply) y =
     (y.journal.entries ≡ x.journal.entries ++ entry n mark call reply ∷ []) × (reply ≡ (step x.driver.state n call).reply) × (y.driver ≡ record x.driver { state = (step x.driver.state n call).state })
-IsDone x n Wait Waited y = (y.journal.entries ≡ x.journal.entries) × (y.driver ≡ x.driver)
+IsDone x n (Wait what) Waited y = (y.journal.entries ≡ x.journal.entries) × (y.driver ≡ x.driver)
 IsDone x n Stop Stopped y = (y.journal.entries ≡ x.journal.entries) × (y.driver ≡ x.driver)
 IsDone x n p r y = ⊥
 

@@ -16,7 +16,7 @@ ghost use Rattle.shared_driver.specs.Tokens.{AnswersAfterWait, AnswersAtOnce, Go
 use crate::cores::{Core, PLACES, is_waiting};
 use crate::newcomers::own_calls;
 use crate::news::News;
-use crate::picks::{Picked, PickedCall, Picker, is_halt, was_played};
+use crate::picks::{Picked, PickedCall, Picker, has_stopped, is_halt};
 use crate::tokens::{Closed, Holding, Opened, Shared, Thread};
 use egl_calls::{Call, EglKind, GlKind, Kind, NoMemory, OwnKind, Reply};
 use std::alloc::Global;
@@ -116,6 +116,7 @@ impl Shared {
         let back = PLACES - thread.places;
         let mut held = self.begin_turn(&mut thread.hold, rt);
         let core = held.value();
+        let from = core.journal.len();
         match core.begin(
             alloc,
             thread.hold.number,
@@ -125,10 +126,11 @@ impl Shared {
             back,
         ) {
             Ok(reply) => {
+                let woken = self.news.rouse(rt, core, from);
                 self.end_turn(&mut thread.hold, held);
                 thread.places = PLACES;
                 thread.halted = either(thread.halted, halts);
-                self.news.tell();
+                self.news.call(&woken);
                 Ok(reply)
             }
             Err(error) => {
@@ -160,11 +162,13 @@ impl Shared {
         let halts = is_halt(call.kind);
         let mut held = self.begin_turn(&mut thread.hold, rt);
         let core = held.value();
+        let from = core.journal.len();
         let reply = core.add(alloc, thread.hold.number, mark, call, &mut thread.hold.tail);
+        let woken = self.news.rouse(rt, core, from);
         self.end_turn(&mut thread.hold, held);
         thread.places -= 1;
         thread.halted = either(thread.halted, halts);
-        self.news.tell();
+        self.news.call(&woken);
         reply
     }
 
@@ -231,9 +235,11 @@ impl Shared {
     {
         let mut held = self.begin_turn(&mut thread.hold, rt);
         let core = held.value();
+        let from = core.journal.len();
         core.hand_in(thread.hold.number, &mut thread.hold.tail);
+        let woken = self.news.rouse(rt, core, from);
         self.end_turn(&mut thread.hold, held);
-        self.news.tell();
+        self.news.call(&woken);
     }
 
     /// How many tokens are not yet joined, as counted in this call's turn. It takes no memory.
@@ -300,9 +306,10 @@ impl Shared {
         let mut held = self.begin_turn(&mut thread.hold, rt);
         let core = held.value();
         core.halt(alloc, thread.hold.number, &mut thread.hold.tail);
+        let woken = self.news.rouse_all(rt);
         self.end_turn(&mut thread.hold, held);
         thread.halted = true;
-        self.news.tell();
+        self.news.call(&woken);
     }
 
     /// Hands in the token's own calls, and adds an entry of the call Halt with mark 0 where it has none yet. It takes no memory.
@@ -345,9 +352,9 @@ impl Shared {
         ensures err_places { OnErr result ((token_of thread.new).places ≡ (token_of thread.old).places) }
     {
         let back = PLACES - thread.places;
-        let had_own = !thread.hold.tail.is_empty();
         let mut held = self.begin_turn(&mut thread.hold, rt);
         let core = held.value();
+        let from = core.journal.len();
         core.hand_in(thread.hold.number, &mut thread.hold.tail);
         match core.pick(
             alloc,
@@ -356,16 +363,25 @@ impl Shared {
             &mut thread.hold.tail,
             back,
         ) {
-            Ok(PickedCall { picked, halts }) => {
+            Ok(
+                PickedCall {
+                    picked,
+                    halts,
+                    wanted,
+                },
+            ) => {
+                let woken = self.news.rouse_by(rt, core, from, has_stopped(&picked));
+                self.news.lie_down(rt, thread.hold.number, wanted);
                 self.end_turn(&mut thread.hold, held);
                 thread.places = PLACES;
                 thread.halted = either(thread.halted, halts);
-                self.news.tell_where(either(had_own, was_played(&picked)));
+                self.news.call(&woken);
                 Ok(picked)
             }
             Err(error) => {
+                let woken = self.news.rouse(rt, core, from);
                 self.end_turn(&mut thread.hold, held);
-                self.news.tell_where(had_own);
+                self.news.call(&woken);
                 Err(error)
             }
         }

@@ -36,10 +36,11 @@ impl Shared {
                 let pass = self
                     .turns
                     .split_after(&mut from.hold.pass, &held, FIRST_ROOM);
+                let woken = self.news.rouse_all(rt);
                 self.end_turn(&mut from.hold, held);
                 from.places = PLACES;
                 from.sole = false;
-                self.news.tell();
+                self.news.call(&woken);
                 Ok(Thread {
                     hold: Holding {
                         pass,
@@ -72,6 +73,7 @@ impl Shared {
         let core = held.value();
         core.hand_in(hold.number, &mut hold.tail);
         core.leave(hold.number);
+        let woken = self.news.rouse_all(rt);
         let Holding {
             mut pass,
             number: _,
@@ -82,7 +84,7 @@ impl Shared {
             unreachable!()
         };
         self.turns.give_back(&mut pass, held);
-        self.news.tell();
+        self.news.call(&woken);
         pass
     }
 

@@ -1,73 +1,122 @@
-//! Where threads sleep until another turn has added an entry or made a token.
-use crate::tokens::Shared;
-use std::sync::Wait;
+//! Where threads sleep until what they wait for may have come.
+use crate::cores::Core;
+use crate::sleepers::{BEDS, Sleepers, Wanted, Woken, bed_of};
+use crate::tokens::{Shared, Thread};
+use std::array;
 use std::sync::atomic::AtomicU64;
 use std::sync::atomic::Ordering::SeqCst;
+use std::sync::{Mutex, Wait};
 
-/// How many entries and tokens were told of, and how many threads sleep for one.
+/// The beds of the threads that sleep, and how often each was called to get up.
 ///
-/// A thread whose wait can't end yet sleeps here, or one whose picker has nothing to do, since only another turn can change that. The words are no part of the history: a thread that wakes takes a turn and looks again.
+/// A thread whose wait can't end yet sleeps here, or one whose picker has nothing to do, since only another turn can change that. It takes its bed in the turn in which it looked, and each later turn calls those whom its entries can have freed. So none is missed, and who isn't called sleeps on without a turn. No clause speaks of this: a thread that wakes takes a turn and looks again.
 #[derive(Drop)]
 pub(crate) struct News {
-    told: AtomicU64,
-    sleepers: AtomicU64,
+    sleepers: Mutex<Sleepers>,
+    // how many beds are taken, so that a turn costs no look at them where all are empty
+    taken: AtomicU64,
+    calls: [AtomicU64; BEDS],
 }
 
 impl News {
     pub(crate) fn new() -> News {
         News {
-            told: AtomicU64::new(0),
-            sleepers: AtomicU64::new(0),
+            sleepers: Mutex::new(Sleepers::new()),
+            taken: AtomicU64::new(0),
+            calls: array::from_fn(|_| AtomicU64::new(0)),
         }
     }
 
-    /// How many were told of. To be read before the look that a sleep follows, so that none is missed.
-    pub(crate) fn heard(&self) -> u64 {
-        self.told.load(SeqCst)
-    }
-
-    /// Tells of an entry, or a token. Where nobody sleeps, this costs no call of the system.
-    pub(crate) fn tell(&self) {
-        self.told.fetch_add(1, SeqCst);
-        // A thread that counts itself in after this look finds the entry told of, and doesn't sleep.
-        if self.sleepers.load(SeqCst) != 0 {
-            self.told.wake_all();
+    /// How often a token's bed was called. To be read before the turn in which it is taken, so that no call is missed.
+    pub(crate) fn heard(&self, number: u32) -> Heard {
+        let bed = bed_of(number);
+        Heard {
+            bed,
+            calls: self.calls[bed].load(SeqCst),
         }
     }
 
-    /// Tells of entries, where some were added. A turn that added none wakes nobody, or two that have nothing to do would wake each other for ever.
-    pub(crate) fn tell_where(&self, added: bool) {
-        if added {
-            self.tell();
+    /// In its turn a token takes its bed, where it wants something.
+    pub(crate) fn lie_down<R: Wait>(&self, rt: &R, number: u32, wanted: Option<Wanted>) {
+        if let Some(wanted) = wanted {
+            let mut sleepers = self.sleepers.lock(rt);
+            sleepers.lie_down(number, wanted);
+            self.taken.store(sleepers.taken(), SeqCst);
         }
     }
 
-    /// Sleeps until an entry is told of after `heard`.
-    pub(crate) fn sleep<R: Wait>(&self, rt: &R, heard: u64) {
-        self.sleepers.fetch_add(1, SeqCst);
-        'asleep: for _ in rt.forever() {
-            if self.told.load(SeqCst) != heard {
-                break 'asleep;
+    /// In a turn: whom its entries, from a place of the journal on, can have freed. They are to be called once the turn is over.
+    pub(crate) fn rouse<R: Wait>(&self, rt: &R, core: &Core, from: u64) -> Woken {
+        if self.taken.load(SeqCst) == 0 {
+            return Woken::nobody();
+        }
+        let mut sleepers = self.sleepers.lock(rt);
+        let woken = sleepers.rouse(&core.driver, &core.journal, from);
+        self.taken.store(sleepers.taken(), SeqCst);
+        woken
+    }
+
+    /// In a turn: all that sleep. They are to be called once the turn is over.
+    pub(crate) fn rouse_all<R: Wait>(&self, rt: &R) -> Woken {
+        if self.taken.load(SeqCst) == 0 {
+            return Woken::nobody();
+        }
+        let mut sleepers = self.sleepers.lock(rt);
+        let woken = sleepers.rouse_all();
+        self.taken.store(sleepers.taken(), SeqCst);
+        woken
+    }
+
+    /// The same of a turn with a pick: all that sleep, where nothing is left to be played for a token, since no entry may come any more.
+    pub(crate) fn rouse_by<R: Wait>(&self, rt: &R, core: &Core, from: u64, stops: bool) -> Woken {
+        if stops {
+            self.rouse_all(rt)
+        } else {
+            self.rouse(rt, core, from)
+        }
+    }
+
+    /// Calls those that a turn roused.
+    pub(crate) fn call(&self, woken: &Woken) {
+        if woken.is_nobody() {
+            return;
+        }
+        'each: for bed in 0..BEDS {
+            if woken.has(bed) {
+                self.calls[bed].fetch_add(1, SeqCst);
+                self.calls[bed].wake_all();
             }
-            // The lowest 32 bits tell, as fewer entries come between the look and the sleep.
-            self.told.park(rt, (heard % (1 << 32)) as u32);
         }
-        self.sleepers.fetch_sub(1, SeqCst);
+    }
+
+    /// Sleeps until the bed is called again.
+    pub(crate) fn sleep<R: Wait>(&self, rt: &R, heard: Heard) {
+        let calls = &self.calls[heard.bed % BEDS];
+        'asleep: for _ in rt.forever() {
+            if calls.load(SeqCst) != heard.calls {
+                return;
+            }
+            // The lowest 32 bits tell, as fewer calls come between the look and the sleep.
+            calls.park(rt, (heard.calls % (1 << 32)) as u32);
+        }
     }
 }
 
-/// What was told so far.
+/// How often a token's bed was called so far.
 #[derive(Clone, Copy, Drop)]
-pub struct Heard(u64);
+pub struct Heard {
+    bed: usize,
+    calls: u64,
+}
 
 impl Shared {
-    /// What was told so far. A thread asks before a call that may be answered `Waited`, so that its sleep misses nothing that came meanwhile.
-    pub fn heard(&self) -> Heard {
-        Heard(self.news.heard())
+    /// How often the token was called so far. A thread asks before a call that may be answered `Waited`, so that its sleep misses nothing that came meanwhile.
+    pub fn heard(&self, thread: &Thread) -> Heard {
+        self.news.heard(thread.hold.number)
     }
 
-    /// Sleeps until an entry is added, or a token made, that wasn't told of before. It may sleep for ever.
+    /// Sleeps until an entry may have brought what the token's last pick waited for, or a thread gave up or has nothing left to play, or a token was made or joined. It may sleep for ever.
     pub fn sleep<R: Wait>(&self, rt: &R, heard: Heard) {
-        self.news.sleep(rt, heard.0);
+        self.news.sleep(rt, heard);
     }
 }

@@ -9,6 +9,7 @@ ghost use Rattle.shared_driver.specs.Cores.{owed};
 ghost use Rattle.shared_driver.specs.Picks.{IsBuiltPick, IsDone, halts};
 
 use crate::cores::Core;
+use crate::sleepers::Wanted;
 use driver_core::Driver;
 use egl_calls::{Call, Entry, Journal, Kind, NoMemory, OwnKind, Reply};
 use std::alloc::Global;
@@ -19,8 +20,8 @@ use std::collections::VecDeque;
 pub enum Pick {
     /// This call, with this mark. It may be the end of a wait that a picked call began.
     Call(u64, Call),
-    /// Nothing in this turn.
-    Wait,
+    /// Nothing in this turn, nor before this has come.
+    Wait(Wanted),
     /// Nothing any more.
     Stop,
 }
@@ -50,16 +51,17 @@ pub trait Picker {
         ensures built { IfOk result IsBuiltPick };
 }
 
-/// What came of a pick, and whether it was a Halt.
+/// What came of a pick, whether it was a Halt, and what it waits for.
 #[derive(Drop)]
 pub struct PickedCall {
     pub picked: Picked,
     pub halts: bool,
+    pub wanted: Option<Wanted>,
 }
 
-/// Whether a picked call was played.
-pub fn was_played(picked: &Picked) -> bool {
-    matches!(picked, Picked::Replied(_))
+/// Whether nothing is to be played any more.
+pub fn has_stopped(picked: &Picked) -> bool {
+    matches!(picked, Picked::Stopped)
 }
 
 /// Whether a call of this kind is a thread's giving up.
@@ -102,13 +104,15 @@ impl Core {
                 Ok(PickedCall {
                     picked: Picked::Replied(reply),
                     halts,
+                    wanted: None,
                 })
             }
-            Pick::Wait => {
+            Pick::Wait(wanted) => {
                 self.promise(number, back);
                 Ok(PickedCall {
                     picked: Picked::Waited,
                     halts: false,
+                    wanted: Some(wanted),
                 })
             }
             Pick::Stop => {
@@ -116,6 +120,7 @@ impl Core {
                 Ok(PickedCall {
                     picked: Picked::Stopped,
                     halts: false,
+                    wanted: None,
                 })
             }
         }

@@ -3,6 +3,7 @@ ghost use Rattle.std.specs.Prelude.{◌≡◌, ◌∷◌, [], IfSome, IfNone, On
 ghost use Rattle.shared_driver.specs.Cores.{entry, wait_end_call, wait_ended};
 ghost use Rattle.shared_driver.specs.Tokens.{Goes, HasPlace, IsOf, IsSame, Learns, token_of};
 
+use crate::sleepers::Wanted;
 use crate::tokens::{Shared, Thread};
 use egl_calls::Reply;
 use std::alloc::Global;
@@ -29,20 +30,24 @@ impl Shared {
     {
         let mut held = self.begin_turn(&mut thread.hold, rt);
         let core = held.value();
+        let from = core.journal.len();
         match core.try_end(alloc, thread.hold.number, mark, &mut thread.hold.tail) {
             Some(reply) => {
+                let woken = self.news.rouse(rt, core, from);
                 self.end_turn(&mut thread.hold, held);
-                self.news.tell();
+                self.news.call(&woken);
                 Some(reply)
             }
             None => {
+                self.news
+                    .lie_down(rt, thread.hold.number, Some(Wanted::Signal));
                 self.end_turn(&mut thread.hold, held);
                 None
             }
         }
     }
 
-    /// Waits until the token's wait can end, and ends it. Between two looks it sleeps until another turn has added an entry. It takes no memory.
+    /// Waits until the token's wait can end, and ends it. Between two looks it sleeps until another turn can have ended it. It takes no memory.
     pub(crate) fn end_wait<R: Wait>(
         &self,
         thread: &mut Thread,
@@ -60,7 +65,7 @@ impl Shared {
         ensures places { (token_of thread.new).places ≡ (token_of thread.old).places }
     {
         'waiting: for _ in rt.forever() {
-            let heard = self.news.heard();
+            let heard = self.news.heard(thread.hold.number);
             if let Some(reply) = self.try_end(thread, rt, alloc, mark) {
                 return reply;
             }

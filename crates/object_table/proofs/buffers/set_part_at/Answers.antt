@@ -1,4 +1,4 @@
-use Rattle.std.proofs.Common.{◌≡◌, refl}
+use Rattle.std.proofs.Common.{◌≡◌}
 use Rattle.object_table.proofs.ChangeLaws.{Keeps, buffer_keeps, was_out}
 use Rattle.object_table.proofs.buffers.set_part_at.Goals as goal
 

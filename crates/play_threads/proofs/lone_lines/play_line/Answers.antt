@@ -3,7 +3,7 @@ use Rattle.egl_calls.specs.Calls.{CallValue}
 use Rattle.trace_reader.specs.declared.traces.Line.{Line}
 use Rattle.shared_driver.specs.Cores.{entry}
 use Rattle.shared_driver.specs.Tokens.{Token, mine, token_of}
-use Rattle.play_threads.proofs.WorkLaws.{lone_built, lone_calm, lone_learnt_if_ok, lone_played}
+use Rattle.play_threads.proofs.WorkLaws.{lone_learnt_if_ok, lone_played}
 use Rattle.play_threads.proofs.lone_lines.play_line.Goals as goal
 
 pub returns-clause-lone : goal.returns-clause-lone

@@ -1,4 +1,4 @@
-use Rattle.std.proofs.Common.{sym, ◌∙◌}
+use Rattle.std.proofs.Common.{◌∙◌}
 use Rattle.shared_driver.specs.Tokens.{Token, token_of}
 use Rattle.play_threads.proofs.WorkLaws.{lone_as}
 use Rattle.play_threads.proofs.lone_lines.play_lone.Goals as goal

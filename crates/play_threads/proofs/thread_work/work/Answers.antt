@@ -1,4 +1,3 @@
-use Rattle.std.proofs.Common.{refl}
 use Rattle.shared_driver.specs.Tokens.{Token, token_of}
 use Rattle.play_threads.proofs.WorkLaws.{gave_up}
 use Rattle.play_threads.proofs.thread_work.work.Goals as goal

@@ -21,4 +21,7 @@ attaching-preserved g c =
       tail = c.in-Ok.ensures.from.3;
       workers = subst Q (sym c.push_reserved.ensures.items) (All-push P c.attaching.workers.items w h.workers ready);
       room = omega (arith, h.room, c.push_reserved.ensures.len, c.push_reserved.ensures.capacity, c.attaching-test.true);
+      long = omega (arith, h.long, c.push_reserved.ensures.len);
+      from = omega (arith, h.from);
+      to = omega (arith, h.to, c.attaching-test.true);
     }

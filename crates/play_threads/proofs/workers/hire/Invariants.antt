@@ -1,4 +1,4 @@
-use Rattle.std.proofs.Common.{◌≡◌, ◌+◌, ◌-◌, ◌<◌, []}
+use Rattle.std.proofs.Common.{◌≡◌, ◌+◌, ◌-◌, ◌<◌, ◌≤◌, []}
 use Rattle.std.specs.Prelude.{All, vec_len, vec_capacity}
 use Rattle.shared_driver.specs.Tokens.{IsOf, mine, token_of}
 use Rattle.play_threads.specs.Plays.{IsReady}
@@ -12,4 +12,7 @@ invariant-attaching g l = record {
   tail : (token_of l.first).tail ≡ [];
   workers : All (IsReady l.trace l.shared) l.workers.items;
   room : vec_len l.workers + (l.threads - l._thread) < vec_capacity l.workers;
+  long : vec_len l.workers + 1 ≡ vec_len l.fn.workers + l._thread;
+  from : 1 ≤ l._thread;
+  to : l._thread ≤ 1 + (l.threads - 1);
 }

@@ -1,4 +1,4 @@
-use Rattle.std.proofs.Common.{◌∙◌, List, Option, arith, subst, sym}
+use Rattle.std.proofs.Common.{List, Option, arith, subst, sym}
 use Rattle.std.specs.Prelude.{All}
 use Rattle.std.specs.Prelude.{IfSome}
 use Rattle.std.proofs.lemmas.List.Elements.{All-pop, All-push}

@@ -1,7 +1,4 @@
-use Rattle.std.proofs.Common.{◌≡◌, inl, inr}
-use Rattle.egl_model.specs.Bindings.{unbound_object}
-use Rattle.egl_model.specs.Objects.{change_context}
-use Rattle.object_table.specs.Links.{IsLeft}
+use Rattle.std.proofs.Common.{inl, inr}
 use Rattle.object_table.proofs.DeleteLaws.{unbind_both, unbind_none}
 use Rattle.object_table.proofs.table.ObjectTable.unbind.Goals as goal
 

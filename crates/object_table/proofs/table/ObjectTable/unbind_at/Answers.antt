@@ -1,6 +1,6 @@
 use Rattle.std.proofs.Common.{◌∙◌, refl, sym, ap, arith, length}
 use Rattle.ref_store.specs.Counts.{as_list}
-use Rattle.driver_objects.specs.Targets.{binding_of, slot_of}
+use Rattle.driver_objects.specs.Targets.{binding_of}
 use Rattle.egl_model.specs.Bindings.{named_at}
 use Rattle.egl_model.specs.Objects.{change_context}
 use Rattle.std.proofs.Common.{◌≡◌}

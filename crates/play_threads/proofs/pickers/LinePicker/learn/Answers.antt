@@ -1,4 +1,4 @@
-use Rattle.std.proofs.Common.{◌<◌, ◌∙◌, length, sym, arith, ap}
+use Rattle.std.proofs.Common.{◌<◌, ◌∙◌, length, sym, arith}
 use Rattle.play_threads.proofs.PickLaws.{is_there}
 use Rattle.play_threads.proofs.pickers.LinePicker.learn.Goals as goal
 
