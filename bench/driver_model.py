@@ -40,7 +40,7 @@ ENVIRONMENTS = ["GL_MODULATE", "GL_REPLACE"]
 # By a target of buffers the name of its binding.
 BUFFER_BINDINGS = {"GL_ARRAY_BUFFER": "GL_ARRAY_BUFFER_BINDING", "GL_ELEMENT_ARRAY_BUFFER": "GL_ELEMENT_ARRAY_BUFFER_BINDING"}
 USAGES = ["GL_STATIC_DRAW", "GL_DYNAMIC_DRAW"]
-ENUM, VALUE, OPERATION, MEMORY = "GL_INVALID_ENUM", "GL_INVALID_VALUE", "GL_INVALID_OPERATION", "GL_OUT_OF_MEMORY"
+ENUM, VALUE, OPERATION, MEMORY, FRAMEBUFFER = "GL_INVALID_ENUM", "GL_INVALID_VALUE", "GL_INVALID_OPERATION", "GL_OUT_OF_MEMORY", "GL_INVALID_FRAMEBUFFER_OPERATION_OES"
 
 
 class Refused(Exception):
@@ -327,15 +327,19 @@ class Objects:
         self.initialized, self.error = set(), "EGL_SUCCESS"
         # By its number each valid handle: its display and its object.
         self.handles, self.next = {}, 3
-        # The context, and the surfaces that are drawn to and read from, each with the number of its handle.
+        # The context, and the surfaces that are drawn to and read from or None, each with the number of its handle.
         self.current = None
 
     def context(self):
         return self.current[0][0] if self.current else None
 
+    def is_surfaceless(self):
+        """Whether the current context has no surface, and so no complete framebuffer."""
+        return not self.current[1][0]
+
     def alive(self, kind):
         """The objects of a kind that are reached from handles and from what is current."""
-        reached, ahead = set(), [thing for _, thing in self.handles.values()] + [thing for thing, _ in self.current or []]
+        reached, ahead = set(), [thing for _, thing in self.handles.values()] + [thing for thing, _ in self.current or [] if thing]
         while ahead:
             thing = ahead.pop()
             if thing not in reached:
@@ -419,11 +423,12 @@ class EglCalls(Objects):
         self.display(display)
         surfaces = [self.of(display, draw, Surface), self.of(display, read, Surface)]
         drawer = self.of(display, context, Context)
-        refuse((any(number and not surface for number, surface in zip((draw, read), surfaces)), "EGL_BAD_SURFACE"), (context and not drawer, "EGL_BAD_CONTEXT"), (0 in (draw, read, context), "EGL_BAD_MATCH"))
-        refuse((any(CONFIGS[surface.config] != CONFIGS[drawer.config] for surface in surfaces), "EGL_BAD_MATCH"))
+        refuse((any(number and not surface for number, surface in zip((draw, read), surfaces)), "EGL_BAD_SURFACE"), (context and not drawer, "EGL_BAD_CONTEXT"), (context == 0 or (draw == 0) != (read == 0), "EGL_BAD_MATCH"))
+        refuse((any(surface and CONFIGS[surface.config] != CONFIGS[drawer.config] for surface in surfaces), "EGL_BAD_MATCH"))
         self.current = [(drawer, context), (surfaces[0], draw), (surfaces[1], read)]
         if not drawer.boxes:
-            drawer.boxes = {box: [0, 0, surfaces[0].storage.width, surfaces[0].storage.height] for box in BOXES}
+            sides = [surfaces[0].storage.width, surfaces[0].storage.height] if surfaces[0] else [0, 0]
+            drawer.boxes = {box: [0, 0, *sides] for box in BOXES}
         return 1
 
     def eglSurfaceAttrib(self, display, number, attribute, value):
@@ -526,14 +531,14 @@ class GlCalls(Objects):
         return 0
 
     def glClear(self, context, mask):
-        refuse((mask not in CLEARED, VALUE))
+        refuse((mask not in CLEARED, VALUE), (self.is_surfaceless(), FRAMEBUFFER))
         if "COLOR" in mask:
             self.current[1][0].fill(context.colour, context.covers, context.mask)
         return 0
 
     def glReadPixels(self, context, left, bottom, width, height, form, kind):
         is_known = form in ("GL_RGBA", "GL_RGB") and kind in ("GL_UNSIGNED_BYTE", "GL_UNSIGNED_SHORT_5_6_5")
-        refuse((any(not 0 <= side <= LONGEST_READ for side in (width, height)), VALUE), (not is_known, ENUM), ((form == "GL_RGBA") != (kind == "GL_UNSIGNED_BYTE"), OPERATION))
+        refuse((any(not 0 <= side <= LONGEST_READ for side in (width, height)), VALUE), (not is_known, ENUM), ((form == "GL_RGBA") != (kind == "GL_UNSIGNED_BYTE"), OPERATION), (self.is_surfaceless(), FRAMEBUFFER))
         spelled = bytes if form == "GL_RGBA" else packed
         rows = [b"".join(spelled(self.current[2][0].pixel(x, y)) for x in range(left, left + width)) for y in range(bottom, bottom + height)]
         return 0, [], b"".join(row + bytes(-len(row) % context.pack) for row in rows)
@@ -631,7 +636,8 @@ class TextureCalls(Objects):
         return [kept(surface.pixel(x, y), base, kind) for y in range(bottom, bottom + height) for x in range(left, left + width)]
 
     def glCopyTexImage2D(self, context, target, level, internal, left, bottom, width, height, border):
-        refuse((target != "GL_TEXTURE_2D", ENUM), (internal not in FORMATS, VALUE), (not 0 <= level < LEVELS, VALUE), (is_no_side(width, level) or is_no_side(height, level), VALUE), (border != 0, VALUE), ("a" in COMPONENTS[internal] and not self.has_alpha() if internal in FORMATS else False, OPERATION))
+        refuse((target != "GL_TEXTURE_2D", ENUM), (internal not in FORMATS, VALUE), (not 0 <= level < LEVELS, VALUE), (is_no_side(width, level) or is_no_side(height, level), VALUE), (border != 0, VALUE), (self.is_surfaceless(), FRAMEBUFFER))
+        refuse(("a" in COMPONENTS[internal] and not self.has_alpha(), OPERATION))
         storage = Storage(width, height, FORMS[internal, "GL_UNSIGNED_BYTE"], internal, "GL_UNSIGNED_BYTE")
         refuse((self.wants(storage), MEMORY))
         storage.pixels = self.copied(left, bottom, width, height, internal, "GL_UNSIGNED_BYTE")
@@ -642,7 +648,8 @@ class TextureCalls(Objects):
         refuse((target != "GL_TEXTURE_2D", ENUM), (not 0 <= level < LEVELS, VALUE))
         storage = context.target().levels[level]
         refuse((not storage, OPERATION))
-        refuse((is_outside(left, width, storage.width) or is_outside(bottom, height, storage.height), VALUE), ("a" in COMPONENTS[storage.base] and not self.has_alpha(), OPERATION))
+        refuse((is_outside(left, width, storage.width) or is_outside(bottom, height, storage.height), VALUE), (self.is_surfaceless(), FRAMEBUFFER))
+        refuse(("a" in COMPONENTS[storage.base] and not self.has_alpha(), OPERATION))
         copied = iter(self.copied(from_left, from_bottom, width, height, storage.base, storage.kind))
         for y in range(bottom, bottom + height):
             for x in range(left, left + width):
@@ -657,7 +664,7 @@ class TextureCalls(Objects):
 
     def draw(self, context, left, bottom, width, height):
         """Draws a rectangle in fixed point: each pixel whose centre it covers shows the colour, or what the environment makes of that and a texel from before the draw."""
-        refuse((width < 1 or height < 1, VALUE))
+        refuse((width < 1 or height < 1, VALUE), (self.is_surfaceless(), FRAMEBUFFER))
         surface, texture = self.current[1][0], context.target()
         level = texture.sampled(width, height) if "GL_TEXTURE_2D" in context.on and texture.is_complete() else None
         drawn = {}

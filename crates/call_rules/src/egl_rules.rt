@@ -5,7 +5,7 @@ ghost use Rattle.call_rules.specs.Kinds.{is_built};
 ghost use Rattle.egl_calls.specs.declared.kinds.EglKind.TheVariants.{CreateWindowSurface, CreatePbufferSurface, SurfaceAttrib, CreateContext, MakeCurrent, CreateSync, WaitSync};
 ghost use Rattle.egl_calls.specs.declared.errors.EglError.TheVariants.{NotInitialized, BadSurface, BadContext, BadParameter};
 ghost use Rattle.refusal_rows.specs.Rows.{first_error, ◌⇒◌};
-ghost use Rattle.call_rules.specs.EglRules.{egl_refusal, egl_rows, fact_rows, display_row, current_rows, has_attributes, has_code, is_wrong, is_long, is_later_version, is_supported_version};
+ghost use Rattle.call_rules.specs.EglRules.{egl_refusal, egl_rows, fact_rows, display_row, current_rows, has_attributes, has_code, is_one_alone, is_wrong, is_long, is_later_version, is_supported_version};
 
 use crate::egl_facts::EglFacts;
 use egl_calls::arguments::{is_zero, number};
@@ -174,12 +174,18 @@ fn create_context(facts: &EglFacts) -> Option<EglError>
     ])
 }
 
+/// Whether a surface to draw to is given without one to read from, or the other way round.
+fn is_one_alone(call: &Call) -> bool
+    ensures { result ≡ is_one_alone call.now }
+{
+    is_zero(call, DRAW) && !is_zero(call, READ) || !is_zero(call, DRAW) && is_zero(call, READ)
+}
+
 /// Section 3.7.3, where a draw surface, a read surface or a context is given.
 fn make_some_current(call: &Call, facts: &EglFacts) -> Option<EglError>
     ensures { result ≡ first_error (current_rows call.now facts.now) }
 {
     let is_no_surface = is_wrong(call, DRAW, facts.is_draw) || is_wrong(call, READ, facts.is_read);
-    let is_one_missing = is_zero(call, DRAW) || is_zero(call, READ) || is_zero(call, CONTEXT);
     first_error(&[
         no_display(facts),
         uninitialized(facts),
@@ -188,8 +194,12 @@ fn make_some_current(call: &Call, facts: &EglFacts) -> Option<EglError>
             is_wrong(call, CONTEXT, facts.is_context),
             EglError::BadContext,
         ),
-        (is_one_missing, EglError::BadMatch),
-        (!facts.is_compatible, EglError::BadMatch),
+        (is_zero(call, CONTEXT), EglError::BadMatch),
+        (is_one_alone(call), EglError::BadMatch),
+        (
+            is_wrong(call, DRAW, facts.is_compatible),
+            EglError::BadMatch,
+        ),
         (facts.is_context_elsewhere, EglError::BadAccess),
         (facts.is_surface_elsewhere, EglError::BadAccess),
     ])

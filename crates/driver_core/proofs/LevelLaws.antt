@@ -10,7 +10,7 @@ use Rattle.std.specs.Prelude.{IfSome, IsSome, int_lt, is_some}
 use Rattle.std.proofs.Common.{get_or}
 use Rattle.egl_model.specs.Links.{rank_in}
 use Rattle.egl_model.specs.Objects.{change_context, storage_in, with_context}
-use Rattle.egl_model.specs.GlFacts.{gl_refusal, no_framebuffer, part_facts, stored_facts}
+use Rattle.egl_model.specs.GlFacts.{gl_refusal, part_facts, stored_facts}
 use Rattle.egl_model.specs.Bindings.{named_at}
 use Rattle.egl_model.specs.Textures.{level_of, level_storage}
 use Rattle.std.specs.Option.{option_and_then, option_map_or}
@@ -23,6 +23,7 @@ use Rattle.pixel_rows.specs.declared.rects.Rect.{Rect}
 use Rattle.egl_calls.specs.Arguments.{number, signed}
 use Rattle.call_rules.specs.GlAllowed.{ImageAllowed, PartAllowed}
 use Rattle.call_rules.proofs.GlLaws.{part_allowed, rows_off}
+use Rattle.call_rules.specs.GlRules.{no_gl_facts}
 use Rattle.call_rules.specs.TextureRules.{is_no_level_side}
 use Rattle.call_rules.specs.declared.gl_facts.GlFacts.{GlFacts}
 use Rattle.texture_objects.specs.Uploads.{IsImageCall, IsSide, part_rect}
@@ -87,7 +88,7 @@ part_within s t n m c h r e =
 -- glTexParameteriv: four numbers
 pub crop_four : (s : State) (t n : ℕ) (c : CallValue) → c.kind ≡ Gl TexParameteriv → gl_refusal s t n TexParameteriv c ≡ None → length c.list ≡ 4
 unfolding gl_refusal
-crop_four s t n c h r = eqb-true (length c.list) 4 (not-false _ (rows_off c no_framebuffer TexParameteriv h r).1.1.0)
+crop_four s t n c h r = eqb-true (length c.list) 4 (not-false _ (rows_off c no_gl_facts TexParameteriv h r).1.1.0)
 
 -- ---- A storage that is made and held, to which a level refers, and that is let go.
 weighs_storage : (os : List (Option Object)) (v : StorageValue) → weight_of (os ++ Some (Storage v) ∷ []) ≡ weight_of os + 1

@@ -17,7 +17,7 @@ use egl_calls::arguments::{number, signed};
 use egl_calls::places::{BOUND_PNAME, BUFFER_SIZE, TARGET};
 use egl_calls::{Bytes, Call, GlError, NoMemory, Outcome, ReplyPair};
 use std::alloc::Global;
-use thread_part::{bare, no_framebuffer, read};
+use thread_part::{bare, read};
 
 impl Driver {
     /// The number of the buffer on which a call works: of what the context has bound to the call's target.
@@ -48,9 +48,9 @@ impl Driver {
             Some(buffer) => GlFacts {
                 is_bound: true,
                 bound_size: buffer.size(),
-                ..no_framebuffer()
+                ..GlFacts::none()
             },
-            None => no_framebuffer(),
+            None => GlFacts::none(),
         }
     }
 

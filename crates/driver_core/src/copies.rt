@@ -27,7 +27,7 @@ use ref_store::Steps;
 use std::alloc::Global;
 use std::sync::ledger::Ledger;
 use texture_objects::{base_code, form_of};
-use thread_part::no_framebuffer;
+use thread_part::framebuffer_facts;
 
 /// The format of the level that a glCopyTexImage2D gives: a byte for each component.
 fn copied_format(call: &Call) -> Format
@@ -90,7 +90,7 @@ impl Driver {
         requires { thread < self.now.made }
         ensures { result ≡ has_read_alpha self.now.state thread }
     {
-        match self.read_storage(thread) {
+        match self.bound_framebuffer(thread).read {
             Some(storage) => self.has_stored_alpha(storage),
             None => false,
         }
@@ -106,7 +106,7 @@ impl Driver {
             live_bytes: self.objects.live_bytes(),
             new_bytes: copied_bytes(call),
             video_limit: self.video,
-            ..no_framebuffer()
+            ..framebuffer_facts(self.bound_framebuffer(thread).is_complete)
         }
     }
 
@@ -116,6 +116,7 @@ impl Driver {
         ensures { result ≡ copy_part_facts self.now.state thread context call.now }
     {
         GlFacts {
+            is_framebuffer_complete: self.bound_framebuffer(thread).is_complete,
             has_read_alpha: self.has_read_alpha(thread),
             ..self.part_facts(context, call)
         }
@@ -135,7 +136,7 @@ impl Driver {
         ensures { IfOk result (λ o. o ≡ option_map (λ i. copied_level call.now i) (read_image self.now.state thread)) }
     {
         let _ = context;
-        match self.read_storage(thread) {
+        match self.bound_framebuffer(thread).read {
             Some(storage) => {
                 self.objects
                     .copied(alloc, storage, copied_format(call), copied_rect(call))
@@ -189,7 +190,7 @@ impl Driver {
         let Some(storage) = self.level_storage(context, number(call, LEVEL)) else {
             return Ok(());
         };
-        let read = self.read_storage(thread);
+        let read = self.bound_framebuffer(thread).read;
         let (x, y) = (name_of(call, X_OFFSET), name_of(call, Y_OFFSET));
         self.objects
             .copy(read, storage, x, y, copied_part_rect(call))

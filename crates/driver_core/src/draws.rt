@@ -119,7 +119,7 @@ impl Driver {
         }
     }
 
-    /// Draws the rectangle of a call into the draw surface by the context, with what it samples of its texture.
+    /// Draws the rectangle of a call into what the thread draws to by the context, with what it samples of its texture.
     pub(crate) fn draw(
         &mut self,
         thread: u32,
@@ -138,7 +138,7 @@ impl Driver {
         let Some(part) = self.context_part(context) else {
             return Ok(());
         };
-        let Some(storage) = self.draw_storage(thread) else {
+        let Some(storage) = self.bound_framebuffer(thread).draw else {
             return Ok(());
         };
         let sampled = self.sample_if_textured(context, &part, rect)?;

@@ -14,7 +14,7 @@ use Rattle.texture_objects.specs.Forms.{form_of}
 use Rattle.driver_objects.specs.Storages.{StorageValue, copied_image, recopied_storage, stored}
 use Rattle.driver_objects.specs.declared.objects.Object.{Object}
 use Rattle.egl_model.specs.State.{State}
-use Rattle.egl_model.specs.Currents.{read_storage}
+use Rattle.egl_model.specs.Currents.{bound_framebuffer}
 use Rattle.egl_model.specs.Objects.{change_storage, storage_in}
 use Rattle.egl_model.specs.Textures.{level_of, level_storage, specified, target_texture}
 
@@ -22,9 +22,9 @@ use Rattle.egl_model.specs.Textures.{level_of, level_storage, specified, target_
 abbrev pub pixels_of : List (Option Object) → Option ℕ → Option ImageValue
 pixels_of os o = option_and_then (λ v. v.image) (option_and_then (storage_in os) o)
 
--- what a thread reads: the pixels of its read surface
+-- the pixels that a thread reads
 abbrev pub read_image : State → ℕ → Option ImageValue
-read_image s t = pixels_of s.objects (read_storage s t)
+read_image s t = pixels_of s.objects (bound_framebuffer s t).read
 
 -- ---- glCopyTexImage2D.
 -- a base format, a byte for each component

@@ -18,7 +18,7 @@ use Rattle.driver_objects.specs.declared.objects.Object.{Object}
 use Rattle.driver_objects.specs.declared.textures.BackedTexture.{BackedTexture}
 use Rattle.egl_model.specs.State.{State}
 use Rattle.egl_model.specs.Objects.{change_storage, storage_in, texture_in}
-use Rattle.egl_model.specs.Currents.{draw_storage, part_of_context}
+use Rattle.egl_model.specs.Currents.{bound_framebuffer, part_of_context}
 use Rattle.egl_model.specs.Textures.{storage_at, target_texture}
 
 -- a number of a draw in 16.16 fixed point: those of glDrawTexiOES are whole
@@ -65,6 +65,6 @@ draw_into (Some p) (Some m) from r s = record s { objects = change_storage (draw
 draw_into (Some p) None from r s = s
 draw_into None o from r s = s
 
--- the draw surface of a thread is drawn into by its context
+-- what a thread draws to is drawn into by its context
 abbrev pub drawn : State → ℕ → ℕ → GlKind → CallValue → State
-drawn s t n k c = draw_into (part_of_context s n) (draw_storage s t) (sampler s n (drawn_rect k c)) (drawn_rect k c) s
+drawn s t n k c = draw_into (part_of_context s n) (bound_framebuffer s t).draw (sampler s n (drawn_rect k c)) (drawn_rect k c) s

@@ -1,9 +1,10 @@
 -- What eglMakeCurrent makes current.
-use Rattle.std.proofs.Common.{◌≡◌, ℕ, ◌<◌, Bool, true, false, cond, ◌&&◌, ◌==◌, List, get_or, set, refl, ap, ◌∙◌, length, Option, None, Some, is_some}
+use Rattle.std.proofs.Common.{◌≡◌, ℕ, ◌<◌, Bool, true, false, cond, ◌&&◌, ◌==◌, List, get_or, set, refl, sym, ap, ◌∙◌, ◌⊎◌, inl, inr, length, Option, None, Some, is_some}
 use Rattle.std.specs.Prelude.{Contains, find}
-use Rattle.std.proofs.lemmas.Bool.{and_parts, eqb-true}
+use Rattle.std.proofs.lemmas.Bool.{and_parts, eqb-true, false≢true}
 use Rattle.std.proofs.lemmas.List.{get_or-set_same}
 use Rattle.std.proofs.lemmas.List.Elements.{All-contains_itself}
+use Rattle.egl_calls.specs.Arguments.{is_zero}
 use Rattle.egl_calls.specs.Calls.{CallValue}
 use Rattle.egl_calls.specs.declared.errors.EglError.TheVariants.{Success}
 use Rattle.egl_calls.specs.declared.kinds.EglKind.TheVariants.{MakeCurrent}
@@ -18,6 +19,7 @@ use Rattle.egl_model.specs.declared.records.ThreadRecord.{ThreadRecord}
 use Rattle.egl_model.specs.State.{State, initial, record_of}
 use Rattle.egl_model.specs.Arguments.{number}
 use Rattle.display_table.specs.Handles.{is_named_on, is_same_kind}
+use Rattle.egl_model.specs.Handles.{handle_at}
 use Rattle.egl_model.specs.MakeCurrent.{bound_anew, bound_by, context_handle, current_facts, draw_handle, made_current, read_handle}
 use Rattle.egl_model.specs.EglFacts.{egl_refusal}
 use Rattle.egl_model.specs.Step.{step}
@@ -79,13 +81,57 @@ pub context_is_bound : (s : State) (t : ℕ) (c : CallValue) → IsMadeCurrent s
 context_is_bound s t c h l e = bound_by_valid s (number c 0) (number c 3) a_context (context_handle s c) _ refl (allowed s t c h e).context
     (told (λ r. r.context) s t c (λ r. refl) h ∙ if_given (λ a. (record_of a t).context ≡ bound_by (context_handle s c)) (is_release c) _ _ e (at_set (λ r. r.context) s.threads t _ l))
 
-pub draw_is_bound : (s : State) (t : ℕ) (c : CallValue) → IsMadeCurrent s t c → t < length s.threads → is_release c ≡ false → IsBoundBy s (number c 0) (number c 1) a_surface (record_of (step s t c).state t).draw
-draw_is_bound s t c h l e = bound_by_valid s (number c 0) (number c 1) a_surface (draw_handle s c) _ refl (allowed s t c h e).draw
-    (told (λ r. r.draw) s t c (λ r. refl) h ∙ if_given (λ a. (record_of a t).draw ≡ bound_by (draw_handle s c)) (is_release c) _ _ e (at_set (λ r. r.draw) s.threads t _ l))
+-- ---- Surfaces.
+not_release : (d r x : Bool) → (d ≡ false) ⊎ (r ≡ false) → (d && r && x) ≡ false
+not_release d r x (inl e) = ap (λ b. b && r && x) e
+not_release true r x (inr e) = ap (λ b. b && x) e
+not_release false r x (inr e) = refl
 
-pub read_is_bound : (s : State) (t : ℕ) (c : CallValue) → IsMadeCurrent s t c → t < length s.threads → is_release c ≡ false → IsBoundBy s (number c 0) (number c 2) a_surface (record_of (step s t c).state t).read
-read_is_bound s t c h l e = bound_by_valid s (number c 0) (number c 2) a_surface (read_handle s c) _ refl (allowed s t c h e).read
-    (told (λ r. r.read) s t c (λ r. refl) h ∙ if_given (λ a. (record_of a t).read ≡ bound_by (read_handle s c)) (is_release c) _ _ e (at_set (λ r. r.read) s.threads t _ l))
+-- a surface that is given is valid
+draw_valid : (s : State) (t : ℕ) (c : CallValue) → CurrentAllowed c (current_facts s t c) → is_zero c 1 ≡ false → is_some (draw_handle s c) ≡ true
+draw_valid s t c a e = elim a.surfaces [
+  | inl x ↦ x.draw
+  | inr n ↦ absurd (false≢true (sym e ∙ n.draw))
+]
+
+read_valid : (s : State) (t : ℕ) (c : CallValue) → CurrentAllowed c (current_facts s t c) → is_zero c 2 ≡ false → is_some (read_handle s c) ≡ true
+read_valid s t c a e = elim a.surfaces [
+  | inl x ↦ x.read
+  | inr n ↦ absurd (false≢true (sym e ∙ n.read))
+]
+
+draw_told : (s : State) (t : ℕ) (c : CallValue) → IsMadeCurrent s t c → t < length s.threads → is_release c ≡ false → (record_of (step s t c).state t).draw ≡ bound_by (draw_handle s c)
+draw_told s t c h l e = told (λ r. r.draw) s t c (λ r. refl) h ∙ if_given (λ a. (record_of a t).draw ≡ bound_by (draw_handle s c)) (is_release c) _ _ e (at_set (λ r. r.draw) s.threads t _ l)
+
+read_told : (s : State) (t : ℕ) (c : CallValue) → IsMadeCurrent s t c → t < length s.threads → is_release c ≡ false → (record_of (step s t c).state t).read ≡ bound_by (read_handle s c)
+read_told s t c h l e = told (λ r. r.read) s t c (λ r. refl) h ∙ if_given (λ a. (record_of a t).read ≡ bound_by (read_handle s c)) (is_release c) _ _ e (at_set (λ r. r.read) s.threads t _ l)
+
+pub draw_is_bound : (s : State) (t : ℕ) (c : CallValue) → IsMadeCurrent s t c → t < length s.threads → is_zero c 1 ≡ false → IsBoundBy s (number c 0) (number c 1) a_surface (record_of (step s t c).state t).draw
+draw_is_bound s t c h l e =
+    let r = not_release (is_zero c 1) (is_zero c 2) (is_zero c 3) (inl e) in
+    let given = ap (λ b. cond b None (handle_at s c 1 a_surface)) e in
+    bound_by_valid s (number c 0) (number c 1) a_surface (handle_at s c 1 a_surface) _ refl
+    (sym (ap (λ (o : Option Handle). is_some o) given) ∙ draw_valid s t c (allowed s t c h r) e)
+    (draw_told s t c h l r ∙ ap bound_by given)
+
+pub read_is_bound : (s : State) (t : ℕ) (c : CallValue) → IsMadeCurrent s t c → t < length s.threads → is_zero c 2 ≡ false → IsBoundBy s (number c 0) (number c 2) a_surface (record_of (step s t c).state t).read
+read_is_bound s t c h l e =
+    let r = not_release (is_zero c 1) (is_zero c 2) (is_zero c 3) (inr e) in
+    let given = ap (λ b. cond b None (handle_at s c 2 a_surface)) e in
+    bound_by_valid s (number c 0) (number c 2) a_surface (handle_at s c 2 a_surface) _ refl
+    (sym (ap (λ (o : Option Handle). is_some o) given) ∙ read_valid s t c (allowed s t c h r) e)
+    (read_told s t c h l r ∙ ap bound_by given)
+
+-- without surfaces the thread has none
+by_release : {A : Type 0} (b : Bool) → (b ≡ true → A) → (b ≡ false → A) → A
+by_release true f g = f refl
+by_release false f g = g refl
+
+pub no_draw : (s : State) (t : ℕ) (c : CallValue) → IsMadeCurrent s t c → t < length s.threads → is_zero c 1 ≡ true → (record_of (step s t c).state t).draw ≡ None
+no_draw s t c h l e = by_release (is_release c) (λ r. (none_current s t c h l r).draw) (λ r. draw_told s t c h l r ∙ ap (λ b. bound_by (cond b None (handle_at s c 1 a_surface))) e)
+
+pub no_read : (s : State) (t : ℕ) (c : CallValue) → IsMadeCurrent s t c → t < length s.threads → is_zero c 2 ≡ true → (record_of (step s t c).state t).read ≡ None
+no_read s t c h l e = by_release (is_release c) (λ r. (none_current s t c h l r).read) (λ r. read_told s t c h l r ∙ ap (λ b. bound_by (cond b None (handle_at s c 2 a_surface))) e)
 
 -- ---- What stays.
 pub handles_stay : (s : State) (t : ℕ) (c : CallValue) → IsMadeCurrent s t c → (step s t c).state.handles ≡ s.handles

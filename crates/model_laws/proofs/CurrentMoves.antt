@@ -67,8 +67,8 @@ alone-bind t sh s c d r b a = record {
 pub both-bind : (t : ℕ) (sh : List (Option Shape)) (s : State) (c d r : Option Bound) → Binds t sh s c d r → HasBothOrNone s → HasBothOrNone (bind s t c d r)
 unfolding bound_record
 both-bind t sh s c d r b h = record {
-  draw = each_at_set (λ r. is_some r.draw ≡ is_some r.context) s.threads t (bound_record s t c d r) initial b.draw h.draw;
-  read = each_at_set (λ r. is_some r.read ≡ is_some r.context) s.threads t (bound_record s t c d r) initial b.read h.read;
+  draw = each_at_set (λ r. is_some r.draw ≡ true → is_some r.context ≡ true) s.threads t (bound_record s t c d r) initial b.draw h.draw;
+  read = each_at_set (λ r. is_some r.read ≡ is_some r.draw) s.threads t (bound_record s t c d r) initial b.read h.read;
 }
 
 pub below-bind : (t : ℕ) (sh : List (Option Shape)) (s : State) (c d r : Option Bound) → Binds t sh s c d r → NumbersAreBelow s → NumbersAreBelow (bind s t c d r)
@@ -104,8 +104,8 @@ alone-record s t r e a = record {
 
 pub both-record : (s : State) (t : ℕ) (r : ThreadRecord) → SameBound s t r → HasBothOrNone s → HasBothOrNone (set_record s t r)
 both-record s t r e b = record {
-  draw = each_at_set (λ r. is_some r.draw ≡ is_some r.context) s.threads t r initial (rw (e.context, e.draw) (b.draw t)) b.draw;
-  read = each_at_set (λ r. is_some r.read ≡ is_some r.context) s.threads t r initial (rw (e.context, e.read) (b.read t)) b.read;
+  draw = each_at_set (λ r. is_some r.draw ≡ true → is_some r.context ≡ true) s.threads t r initial (rw (e.context, e.draw) (b.draw t)) b.draw;
+  read = each_at_set (λ r. is_some r.read ≡ is_some r.draw) s.threads t r initial (rw (e.draw, e.read) (b.read t)) b.read;
 }
 
 pub below-record : (s : State) (t : ℕ) (r : ThreadRecord) → SameBound s t r → NumbersAreBelow s → NumbersAreBelow (set_record s t r)

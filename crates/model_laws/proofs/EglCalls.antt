@@ -1,5 +1,5 @@
 -- What each call of EGL keeps.
-use Rattle.std.proofs.Common.{◌≡◌, ℕ, ◌+◌, ◌≤◌, ℤ, Bool, true, false, cond, not, ap, ◌==◌, List, [], ◌∷◌, ◌++◌, refl, sym, ◌∙◌, arith, length, get_or, Option, None, Some}
+use Rattle.std.proofs.Common.{◌≡◌, ℕ, ◌+◌, ◌≤◌, ℤ, Bool, true, false, cond, not, ap, ◌==◌, List, [], ◌∷◌, ◌++◌, refl, sym, ◌∙◌, ◌⊎◌, inl, inr, arith, length, get_or, Option, None, Some, is_some}
 use Rattle.model_laws.proofs.Setters.{setter-surface, suits-surface}
 use Rattle.egl_names.specs.declared.codes.TheConstants.{EGL_BUFFER_PRESERVED}
 use Rattle.surface_store.specs.Surfaces.{SurfaceValue}
@@ -10,6 +10,7 @@ use Rattle.egl_calls.specs.declared.errors.EglError.{EglError}
 use Rattle.egl_calls.specs.declared.kinds.Kind.TheVariants.{Egl}
 use Rattle.egl_calls.specs.declared.kinds.EglKind.TheVariants.{CreatePbufferSurface, MakeCurrent}
 use Rattle.egl_calls.specs.Arguments.{is_zero, signed}
+use Rattle.call_rules.specs.EglAllowed.{CurrentAllowed, HasNoSurfaces}
 use Rattle.call_rules.specs.EglRules.{is_release, has_code}
 use Rattle.call_rules.proofs.EglLaws.{current_allowed, pbuffer_allowed}
 use Rattle.driver_objects.specs.declared.kinds.ObjectKind.TheVariants.{Context as a_context_kind, Group as a_group, Storage as a_storage, Surface as a_surface_kind, Texture as a_texture}
@@ -27,13 +28,13 @@ use Rattle.egl_model.specs.Currents.{current_context}
 use Rattle.egl_model.specs.EglFacts.{egl_refusal}
 use Rattle.egl_model.specs.Flushes.{flushed}
 use Rattle.display_table.specs.Handles.{is_named_on, without_found}
-use Rattle.egl_model.specs.Handles.{destroyed, handle_at, with_handle}
+use Rattle.egl_model.specs.Handles.{destroyed, handle_at, valid, with_handle}
 use Rattle.egl_model.specs.Waits.{waiting}
 use Rattle.egl_model.specs.MakeCurrent.{bind, height_of, width_of, bound_by, context_handle, current_facts, draw_handle, bound_anew, first_use, is_context_taken, is_surface_taken, made_current, read_handle, released, unbound}
 use Rattle.egl_model.specs.Objects.{change_part, context_in, surface_in, change_surface, with_surface}
 use Rattle.context_state.specs.Parts.{first_current}
 use Rattle.model_laws.specs.Shapes.{Goes, Shape, shapes}
-use Rattle.model_laws.specs.Sound.{IsWhole}
+use Rattle.model_laws.specs.Sound.{IsBoundBelowNext, IsWhole}
 use Rattle.egl_model.specs.Surfaces.{asked_height, asked_width, asks_for_largest, created_pbuffer, pbuffer_facts, pbuffer_objects, side_of, set_attribute, with_behavior}
 use Rattle.egl_model.specs.Sweep.{live_bytes}
 use Rattle.model_laws.proofs.Blinds.{blind-context_of, blind-current, blind-length, blind-surface_of}
@@ -139,6 +140,23 @@ acts-first_use t s None draw free = acts_self t s
 acts-first_use t s (Some h) draw free = acts_of quiet t s (λ a. option_and_then (λ h. surface_in a.objects h.object) draw) (λ y a. record a { objects = change_part (first_current (width_of y) (height_of y)) h.object a.objects }) (blind-surface_of t draw s)
     (acts-part t h.object _ s (λ w. context_free s.threads t h.object (Some h) free (eq-eqb h.object h.object refl)))
 
+-- two surfaces are given or none
+together : (s : State) (c : CallValue) → ((is_zero c 1 ≡ false) × ((is_some (draw_handle s c) ≡ true) × (is_some (read_handle s c) ≡ true))) ⊎ HasNoSurfaces c → is_some (read_handle s c) ≡ is_some (draw_handle s c)
+together s c (inl x) = x.1.1 ∙ sym x.1.0
+together s c (inr n) = ap (λ b. is_some (cond b None (handle_at s c 2 a_surface))) n.read ∙ sym (ap (λ b. is_some (cond b None (handle_at s c 1 a_surface))) n.draw)
+
+pairs : (s : State) (t : ℕ) (c : CallValue) → CurrentAllowed c (current_facts s t c) → is_some (read_handle s c) ≡ is_some (draw_handle s c)
+pairs s t c a = together s c (elim a.surfaces [ inl x ↦ inl (x.draw_given, (x.draw, x.read)) | inr n ↦ inr n ])
+
+-- a surface that is given is one, and its handle has a number below the next
+goes_given : (sh : List (Option Shape)) (a : State) (d n : ℕ) (b : Bool) → IsWhole sh a → Goes sh a_surface_kind (option_map (λ b. b.object) (bound_by (cond b None (valid a d n a_surface))))
+goes_given sh a d n true w = tt
+goes_given sh a d n false w = goes_valid sh a d n a_surface w
+
+below_given : (sh : List (Option Shape)) (a : State) (d n : ℕ) (b : Bool) → IsWhole sh a → IsBoundBelowNext a (bound_by (cond b None (valid a d n a_surface)))
+below_given sh a d n true w = tt
+below_given sh a d n false w = found_below a (is_named_on d n a_surface) a.handles w.numbers.handles
+
 binds-given : (s : State) (os : List (Option Object)) (t : ℕ) (c : CallValue) → c.kind ≡ Egl MakeCurrent → is_release c ≡ false → egl_refusal s t MakeCurrent c ≡ None →
     let a = record s { objects = os } in IsWhole (shapes os) a → Binds t (shapes os) a (bound_by (context_handle s c)) (bound_by (draw_handle s c)) (bound_by (read_handle s c))
 unfolding egl_refusal
@@ -148,15 +166,15 @@ binds-given s os t c h e r w =
     let context = is_some-bound_by (context_handle s c) ∙ f.context in
     let a = record s { objects = os } in
     record {
-      leads = (goes_valid (shapes os) a (number c 0) (number c 3) a_context w, (goes_valid (shapes os) a (number c 0) (number c 1) a_surface w, (goes_valid (shapes os) a (number c 0) (number c 2) a_surface w, tt)));
+      leads = (goes_valid (shapes os) a (number c 0) (number c 3) a_context w, (goes_given (shapes os) a (number c 0) (number c 1) (is_zero c 1) w, (goes_given (shapes os) a (number c 0) (number c 2) (is_zero c 2) w, tt)));
       contexts = λ n b. context_free s.threads t n (context_handle s c) f.context_free b;
       draws = λ n b. surface_free s.threads t n (draw_handle s c) free.0 b;
       reads = λ n b. surface_free s.threads t n (read_handle s c) free.1 b;
-      draw = is_some-bound_by (draw_handle s c) ∙ f.draw ∙ sym context;
-      read = is_some-bound_by (read_handle s c) ∙ f.read ∙ sym context;
+      draw = λ _. context;
+      read = is_some-bound_by (read_handle s c) ∙ pairs s t c f ∙ sym (is_some-bound_by (draw_handle s c));
       context_below = found_below a (is_named_on (number c 0) (number c 3) a_context) s.handles w.numbers.handles;
-      draw_below = found_below a (is_named_on (number c 0) (number c 1) a_surface) s.handles w.numbers.handles;
-      read_below = found_below a (is_named_on (number c 0) (number c 2) a_surface) s.handles w.numbers.handles;
+      draw_below = below_given (shapes os) a (number c 0) (number c 1) (is_zero c 1) w;
+      read_below = below_given (shapes os) a (number c 0) (number c 2) (is_zero c 2) w;
     }
 
 binds-none : (t : ℕ) (sh : List (Option Shape)) (s : State) → Binds t sh s None None None
@@ -165,7 +183,7 @@ binds-none t sh s = record {
   contexts = λ n b. absurd (let f : false ≡ true = b in cc);
   draws = λ n b. absurd (let f : false ≡ true = b in cc);
   reads = λ n b. absurd (let f : false ≡ true = b in cc);
-  draw = refl;
+  draw = λ h. h;
   read = refl;
   context_below = tt;
   draw_below = tt;

@@ -14,14 +14,15 @@ use Rattle.context_state.specs.declared.kinds.ContextCall.{ContextCall}
 use Rattle.context_state.specs.Parts.{PartValue}
 use Rattle.driver_objects.specs.Storages.{cleared_image}
 use Rattle.driver_objects.specs.declared.objects.Object.{Object}
-use Rattle.driver_objects.specs.declared.objects.Object.TheVariants.{Context}
+use Rattle.driver_objects.specs.declared.objects.Object.TheVariants.{Context, Storage}
+use Rattle.driver_objects.specs.declared.surfaces.BackedSurface.{BackedSurface}
+use Rattle.egl_model.specs.declared.records.Bound.{Bound}
 use Rattle.egl_model.specs.declared.records.ThreadRecord.{ThreadRecord}
 use Rattle.egl_model.specs.State.{State, object_at, record_of}
-use Rattle.egl_model.specs.Objects.{as_context}
-use Rattle.egl_model.specs.Currents.{current_context, draw_storage, read_storage, display_at, handle_of}
+use Rattle.egl_model.specs.Objects.{as_context, as_storage}
+use Rattle.egl_model.specs.Currents.{bound_surface, current_context, draw_storage, read_storage, display_at, handle_of}
 use Rattle.egl_model.specs.Drawing.{clears_colour}
 use Rattle.egl_model.specs.Step.{Stepped, step}
-use Rattle.egl_model.specs.GlFacts.{no_framebuffer}
 use Rattle.call_rules.specs.GlRules as gl_rules
 use Rattle.model_laws.specs.Shapes.{shapes}
 use Rattle.model_laws.specs.Sound.{IsWhole}
@@ -29,12 +30,12 @@ use Rattle.model_laws.proofs.Blinds.{context-blind}
 use Rattle.model_laws.proofs.StepKeeps.{keeps-step, sound-step}
 use Rattle.model_laws.specs.Frame.{HasFrame, IsReady, as_step}
 use Rattle.model_laws.specs.Full.{Full}
-use Rattle.egl_model.specs.Parts.{Kept, Own, Places, Private, are_same, at_place, kept_of, own_at, own_of, part_in, part_of, places, put_at, put_own}
-use Rattle.model_laws.specs.Local.{LocalEffect, after_rules, by_kind, egl_locally, egl_value, gl_locally, gl_with, in_wait, is_local, local_refusal, locally, locally_by, object_locally, part_after}
+use Rattle.egl_model.specs.Parts.{Kept, Own, Places, Private, are_same, at_place, image_in, kept_of, own_at, own_of, part_in, part_of, places, put_at, put_own}
+use Rattle.model_laws.specs.Local.{LocalEffect, after_rules, by_kind, egl_locally, egl_value, facts_locally, gl_locally, gl_with, in_wait, is_local, local_refusal, locally, locally_by, object_locally, part_after}
 use Rattle.model_laws.proofs.Writes.{blind-written}
 use Rattle.model_laws.proofs.Puts.{distinct-places, places-put, record-put, same_context, same_draw, same_read}
-use Rattle.model_laws.proofs.OtherParts.{HasNoMore, fits, is_context_there, no_more, own_at-put, part-step}
-use Rattle.model_laws.proofs.Locals.{HasPart, local_step}
+use Rattle.model_laws.proofs.OtherParts.{HasNoMore, fits, is_context_there, is_storage_there, no_more, own_at-put, part-step}
+use Rattle.model_laws.proofs.Locals.{HasOwn, local_step}
 
 -- ---- A state is ready again after each step, and then the thread's part is in.
 pub ready-step : (s : State) (t u : ℕ) (c : CallValue) → IsReady s t → IsReady (step s u c).state t
@@ -44,13 +45,26 @@ part_of_full : (o : Option Object) → is_some (as_context o) ≡ true → Full 
 part_of_full (Some (Context c)) h f = f
 part_of_full o h f = absurd (let e : false ≡ true = h in cc)
 
-pub has_part : (s : State) (t : ℕ) → IsReady s t → HasPart s t
+has_part : (s : State) (t : ℕ) → IsReady s t → is_some (own_of s t).context ≡ is_some (current_context s t)
 unfolding at_place
 has_part s t r = at_context (current_context s t) refl
   where
     at_context : (o : Option ℕ) → current_context s t ≡ o → is_some (at_place part_in o s.objects) ≡ is_some o
     at_context None e = refl
     at_context (Some n) e = part_of_full (object_at s n) (is_context_there s t n r.sound.whole e) (r.sound.full.each n)
+
+image_of_full : (o : Option Object) → is_some (as_storage o) ≡ true → Full o → is_some (image_in o) ≡ true
+image_of_full (Some (Storage v)) h f = f.1
+image_of_full o h f = absurd (let e : false ≡ true = h in cc)
+
+-- the pixels of a surface that is bound
+pub has_image : (s : State) (t : ℕ) (b : Option Bound) (q : Option ℕ) → IsReady s t → option_map (λ (x : BackedSurface). x.storage) (bound_surface s b) ≡ q → is_some (at_place image_in q s.objects) ≡ is_some q
+unfolding at_place
+has_image s t b None r e = refl
+has_image s t b (Some n) r e = image_of_full (object_at s n) (is_storage_there s b n r.sound.whole e) (r.sound.full.each n)
+
+pub has_own : (s : State) (t : ℕ) → IsReady s t → HasOwn s t
+has_own s t r = record { part = has_part s t r; image = has_image s t (record_of s t).draw (draw_storage s t) r refl }
 
 -- ---- A local call leaves nothing where there was nothing.
 record IsWithin (y x : Own) : Type 0 where
@@ -90,7 +104,7 @@ within-rules p q None f h w = w
 
 within-with : (p : Private) (o : Option PartValue) (c : CallValue) (k : GlKind) → p.own.context ≡ o → IsWithin (gl_with p o k c).own p.own
 within-with p None c k h = within_itself p.own p.own.error
-within-with p (Some q) c k h = within-rules p q (gl_rules.gl_refusal c no_framebuffer) (gl_locally p q k c) h (within-gl p q c k h)
+within-with p (Some q) c k h = within-rules p q (gl_rules.gl_refusal c (facts_locally p k)) (gl_locally p q k c) h (within-gl p q c k h)
 
 within-egl : (p : Private) (o : Option EglError) (v : _) → IsWithin (egl_locally p o v).own p.own
 within-egl p (Some e) v = within_itself p.own e
@@ -143,7 +157,7 @@ part-put s t x h l m = ap (λ k. both k (own_of (put_own s t x) t)) (kept-put s 
 
 -- ---- The laws.
 pub local_as_step : (s : State) (t : ℕ) (c : CallValue) → IsReady s t → is_local (part_of s t) c ≡ true → step s t c ≡ as_step s t (locally (part_of s t) c)
-local_as_step s t c r l = local_step s t c r.sound (has_part s t r) l
+local_as_step s t c r l = local_step s t c r.sound (has_own s t r) l
 
 pub part-local : (s : State) (t : ℕ) (c : CallValue) → IsReady s t → is_local (part_of s t) c ≡ true → part_of (step s t c).state t ≡ part_after (part_of s t) c
 part-local s t c r l = ap (λ (x : Stepped). part_of x.state t) (local_as_step s t c r l) ∙ part-put s t (locally (part_of s t) c).own r.sound.whole r.thread (no_more-locally s t c)

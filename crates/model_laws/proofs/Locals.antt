@@ -9,7 +9,7 @@ use Rattle.egl_calls.specs.declared.kinds.Kind.TheVariants.{Egl, Gl, Own as OwnC
 use Rattle.egl_calls.specs.declared.kinds.EglKind.{EglKind}
 use Rattle.egl_calls.specs.declared.kinds.EglKind.TheVariants.{GetError as EglGetError, GetDisplay, GetCurrentContext, BindApi, QueryApi, GetCurrentSurface, GetCurrentDisplay}
 use Rattle.egl_calls.specs.declared.kinds.GlKind.{GlKind}
-use Rattle.egl_calls.specs.declared.kinds.GlKind.TheVariants.{Clear, ReadPixels, TexImage2d, TexSubImage2d, CopyTexImage2d, CopyTexSubImage2d, BufferData, BufferSubData, GetBufferParameteriv}
+use Rattle.egl_calls.specs.declared.kinds.GlKind.TheVariants.{Clear, ReadPixels, DrawTexi, DrawTexx, TexImage2d, TexSubImage2d, CopyTexImage2d, CopyTexSubImage2d, BufferData, BufferSubData, GetBufferParameteriv}
 use Rattle.egl_calls.specs.declared.errors.EglError.{EglError}
 use Rattle.egl_calls.specs.declared.errors.EglError.TheVariants.{Success}
 use Rattle.egl_calls.specs.declared.errors.GlError.{GlError}
@@ -31,7 +31,7 @@ use Rattle.egl_model.specs.Drawing.{clear_storage, clears_colour, read_form, rea
 use Rattle.egl_model.specs.Sweep.{is_reached, roots, swept, sweep}
 use Rattle.model_laws.specs.Laws.{HasNoLitter}
 use Rattle.egl_model.specs.EglFacts.{egl_facts, egl_refusal}
-use Rattle.egl_model.specs.GlFacts.{gl_refusal, no_framebuffer}
+use Rattle.egl_model.specs.GlFacts.{gl_refusal, framebuffer_facts}
 use Rattle.egl_model.specs.Effects.{Effect, valued}
 use Rattle.egl_model.specs.EglEffects.{egl_effect}
 use Rattle.egl_model.specs.GlEffects.{effect_by, gl_effect, local_value, object_effect}
@@ -41,7 +41,7 @@ use Rattle.egl_model.specs.Step.{after_egl_rules, after_gl_rules, bare, wait_ste
 use Rattle.model_laws.proofs.SweepLaws.{length-swept, object_at-swept}
 use Rattle.model_laws.specs.Frame.{as_step}
 use Rattle.egl_model.specs.Parts.{Own, Places, are_same, at_place, image_in, own_at, own_of, part_in, part_of, places, put_at, put_own, set_image, set_part, write, written}
-use Rattle.model_laws.specs.Local.{LocalEffect, after_rules, by_kind, egl_locally, egl_value, gl_locally, gl_with, in_wait, is_local, is_local_egl, is_local_gl, is_local_kind, is_local_unbound, is_unbound, local_refusal, locally, locally_by, object_locally, read_locally}
+use Rattle.model_laws.specs.Local.{LocalEffect, after_rules, by_kind, egl_locally, egl_value, facts_locally, gl_locally, gl_with, in_wait, is_local, is_local_egl, is_local_gl, is_local_kind, is_local_unbound, is_unbound, local_refusal, locally, locally_by, object_locally, read_locally}
 use Rattle.model_laws.proofs.Writes.{write-write}
 use Rattle.model_laws.proofs.Puts.{IsDistinct, distinct-places, image_back, part_back, part_past_image, put-own_of, written_back}
 use Rattle.model_laws.proofs.PutMoves.{sweep-put}
@@ -229,40 +229,45 @@ by_gl_refusal : (s : State) (t n : ℕ) (q : PartValue) (c : CallValue) (k : GlK
 by_gl_refusal s t n q c k (Some e) l h i m = answered _ _ _ (part_as_put s t n (noted e) q h i)
 by_gl_refusal s t n q c k None l h i m = ap (after_gl_rules s n None) (gl_effect-local s t n q c k h i m) ∙ answered _ _ _ (put_swept s t (gl_locally (part_of s t) q k c).own l)
 
--- a call whose facts look at the state isn't local
-local_gl_refusal : (s : State) (t n : ℕ) (c : CallValue) (k : GlKind) (b : Bool) → (is_local_gl k || (is_local_unbound k && b)) ≡ true → gl_refusal s t n k c ≡ gl_rules.gl_refusal c no_framebuffer
+-- the part of the thread's context is in, and so are the pixels of its draw surface
+pub record HasOwn (s : State) (t : ℕ) : Type 0 where
+  pub part : is_some (own_of s t).context ≡ is_some (current_context s t)
+  pub image : is_some (own_of s t).draw ≡ is_some (draw_storage s t)
+
+-- a call whose facts look at objects isn't local
+local_gl_refusal : (s : State) (t n : ℕ) (c : CallValue) (k : GlKind) (b : Bool) → HasOwn s t → (is_local_gl k || (is_local_unbound k && b)) ≡ true → gl_refusal s t n k c ≡ gl_rules.gl_refusal c (facts_locally (part_of s t) k)
 unfolding gl_refusal
-local_gl_refusal s t n c TexImage2d b m = not_local m
-local_gl_refusal s t n c TexSubImage2d b m = not_local m
-local_gl_refusal s t n c CopyTexImage2d b m = not_local m
-local_gl_refusal s t n c CopyTexSubImage2d b m = not_local m
-local_gl_refusal s t n c BufferData b m = not_local m
-local_gl_refusal s t n c BufferSubData b m = not_local m
-local_gl_refusal s t n c GetBufferParameteriv b m = not_local m
-local_gl_refusal s t n c k b m = refl
+local_gl_refusal s t n c Clear b o m = ap (λ z. gl_rules.gl_refusal c (framebuffer_facts z)) (sym o.image)
+local_gl_refusal s t n c ReadPixels b o m = ap (λ z. gl_rules.gl_refusal c (framebuffer_facts z)) (sym o.image)
+local_gl_refusal s t n c DrawTexi b o m = not_local m
+local_gl_refusal s t n c DrawTexx b o m = not_local m
+local_gl_refusal s t n c TexImage2d b o m = not_local m
+local_gl_refusal s t n c TexSubImage2d b o m = not_local m
+local_gl_refusal s t n c CopyTexImage2d b o m = not_local m
+local_gl_refusal s t n c CopyTexSubImage2d b o m = not_local m
+local_gl_refusal s t n c BufferData b o m = not_local m
+local_gl_refusal s t n c BufferSubData b o m = not_local m
+local_gl_refusal s t n c GetBufferParameteriv b o m = not_local m
+local_gl_refusal s t n c k b o m = refl
 
--- the part of the thread's context is in
-abbrev pub HasPart : State → ℕ → Type 0
-HasPart s t = is_some (own_of s t).context ≡ is_some (current_context s t)
-
-by_part : (s : State) (t n : ℕ) (c : CallValue) (k : GlKind) (x : Option PartValue) → IsSound s → current_context s t ≡ Some n → part_of_context s n ≡ x → is_some x ≡ true → (is_local_gl k || (is_local_unbound k && is_unbound x)) ≡ true →
+by_part : (s : State) (t n : ℕ) (c : CallValue) (k : GlKind) (x : Option PartValue) → IsSound s → HasOwn s t → current_context s t ≡ Some n → part_of_context s n ≡ x → is_some x ≡ true → (is_local_gl k || (is_local_unbound k && is_unbound x)) ≡ true →
     gl_step_on s t (Some n) k c ≡ as_step s t (gl_with (part_of s t) x k c)
-by_part s t n c k None l h i j m = not_local j
-by_part s t n c k (Some q) l h i j m = ap (λ o. after_gl_rules s n o (gl_effect s t n k c)) (local_gl_refusal s t n c k (is_unbound (Some q)) m)
-    ∙ by_gl_refusal s t n q c k (gl_rules.gl_refusal c no_framebuffer) l h i m
+by_part s t n c k None l o h i j m = not_local j
+by_part s t n c k (Some q) l o h i j m = ap (λ e. after_gl_rules s n e (gl_effect s t n k c)) (local_gl_refusal s t n c k (is_unbound (Some q)) o m)
+    ∙ by_gl_refusal s t n q c k (gl_rules.gl_refusal c (facts_locally (part_of s t) k)) l h i m
 
-by_current : (s : State) (t : ℕ) (c : CallValue) (k : GlKind) (o : Option ℕ) → IsSound s → current_context s t ≡ o → is_some (own_of s t).context ≡ is_some o → is_local_kind (part_of s t) (Gl k) ≡ true →
+by_current : (s : State) (t : ℕ) (c : CallValue) (k : GlKind) (o : Option ℕ) → IsSound s → HasOwn s t → current_context s t ≡ o → is_some (own_of s t).context ≡ is_some o → is_local_kind (part_of s t) (Gl k) ≡ true →
     gl_step_on s t o k c ≡ as_step s t (gl_with (part_of s t) (own_of s t).context k c)
 unfolding at_place
-by_current s t c k None l h i m = answered _ _ _ (sym (put-own_of s t)) ∙ ap (λ (p : Option ℕ). as_step s t (gl_with (part_of s t) (at_place part_in p s.objects) k c)) (sym h)
-by_current s t c k (Some n) l h i m =
-    by_part s t n c k (own_of s t).context l h (ap (λ (p : Option ℕ). at_place part_in p s.objects) (sym h)) i m
+by_current s t c k None l y h i m = answered _ _ _ (sym (put-own_of s t)) ∙ ap (λ (p : Option ℕ). as_step s t (gl_with (part_of s t) (at_place part_in p s.objects) k c)) (sym h)
+by_current s t c k (Some n) l y h i m =
+    by_part s t n c k (own_of s t).context l y h (ap (λ (p : Option ℕ). at_place part_in p s.objects) (sym h)) i m
 
-gl_step-local : (s : State) (t : ℕ) (c : CallValue) (k : GlKind) → IsSound s → HasPart s t → is_local_kind (part_of s t) (Gl k) ≡ true → gl_step s t k c ≡ as_step s t (gl_with (part_of s t) (own_of s t).context k c)
+gl_step-local : (s : State) (t : ℕ) (c : CallValue) (k : GlKind) → IsSound s → HasOwn s t → is_local_kind (part_of s t) (Gl k) ≡ true → gl_step s t k c ≡ as_step s t (gl_with (part_of s t) (own_of s t).context k c)
 unfolding gl_step
-gl_step-local s t c k l i m = by_current s t c k (current_context s t) l refl i m
+gl_step-local s t c k l i m = by_current s t c k (current_context s t) l i refl i.part m
 
-by_kind-local : (s : State) (t : ℕ) (c : CallValue) (k : Kind) → IsSound s → HasPart s t → is_local_kind (part_of s t) k ≡ true → step_by s t k c ≡ as_step s t (by_kind (part_of s t) k c)
+by_kind-local : (s : State) (t : ℕ) (c : CallValue) (k : Kind) → IsSound s → HasOwn s t → is_local_kind (part_of s t) k ≡ true → step_by s t k c ≡ as_step s t (by_kind (part_of s t) k c)
 by_kind-local s t c (Egl k) l i m = egl_step-local s t c k l m
 by_kind-local s t c (Gl k) l i m = gl_step-local s t c k l i m
 by_kind-local s t c (OwnCall k) l i m = not_local m
@@ -272,11 +277,11 @@ waiting-local s t (Egl k) signalled m = answered _ _ _ (sym (put-own_of s t))
 waiting-local s t (Gl k) signalled m = answered _ _ _ (sym (put-own_of s t))
 waiting-local s t (OwnCall k) signalled m = not_local m
 
-by_wait-local : (s : State) (t : ℕ) (c : CallValue) (o : Option ℕ) → IsSound s → HasPart s t → is_local (part_of s t) c ≡ true → step_in o s t c ≡ as_step s t (in_wait (is_some o) (part_of s t) c)
+by_wait-local : (s : State) (t : ℕ) (c : CallValue) (o : Option ℕ) → IsSound s → HasOwn s t → is_local (part_of s t) c ≡ true → step_in o s t c ≡ as_step s t (in_wait (is_some o) (part_of s t) c)
 by_wait-local s t c (Some sync) l i m = waiting-local s t c.kind (is_signalled s sync) m
 by_wait-local s t c None l i m = by_kind-local s t c c.kind l i m
 
 -- a local call changes the thread's own alone; its reply, and what is then the thread's own, depend on the part and the call
-pub local_step : (s : State) (t : ℕ) (c : CallValue) → IsSound s → HasPart s t → is_local (part_of s t) c ≡ true → step s t c ≡ as_step s t (locally (part_of s t) c)
+pub local_step : (s : State) (t : ℕ) (c : CallValue) → IsSound s → HasOwn s t → is_local (part_of s t) c ≡ true → step s t c ≡ as_step s t (locally (part_of s t) c)
 unfolding step locally
 local_step s t c l i m = by_wait-local s t c (record_of s t).wait l i m

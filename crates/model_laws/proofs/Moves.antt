@@ -149,14 +149,14 @@ pub record Suits (t : ℕ) (sh : List (Option Shape)) (s : State) (n : ℕ) (f :
   pub part : PastPart f ⊎ NoneElse (has_context n) s.threads t
   pub image : PastImage f ⊎ NoneElse (draws s.objects n) s.threads t
 
--- what is bound is of its kind and bound to no other thread, all three or none, under numbers of handles that were given
+-- what is bound is of its kind and bound to no other thread, both surfaces or none and these with a context, under numbers of handles that were given
 pub record Binds (t : ℕ) (sh : List (Option Shape)) (s : State) (c d r : Option Bound) : Type 0 where
   pub leads : Leads sh (slot 0 Context (option_map (λ b. b.object) c) ∷ slot 1 Surface (option_map (λ b. b.object) d) ∷ slot 2 Surface (option_map (λ b. b.object) r) ∷ [])
   pub contexts : (n : ℕ) → is_bound n c ≡ true → NoneElse (has_context n) s.threads t
   pub draws : (n : ℕ) → is_bound n d ≡ true → NoneElse (has_surface n) s.threads t
   pub reads : (n : ℕ) → is_bound n r ≡ true → NoneElse (has_surface n) s.threads t
-  pub draw : is_some d ≡ is_some c
-  pub read : is_some r ≡ is_some c
+  pub draw : is_some d ≡ true → is_some c ≡ true
+  pub read : is_some r ≡ is_some d
   pub context_below : IsBoundBelowNext s c
   pub draw_below : IsBoundBelowNext s d
   pub read_below : IsBoundBelowNext s r

@@ -196,7 +196,7 @@ whole-opening windows ok video = record {
   };
   storages = record { each = λ m n k e h. no_edge k h };
   alone = record { contexts = λ t u n h k. unbound windows ok video t n h; surfaces = λ t u n h k. undrawn windows ok video t n h };
-  both = record { draw = at_first (λ (r : ThreadRecord). is_some r.draw ≡ is_some r.context) (λ r. r) refl; read = at_first (λ (r : ThreadRecord). is_some r.read ≡ is_some r.context) (λ r. r) refl };
+  both = record { draw = at_first (λ (r : ThreadRecord). is_some r.draw ≡ true → is_some r.context ≡ true) (λ r. r) (λ h. h); read = at_first (λ (r : ThreadRecord). is_some r.read ≡ is_some r.draw) (λ r. r) refl };
   numbers = record {
     handles = All-nil (λ (h : Handle). IsBelowNext (opening windows video) h.number);
     apart = λ i j d lt within. absurd (omega arith);

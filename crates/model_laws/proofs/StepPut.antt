@@ -17,7 +17,7 @@ use Rattle.egl_calls.specs.declared.kinds.Kind.TheVariants.{Egl, Gl, Own as OwnC
 use Rattle.egl_calls.specs.declared.kinds.EglKind.{EglKind}
 use Rattle.egl_calls.specs.declared.kinds.EglKind.TheVariants.{CreateWindowSurface, SwapBuffers, GetError as EglGetError, CreatePbufferSurface, MakeCurrent, GetCurrentContext, GetCurrentSurface, GetCurrentDisplay, QueryApi, QuerySurface, QueryContext, CreateSync, ClientWaitSync, WaitSync, GetSyncAttrib}
 use Rattle.egl_calls.specs.declared.kinds.GlKind.{GlKind}
-use Rattle.egl_calls.specs.declared.kinds.GlKind.TheVariants.{ReadPixels, GenTextures, IsTexture, TexImage2d, TexSubImage2d, CopyTexImage2d, CopyTexSubImage2d, GenBuffers, IsBuffer, BufferData, BufferSubData, GetBufferParameteriv}
+use Rattle.egl_calls.specs.declared.kinds.GlKind.TheVariants.{Clear, ReadPixels, DrawTexi, DrawTexx, GenTextures, IsTexture, TexImage2d, TexSubImage2d, CopyTexImage2d, CopyTexSubImage2d, GenBuffers, IsBuffer, BufferData, BufferSubData, GetBufferParameteriv}
 use Rattle.call_rules.specs.GlRules as gl_rules
 use Rattle.context_state.specs.Kinds.{context_gl_call}
 use Rattle.context_state.specs.declared.kinds.ContextCall.{ContextCall}
@@ -26,7 +26,7 @@ use Rattle.share_group.specs.Names.{given}
 use Rattle.share_group.specs.declared.names.NameKind.{NameKind}
 use Rattle.share_group.specs.declared.names.NameKind.TheVariants.{Texture as textures, Buffer as buffers}
 use Rattle.egl_model.specs.Buffers.{buffer_parameter, part_read}
-use Rattle.egl_model.specs.GlFacts.{bound_facts, buffer_facts, image_facts}
+use Rattle.egl_model.specs.GlFacts.{bound_facts, buffer_facts, image_facts, framebuffer_facts}
 use Rattle.egl_model.specs.Names.{generated, group_of, name_value, object_named}
 use Rattle.model_laws.proofs.CopyCalls.{blind-copy_facts, blind-copy_part_facts}
 use Rattle.model_laws.proofs.TextureCalls.{blind-part_facts}
@@ -39,7 +39,7 @@ use Rattle.call_rules.specs.EglRules as rules
 use Rattle.display_table.specs.declared.handles.Handle.{Handle}
 use Rattle.egl_model.specs.declared.records.ThreadRecord.{ThreadRecord}
 use Rattle.egl_model.specs.State.{State, record_of, api_code}
-use Rattle.egl_model.specs.Currents.{current_context, read_storage, display_at, handle_of}
+use Rattle.egl_model.specs.Currents.{current_context, bound_framebuffer, read_storage, display_at, handle_of}
 use Rattle.egl_model.specs.Drawing.{pack_alignment, read_pixels, rows_of}
 use Rattle.egl_model.specs.EglEffects.{egl_effect}
 use Rattle.egl_model.specs.EglFacts.{egl_facts, egl_refusal}
@@ -63,7 +63,7 @@ use Rattle.egl_calls.specs.declared.kinds.OwnKind.TheVariants.{ReadBuffer, Censu
 use Rattle.egl_model.specs.Syncs.{sync_facts}
 use Rattle.model_laws.proofs.SyncCalls.{blind-client_wait, blind-new_sync, blind-server, blind-sync_value}
 use Rattle.model_laws.proofs.WindowCalls.{blind-swap_facts, blind-window_facts}
-use Rattle.model_laws.proofs.Blinds.{blind-context_elsewhere, blind-context_of, blind-current, blind-live_bytes, blind-own_part, blind-own_storage, blind-read, blind-record, blind-surface_elsewhere, blind-surface_of, read_alone, blind-signalled, blind-any, blind-context, blind-display}
+use Rattle.model_laws.proofs.Blinds.{blind-complete, blind-context_elsewhere, blind-context_of, blind-current, blind-live_bytes, blind-own_part, blind-own_storage, blind-read, blind-record, blind-surface_elsewhere, blind-surface_of, read_alone, blind-signalled, blind-any, blind-context, blind-display}
 use Rattle.model_laws.proofs.EglCalls.{acts-error}
 use Rattle.model_laws.proofs.GlCalls.{acts-own_part}
 use Rattle.model_laws.proofs.Keeps.{Blind}
@@ -125,8 +125,15 @@ blind-refusal t c s k w v x ne = ap (rules.egl_refusal c) (blind-facts t c s k w
 blind-buffer_facts : (t n : ℕ) (c : CallValue) (s : State) → Blind t s (λ a. buffer_facts a n c)
 blind-buffer_facts t n c s w v x ne = ap bound_facts (blind-buffer_of t n c s w v x ne)
 
+blind-framebuffer_refusal : (t : ℕ) (c : CallValue) (s : State) → Blind t s (λ a. gl_rules.gl_refusal c (framebuffer_facts (bound_framebuffer a t).is_complete))
+blind-framebuffer_refusal t c s w v x ne = ap (λ b. gl_rules.gl_refusal c (framebuffer_facts b)) (blind-complete t s w v x ne)
+
 blind-gl_refusal : (t n : ℕ) (c : CallValue) (s : State) (k : GlKind) → Blind t s (λ a. gl_refusal a t n k c)
 unfolding gl_refusal
+blind-gl_refusal t n c s Clear w v x ne = blind-framebuffer_refusal t c s w v x ne
+blind-gl_refusal t n c s ReadPixels w v x ne = blind-framebuffer_refusal t c s w v x ne
+blind-gl_refusal t n c s DrawTexi w v x ne = blind-framebuffer_refusal t c s w v x ne
+blind-gl_refusal t n c s DrawTexx w v x ne = blind-framebuffer_refusal t c s w v x ne
 blind-gl_refusal t n c s TexImage2d w v x ne = ap (λ b. gl_rules.gl_refusal c (record (image_facts s c) { live_bytes = b })) (blind-live_bytes t s w v x ne)
 blind-gl_refusal t n c s TexSubImage2d w v x ne = ap (gl_rules.gl_refusal c) (blind-part_facts t n c s w v x ne)
 blind-gl_refusal t n c s CopyTexImage2d w v x ne = ap (gl_rules.gl_refusal c) (blind-copy_facts t c s w v x ne)

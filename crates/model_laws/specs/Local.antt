@@ -29,8 +29,10 @@ use Rattle.egl_model.specs.Arguments.{number}
 use Rattle.egl_model.specs.State.{api_code}
 use Rattle.egl_model.specs.Displays as displays
 use Rattle.egl_model.specs.Drawing.{clears_colour, read_form, read_rect}
-use Rattle.egl_model.specs.GlFacts.{no_framebuffer}
+use Rattle.egl_model.specs.GlFacts.{framebuffer_facts}
 use Rattle.call_rules.specs.GlRules as gl_rules
+use Rattle.call_rules.specs.GlRules.{no_gl_facts}
+use Rattle.call_rules.specs.declared.gl_facts.GlFacts.{GlFacts}
 use Rattle.egl_model.specs.Step.{bare}
 use Rattle.egl_model.specs.Parts.{Own, Private}
 
@@ -135,9 +137,15 @@ abbrev pub after_rules : Own → PartValue → Option GlError → LocalEffect �
 after_rules x q (Some e) f = record { reply = bare (RefusedGl e); own = record x { context = Some (noted e q) } }
 after_rules x q None f = record { reply = record { outcome = Done; value = f.value; list = f.list; bytes = f.bytes }; own = f.own }
 
+-- what glClear and glReadPixels are judged by; no other local call of OpenGL ES asks for a fact
+abbrev pub facts_locally : Private → GlKind → GlFacts
+facts_locally p Clear = framebuffer_facts (is_some p.own.draw)
+facts_locally p ReadPixels = framebuffer_facts (is_some p.own.draw)
+facts_locally p k = no_gl_facts
+
 abbrev pub gl_with : Private → Option PartValue → GlKind → CallValue → Locally
 gl_with p None k c = record { reply = bare Done; own = p.own }
-gl_with p (Some q) k c = after_rules p.own q (gl_rules.gl_refusal c no_framebuffer) (gl_locally p q k c)
+gl_with p (Some q) k c = after_rules p.own q (gl_rules.gl_refusal c (facts_locally p k)) (gl_locally p q k c)
 
 abbrev pub by_kind : Private → Kind → CallValue → Locally
 by_kind p (Egl k) c = egl_locally p (local_refusal c) (egl_value p k c)

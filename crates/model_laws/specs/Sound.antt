@@ -16,10 +16,10 @@ pub record IsAlone (s : State) : Type 0 where
   pub contexts : (t u n : ℕ) → has_context n (record_of s t) ≡ true → has_context n (record_of s u) ≡ true → t ≡ u
   pub surfaces : (t u n : ℕ) → has_surface n (record_of s t) ≡ true → has_surface n (record_of s u) ≡ true → t ≡ u
 
--- a thread has a surface to draw to and one to read from exactly where it has a current context (section 3.7.3)
+-- a thread has a current context wherever it has a surface to draw to, and a surface to read from exactly there (section 3.7.3)
 pub record HasBothOrNone (s : State) : Type 0 where
-  pub draw : (t : ℕ) → is_some (record_of s t).draw ≡ is_some (record_of s t).context
-  pub read : (t : ℕ) → is_some (record_of s t).read ≡ is_some (record_of s t).context
+  pub draw : (t : ℕ) → is_some (record_of s t).draw ≡ true → is_some (record_of s t).context ≡ true
+  pub read : (t : ℕ) → is_some (record_of s t).read ≡ is_some (record_of s t).draw
 
 -- a number that no handle made from now on will have
 abbrev pub IsBelowNext : State → ℕ → Type 0

@@ -3,6 +3,7 @@ ghost use Rattle.std.specs.Prelude.{◌≡◌, ◌≢◌, ◌<◌, ◌+◌, ◌�
 ghost use Rattle.display_table.specs.declared.handles.Handle.{Handle};
 ghost use Rattle.model_laws.specs.Deleted.{HasUnbound};
 ghost use Rattle.model_laws.specs.Destroyed.{IsRemoved, KeepsCurrents};
+ghost use Rattle.egl_calls.specs.Arguments.{is_zero};
 ghost use Rattle.egl_calls.specs.Calls.{CallValue};
 ghost use Rattle.egl_calls.specs.declared.entries.Entry.{Entry};
 ghost use Rattle.egl_calls.specs.declared.kinds.Kind.TheVariants.{Egl, Own};
@@ -196,12 +197,14 @@ pub fn terminate_takes_handles_and_leaves_currents()
     ensures read { (s : State) (t u : ℕ) (c : CallValue) → IsTerminated s t c → (record_of (step s t c).state u).read ≡ (record_of s u).read }
 {}
 
-/// Where no rule refuses an eglMakeCurrent of a thread that has a record, the thread has the context and the surfaces that valid handles of the call's display with the given numbers name, each under that number; where it is given none of the three, the thread has none (EGL 1.5, section 3.7.3). Handles stay as they were, and the thread waits for nothing.
+/// Where no rule refuses an eglMakeCurrent of a thread that has a record, the thread has the context and the surfaces that valid handles of the call's display with the given numbers name, each under that number; where it is given no surface, the thread has none, and where it is given none of the three, no context either (EGL 1.5, section 3.7.3). Handles stay as they were, and the thread waits for nothing.
 pub fn make_current_binds_what_it_is_given()
     ensures released { (s : State) (t : ℕ) (c : CallValue) → IsMadeCurrent s t c → t < length s.threads → is_release c ≡ true → HasNoneCurrent (record_of (step s t c).state t) }
     ensures context { (s : State) (t : ℕ) (c : CallValue) → IsMadeCurrent s t c → t < length s.threads → is_release c ≡ false → IsBoundBy s (number c 0) (number c 3) Context (record_of (step s t c).state t).context }
-    ensures draw { (s : State) (t : ℕ) (c : CallValue) → IsMadeCurrent s t c → t < length s.threads → is_release c ≡ false → IsBoundBy s (number c 0) (number c 1) Surface (record_of (step s t c).state t).draw }
-    ensures read { (s : State) (t : ℕ) (c : CallValue) → IsMadeCurrent s t c → t < length s.threads → is_release c ≡ false → IsBoundBy s (number c 0) (number c 2) Surface (record_of (step s t c).state t).read }
+    ensures draw { (s : State) (t : ℕ) (c : CallValue) → IsMadeCurrent s t c → t < length s.threads → is_zero c 1 ≡ false → IsBoundBy s (number c 0) (number c 1) Surface (record_of (step s t c).state t).draw }
+    ensures no_draw { (s : State) (t : ℕ) (c : CallValue) → IsMadeCurrent s t c → t < length s.threads → is_zero c 1 ≡ true → (record_of (step s t c).state t).draw ≡ None }
+    ensures read { (s : State) (t : ℕ) (c : CallValue) → IsMadeCurrent s t c → t < length s.threads → is_zero c 2 ≡ false → IsBoundBy s (number c 0) (number c 2) Surface (record_of (step s t c).state t).read }
+    ensures no_read { (s : State) (t : ℕ) (c : CallValue) → IsMadeCurrent s t c → t < length s.threads → is_zero c 2 ≡ true → (record_of (step s t c).state t).read ≡ None }
     ensures handles { (s : State) (t : ℕ) (c : CallValue) → IsMadeCurrent s t c → (step s t c).state.handles ≡ s.handles }
     ensures wait { (s : State) (t : ℕ) (c : CallValue) → IsMadeCurrent s t c → (record_of (step s t c).state t).wait ≡ None }
 {}

@@ -21,7 +21,7 @@ use Rattle.driver_objects.specs.Objects.{filled}
 use Rattle.share_group.specs.declared.names.NameKind.{NameKind}
 use Rattle.driver_objects.specs.declared.surfaces.BackedSurface.{BackedSurface}
 use Rattle.egl_model.specs.Arguments.{number}
-use Rattle.egl_model.specs.Currents.{bound_surface, current_context, draw_storage, part_of_context, read_storage}
+use Rattle.egl_model.specs.Currents.{bound_framebuffer, bound_surface, current_context, part_of_context}
 use Rattle.egl_model.specs.Buffers.{target_buffer}
 use Rattle.egl_model.specs.Drawing.{clears_colour}
 use Rattle.egl_model.specs.Names.{group_of, object_named}
@@ -83,12 +83,12 @@ sampled_by (Some p) s o = if p.is_texture_enabled then with_levels s o else []
 sampled_by None s o = []
 
 abbrev pub draw_touches : State → ℕ → ℕ → Touches
-draw_touches s t n = record { reads = sampled_by (part_of_context s n) s (target_texture s n); writes = object (draw_storage s t) }
+draw_touches s t n = record { reads = sampled_by (part_of_context s n) s (target_texture s n); writes = object (bound_framebuffer s t).draw }
 
 abbrev pub object_touches : State → ℕ → ℕ → GlKind → CallValue → Touches
 -- pixels of the surfaces
-object_touches s t n Clear c = if clears_colour c then writing (object (draw_storage s t)) else nothing
-object_touches s t n ReadPixels c = reading (object (read_storage s t))
+object_touches s t n Clear c = if clears_colour c then writing (object (bound_framebuffer s t).draw) else nothing
+object_touches s t n ReadPixels c = reading (object (bound_framebuffer s t).read)
 object_touches s t n DrawTexi c = draw_touches s t n
 object_touches s t n DrawTexx c = draw_touches s t n
 -- the texture on which calls work, and the pixels of its levels
@@ -96,8 +96,8 @@ object_touches s t n TexImage2d c = writing (object (target_texture s n))
 object_touches s t n TexParameterx c = writing (object (target_texture s n))
 object_touches s t n TexParameteriv c = writing (object (target_texture s n))
 object_touches s t n TexSubImage2d c = record { reads = object (target_texture s n); writes = object (level_storage s n (level_of c)) }
-object_touches s t n CopyTexImage2d c = record { reads = object (read_storage s t); writes = object (target_texture s n) }
-object_touches s t n CopyTexSubImage2d c = record { reads = object (target_texture s n) ++ object (read_storage s t); writes = object (level_storage s n (level_of c)) }
+object_touches s t n CopyTexImage2d c = record { reads = object (bound_framebuffer s t).read; writes = object (target_texture s n) }
+object_touches s t n CopyTexSubImage2d c = record { reads = object (target_texture s n) ++ object (bound_framebuffer s t).read; writes = object (level_storage s n (level_of c)) }
 -- the buffer on which calls work
 object_touches s t n BufferData c = writing (object (target_buffer s n c))
 object_touches s t n BufferSubData c = writing (object (target_buffer s n c))

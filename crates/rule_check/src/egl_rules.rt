@@ -278,6 +278,17 @@ static WITHOUT_READ: [EglRow; 3] = [
     (&[NoRead, ContextElsewhere], Some(EglError::BadMatch)),
 ];
 
+/// Without surfaces their facts say nothing.
+static WITHOUT_SURFACES: [EglRow; 7] = [
+    (&[NoDraw, NoRead, Incompatible], None),
+    (&[NoDisplay, NotInitialized], Some(EglError::BadDisplay)),
+    (&[NotInitialized], Some(EglError::NotInitialized)),
+    (&[NoContext], Some(EglError::BadContext)),
+    (&[NoContext, ContextElsewhere], Some(EglError::BadContext)),
+    (&[ContextElsewhere], Some(EglError::BadAccess)),
+    (&[NoDraw, ContextElsewhere], Some(EglError::BadAccess)),
+];
+
 static WITHOUT_CONTEXT: [EglRow; 3] = [
     (&[NoContext], Some(EglError::BadMatch)),
     (&[NoContext, NoDraw], Some(EglError::BadSurface)),
@@ -538,6 +549,13 @@ fn make_current_answers_the_first_error(rt: HostRuntime) {
         EglKind::MakeCurrent,
         [1, 3, 0, 4],
         &WITHOUT_READ,
+    );
+    expect_rows(
+        &rt,
+        alloc,
+        EglKind::MakeCurrent,
+        [1, 0, 0, 4],
+        &WITHOUT_SURFACES,
     );
     expect_rows(
         &rt,

@@ -5,17 +5,16 @@ ghost use Rattle.egl_names.specs.declared.codes.TheConstants.{EGL_DRAW as ADraw}
 ghost use Rattle.call_rules.specs.Kinds.{is_built};
 ghost use Rattle.egl_calls.specs.Ranges.{IsNumber};
 ghost use Rattle.egl_calls.specs.Arguments.{signed};
-ghost use Rattle.call_rules.specs.GlRules as gl_rules;
 ghost use Rattle.egl_model.specs.Arguments.{number};
 ghost use Rattle.egl_model.specs.Displays.{display_of};
 ghost use Rattle.egl_model.specs.Drawing.{clears_colour, read_form, read_rect};
-ghost use Rattle.egl_model.specs.GlFacts.{no_framebuffer};
+ghost use Rattle.egl_model.specs.GlFacts.{framebuffer_facts};
 ghost use Rattle.model_laws.specs.Local.{local_refusal};
 
 use call_rules::{EglFacts, GlFacts};
 use egl_calls::arguments::{number, signed};
 use egl_calls::places::{DISPLAY_ID, HEIGHT, MASK, READDRAW, TYPE, WIDTH, X, Y};
-use egl_calls::{Call, EglError, GlError};
+use egl_calls::{Call, EglError};
 use egl_model::ClientApi;
 use egl_names::codes::{EGL_DRAW, EGL_OPENGL_ES_API, GL_COLOR_BUFFER_BIT, GL_UNSIGNED_SHORT_5_6_5};
 use pixel_formats::Format;
@@ -83,22 +82,14 @@ pub fn read_form(call: &Call) -> Format
     }
 }
 
-/// What calls of OpenGL ES are judged by where no framebuffer is bound, if they ask for nothing else; none can be bound yet.
-pub fn no_framebuffer() -> GlFacts
-    ensures { result ≡ no_framebuffer }
+/// What a call of OpenGL ES that clears, draws, reads or copies is judged by: whether the framebuffer that is bound is complete.
+pub fn framebuffer_facts(is_complete: bool) -> GlFacts
+    ensures { result ≡ framebuffer_facts is_complete }
 {
     GlFacts {
-        is_framebuffer_complete: true,
+        is_framebuffer_complete: is_complete,
         ..GlFacts::none()
     }
-}
-
-/// The error of a local call of OpenGL ES, if it is refused: it is judged by its own numbers alone, since no framebuffer is bound.
-pub fn gl_refusal(call: &Call) -> Option<GlError>
-    requires { is_built call.now.kind ≡ true }
-    ensures { result ≡ gl_rules.gl_refusal call.now no_framebuffer }
-{
-    call_rules::gl_refusal(call, &no_framebuffer())
 }
 
 /// The error of a local call of EGL, if it is refused.
