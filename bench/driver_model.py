@@ -40,6 +40,10 @@ ENVIRONMENTS = ["GL_MODULATE", "GL_REPLACE"]
 # By a target of buffers the name of its binding.
 BUFFER_BINDINGS = {"GL_ARRAY_BUFFER": "GL_ARRAY_BUFFER_BINDING", "GL_ELEMENT_ARRAY_BUFFER": "GL_ELEMENT_ARRAY_BUFFER_BINDING"}
 USAGES = ["GL_STATIC_DRAW", "GL_DYNAMIC_DRAW"]
+# By an internal format of renderbuffers the bytes of a pixel; none of depth and stencil, which have no pixels.
+INTERNAL_FORMATS = {"GL_RGB565_OES": 2, "GL_RGBA4_OES": 2, "GL_RGB5_A1_OES": 2, "GL_RGBA8_OES": 4, "GL_DEPTH_COMPONENT16_OES": None, "GL_STENCIL_INDEX8_OES": None}
+RENDERBUFFER, LONGEST_STORED = "GL_RENDERBUFFER_OES", 2_048
+SIDES = {"GL_RENDERBUFFER_WIDTH_OES": 0, "GL_RENDERBUFFER_HEIGHT_OES": 1}
 ENUM, VALUE, OPERATION, MEMORY, FRAMEBUFFER = "GL_INVALID_ENUM", "GL_INVALID_VALUE", "GL_INVALID_OPERATION", "GL_OUT_OF_MEMORY", "GL_INVALID_FRAMEBUFFER_OPERATION_OES"
 
 
@@ -264,11 +268,28 @@ class Buffer:
 
 
 @dataclass(eq=False)
+class Zeros:
+    """The pixels of a renderbuffer, to which nothing is drawn."""
+
+    size: int
+
+    def bytes(self):
+        return self.size
+
+
+@dataclass(eq=False)
+class Renderbuffer:
+    sides: tuple = (0, 0)
+    pixels: Zeros = None
+
+
+@dataclass(eq=False)
 class Group:
-    """By each used name its texture, or None; and the same of buffers."""
+    """By each used name its texture, or None; and the same of buffers and of renderbuffers."""
 
     names: dict = field(default_factory=dict)
     buffers: dict = field(default_factory=dict)
+    renderbuffers: dict = field(default_factory=dict)
 
 
 @dataclass(eq=False)
@@ -281,6 +302,8 @@ class Context:
     bound: Texture = None
     # By each target of buffers the name and the buffer that are bound to it, where one is.
     buffers: dict = field(default_factory=dict)
+    # The name and the renderbuffer that are bound.
+    renderbuffer: tuple = (0, None)
     colour: tuple = (0, 0, 0, 0)
     error: str = "GL_NO_ERROR"
     pack: int = 4
@@ -309,11 +332,13 @@ class Context:
 def referred(thing):
     """What an object refers to."""
     if isinstance(thing, Context):
-        found = [thing.group, thing.texture, thing.bound, *(buffer for _, buffer in thing.buffers.values())]
+        found = [thing.group, thing.texture, thing.bound, *(buffer for _, buffer in thing.buffers.values()), thing.renderbuffer[1]]
     elif isinstance(thing, Group):
-        found = [*thing.names.values(), *thing.buffers.values()]
+        found = [*thing.names.values(), *thing.buffers.values(), *thing.renderbuffers.values()]
     elif isinstance(thing, Texture):
         found = thing.levels
+    elif isinstance(thing, Renderbuffer):
+        found = [thing.pixels]
     else:
         found = [thing.storage] if isinstance(thing, Surface) else []
     return [other for other in found if other]
@@ -348,15 +373,15 @@ class Objects:
         return {thing for thing in reached if isinstance(thing, kind)}
 
     def live(self):
-        return sum(thing.bytes() for thing in self.alive((Storage, Buffer)))
+        return sum(thing.bytes() for thing in self.alive((Storage, Zeros, Buffer)))
 
     def wants(self, thing):
         """Whether there are no bytes left for new pixels or new contents; those that they replace still count."""
         return self.live() + thing.bytes() > self.video
 
     def census(self):
-        contexts, groups, textures, buffers, surfaces, storages = (len(self.alive(kind)) for kind in (Context, Group, Texture, Buffer, Surface, Storage))
-        return [contexts, groups, textures, buffers, 0, 0, surfaces, storages, 0, 0, self.live()]
+        contexts, groups, textures, buffers, renderbuffers, surfaces, storages = (len(self.alive(kind)) for kind in (Context, Group, Texture, Buffer, Renderbuffer, Surface, (Storage, Zeros)))
+        return [contexts, groups, textures, buffers, renderbuffers, 0, surfaces, storages, 0, 0, self.live()]
 
     def of(self, display, number, kind):
         home, thing = self.handles.get(number, (None, None))
@@ -555,7 +580,7 @@ class GlCalls(Objects):
         values = dict(context.boxes)
         values |= {"GL_PACK_ALIGNMENT": [context.pack], "GL_UNPACK_ALIGNMENT": [context.unpack], "GL_MAX_TEXTURE_SIZE": [LONGEST], "GL_TEXTURE_BINDING_2D": [context.name]}
         values |= {binding: [context.buffers.get(target, (0, None))[0]] for target, binding in BUFFER_BINDINGS.items()}
-        values |= {binding: [0] for binding in ("GL_FRAMEBUFFER_BINDING_OES", "GL_RENDERBUFFER_BINDING_OES")}
+        values |= {"GL_RENDERBUFFER_BINDING_OES": [context.renderbuffer[0]], "GL_FRAMEBUFFER_BINDING_OES": [0]}
         refuse((which not in values, ENUM))
         refuse((not 0 <= index < len(values[which]), VALUE))
         return values[which][index]
@@ -731,7 +756,45 @@ class BufferCalls(Objects):
         return 0, [], self.part(context, target, offset, size).data[offset:offset + size]
 
 
-class Model(EglCalls, GlCalls, TextureCalls, BufferCalls):
+class RenderbufferCalls(Objects):
+    """The calls on names of renderbuffers and on renderbuffers."""
+
+    def glGenRenderbuffersOES(self, context, count):
+        return generated(context.group.renderbuffers, count)
+
+    def glDeleteRenderbuffersOES(self, context, names):
+        for name in names:
+            renderbuffer = context.group.renderbuffers.pop(name, None)
+            if renderbuffer and context.renderbuffer[1] is renderbuffer:
+                context.renderbuffer = 0, None
+        return 0
+
+    def glIsRenderbufferOES(self, context, name):
+        return 1 if context.group.renderbuffers.get(name) else 0
+
+    def glBindRenderbufferOES(self, context, target, name):
+        refuse((target != RENDERBUFFER, ENUM), (name < 0, VALUE))
+        names = context.group.renderbuffers
+        if name and not names.get(name):
+            names[name] = Renderbuffer()
+        context.renderbuffer = name, names[name] if name else None
+        return 0
+
+    def glRenderbufferStorageOES(self, context, target, internal, width, height):
+        refuse((target != RENDERBUFFER, ENUM), (internal not in INTERNAL_FORMATS, ENUM), (not (0 <= width <= LONGEST_STORED and 0 <= height <= LONGEST_STORED), VALUE), (not context.renderbuffer[0], OPERATION))
+        size = INTERNAL_FORMATS[internal]
+        pixels = None if size is None else Zeros(width * height * size)
+        refuse((pixels and self.wants(pixels), MEMORY))
+        renderbuffer = context.renderbuffer[1]
+        renderbuffer.sides, renderbuffer.pixels = (width, height), pixels
+        return 0
+
+    def glGetRenderbufferParameterivOES(self, context, target, which):
+        refuse((target != RENDERBUFFER, ENUM), (which not in SIDES, ENUM), (not context.renderbuffer[0], OPERATION))
+        return context.renderbuffer[1].sides[SIDES[which]]
+
+
+class Model(EglCalls, GlCalls, TextureCalls, BufferCalls, RenderbufferCalls):
     """What a driver answers, call by call."""
 
     def readFront(self, number):

@@ -8,7 +8,7 @@ use Rattle.egl_calls.specs.Calls.{CallValue}
 use Rattle.egl_calls.specs.declared.kinds.Kind.{Kind}
 use Rattle.egl_calls.specs.declared.kinds.Kind.TheVariants.{Gl, Own}
 use Rattle.egl_calls.specs.declared.kinds.GlKind.{GlKind}
-use Rattle.egl_calls.specs.declared.kinds.GlKind.TheVariants.{Clear, ReadPixels, TexImage2d, TexSubImage2d, CopyTexImage2d, CopyTexSubImage2d, BufferData, BufferSubData}
+use Rattle.egl_calls.specs.declared.kinds.GlKind.TheVariants.{Clear, ReadPixels, TexImage2d, TexSubImage2d, CopyTexImage2d, CopyTexSubImage2d, BufferData, BufferSubData, RenderbufferStorage}
 use Rattle.egl_calls.specs.declared.kinds.OwnKind.TheVariants.{ReadBuffer}
 use Rattle.egl_calls.specs.declared.errors.GlError.{GlError}
 use Rattle.egl_calls.specs.declared.errors.GlError.TheVariants.{OutOfMemory}
@@ -18,11 +18,12 @@ use Rattle.call_rules.specs.declared.gl_facts.GlFacts.{GlFacts}
 use Rattle.refusal_rows.specs.Rows.{AllOff, IsFirst, ◌⇒◌, first_error}
 use Rattle.egl_calls.specs.Arguments.{number, signed}
 use Rattle.pixel_rows.specs.Rects.{IsInSide}
-use Rattle.call_rules.specs.GlRules.{buffer_bits, is_no_side, is_read_format, is_read_type, is_read_pair, read_format, read_type, gl_rows, gl_refusal_by, gl_refusal}
+use Rattle.call_rules.specs.GlRules.{buffer_bits, is_read_format, is_read_type, is_read_pair, read_format, read_type, gl_rows, gl_refusal_by, gl_refusal}
 use Rattle.call_rules.specs.TextureRules.{asked_image_rows, is_no_level_side, is_no_part, memory_row}
 use Rattle.call_rules.specs.CopyRules.{asked_copy_rows}
-use Rattle.call_rules.specs.GlAllowed.{ClearAllowed, CopyAllowed, CopyAsked, CopyPartAllowed, ImageAllowed, ImageAsked, IsSide, PartAllowed, ReadAllowed, BufferPartAllowed, DataAsked}
+use Rattle.call_rules.specs.GlAllowed.{ClearAllowed, CopyAllowed, CopyAsked, CopyPartAllowed, ImageAllowed, ImageAsked, IsSide, PartAllowed, ReadAllowed, BufferPartAllowed, DataAsked, StorageAllowed, StorageAsked}
 use Rattle.call_rules.specs.BufferRules.{asked_data_rows, buffer_part_rows}
+use Rattle.call_rules.specs.RenderbufferRules.{asked_storage_rows, is_no_side}
 use Rattle.refusal_rows.proofs.RowLaws.{all_off, first_is, first_of, from_others, none_on, past_off}
 use Rattle.call_rules.proofs.TestLaws.{not_below, is_not_below, within, past, is_past}
 
@@ -215,6 +216,29 @@ buffer_part_allowed c f h n = buffer_part c f (rows_off c f BufferSubData h n)
 pub read_buffer_allowed : (c : CallValue) (f : GlFacts) → c.kind ≡ Own ReadBuffer → gl_refusal c f ≡ None → BufferPartAllowed c f
 unfolding gl_refusal
 read_buffer_allowed c f h n = buffer_part c f (all_off (buffer_part_rows c f) (sym (ap (λ (kind : Kind). gl_refusal_by kind c f) h) ∙ n))
+
+-- ---- Renderbuffers.
+pub storage_allowed : (c : CallValue) (f : GlFacts) → c.kind ≡ Gl RenderbufferStorage → gl_refusal c f ≡ None → StorageAllowed c f
+storage_allowed c f h n =
+    let a = rows_off c f RenderbufferStorage h n in
+    let sides = or_parts (is_no_side (signed c 2)) (is_no_side (signed c 3)) a.1.1.0 in
+    record {
+      format = not-false _ a.1.0;
+      width = side _ sides.0;
+      height = side _ sides.1;
+      bound = not-false _ a.1.1.1.0;
+      room = within f.video_limit (f.live_bytes + f.new_bytes) a.1.1.1.1.0;
+    }
+
+pub storage_wants : (c : CallValue) (f : GlFacts) → c.kind ≡ Gl RenderbufferStorage → gl_refusal c f ≡ Some OutOfMemory → StorageAsked c f × (f.video_limit < f.live_bytes + f.new_bytes)
+storage_wants c f h n =
+    let o = from_others is_out_of_memory OutOfMemory (asked_storage_rows c f) (memory_row f ∷ []) refl (refl, (refl, (refl, (refl, tt)))) (sym (of_kind c f RenderbufferStorage h) ∙ n) in
+    (o.0, past f.video_limit (f.live_bytes + f.new_bytes) (last (nat_lt f.video_limit (f.live_bytes + f.new_bytes)) OutOfMemory o.1))
+
+pub wanting_storage : (c : CallValue) (f : GlFacts) → c.kind ≡ Gl RenderbufferStorage → StorageAsked c f × (f.video_limit < f.live_bytes + f.new_bytes) → gl_refusal c f ≡ Some OutOfMemory
+wanting_storage c f h w =
+    of_kind c f RenderbufferStorage h ∙ past_off (asked_storage_rows c f) (memory_row f ∷ []) w.0
+    ∙ ap (λ b. first_error ((b ⇒ OutOfMemory) ∷ [])) (is_past f.video_limit (f.live_bytes + f.new_bytes) w.1)
 
 -- ---- Any call, by its rows.
 pub refused_first : (c : CallValue) (f : GlFacts) (k : GlKind) (e : GlError) → c.kind ≡ Gl k → gl_refusal c f ≡ Some e → IsFirst e (gl_rows k c f)

@@ -3,7 +3,7 @@ use Rattle.std.specs.Prelude.{◌≡◌, ◌+◌, ◌≤◌, ℤ, pos, ◌≤ℤ
 use Rattle.egl_calls.specs.Calls.{CallValue}
 use Rattle.egl_calls.specs.Ranges.{unsigned}
 use Rattle.egl_names.specs.declared.codes.TheConstants.{GL_RGB, GL_RGBA, GL_UNSIGNED_BYTE, GL_UNSIGNED_SHORT_5_6_5}
-use Rattle.egl_calls.specs.declared.places.TheConstants.{COPIED_HEIGHT, COPIED_PART_HEIGHT, COPIED_PART_WIDTH, COPIED_WIDTH, HEIGHT, IMAGE_HEIGHT, IMAGE_WIDTH, LEVEL, MASK, WIDTH, X_OFFSET, Y_OFFSET, BUFFER_OFFSET, BUFFER_PART_SIZE}
+use Rattle.egl_calls.specs.declared.places.TheConstants.{COPIED_HEIGHT, COPIED_PART_HEIGHT, COPIED_PART_WIDTH, COPIED_WIDTH, HEIGHT, IMAGE_HEIGHT, IMAGE_WIDTH, LEVEL, MASK, STORED_FORMAT, STORED_HEIGHT, STORED_WIDTH, WIDTH, X_OFFSET, Y_OFFSET, BUFFER_OFFSET, BUFFER_PART_SIZE}
 use Rattle.pixel_rows.specs.Rects.{IsInSide, IsInside}
 use Rattle.texture_objects.specs.Uploads.{given_form, part_rect}
 use Rattle.call_rules.specs.declared.gl_facts.GlFacts.{GlFacts}
@@ -12,6 +12,8 @@ use Rattle.call_rules.specs.GlRules.{buffer_bits, read_format, read_type}
 use Rattle.refusal_rows.specs.Rows.{AllOff}
 use Rattle.call_rules.specs.CopyRules.{asked_copy_rows}
 use Rattle.call_rules.specs.BufferRules.{asked_data_rows}
+use Rattle.call_rules.specs.RenderbufferRules.{asked_storage_rows}
+use Rattle.framebuffer_objects.specs.InternalFormats.{is_internal}
 use Rattle.call_rules.specs.TextureRules.{asked_image_rows, is_no_level, is_no_level_side}
 
 -- glClear (OpenGL ES 1.1, section 4.2.3): the mask adds no bit to those of the buffers
@@ -87,3 +89,15 @@ pub record BufferPartAllowed (c : CallValue) (f : GlFacts) : Type 0 where
   pub size : pos 0 ≤ℤ signed c BUFFER_PART_SIZE
   pub bound : f.is_bound ≡ true
   pub inside : number c BUFFER_OFFSET + number c BUFFER_PART_SIZE ≤ f.bound_size
+
+-- glRenderbufferStorageOES (OES_framebuffer_object): nothing is wrong but that bytes may want
+abbrev pub StorageAsked : CallValue → GlFacts → Type 0
+StorageAsked c f = AllOff (asked_storage_rows c f)
+
+-- a renderbuffer is bound, and there are bytes for pixels of such a format and such sides
+pub record StorageAllowed (c : CallValue) (f : GlFacts) : Type 0 where
+  pub format : is_internal (number c STORED_FORMAT) ≡ true
+  pub width : IsSide (signed c STORED_WIDTH)
+  pub height : IsSide (signed c STORED_HEIGHT)
+  pub bound : f.is_bound ≡ true
+  pub room : f.live_bytes + f.new_bytes ≤ f.video_limit

@@ -6,7 +6,7 @@ use Rattle.egl_calls.specs.Calls.{CallValue}
 use Rattle.egl_calls.specs.declared.kinds.Kind.{Kind}
 use Rattle.egl_calls.specs.declared.kinds.Kind.TheVariants.{Gl, Own}
 use Rattle.egl_calls.specs.declared.kinds.GlKind.{GlKind}
-use Rattle.egl_calls.specs.declared.kinds.GlKind.TheVariants.{Flush, Finish, Clear, ReadPixels, DrawTexi, DrawTexx, GenTextures, DeleteTextures, IsTexture, BindTexture, TexParameterx, TexParameteriv, TexImage2d, TexSubImage2d, CopyTexImage2d, CopyTexSubImage2d, GenBuffers, DeleteBuffers, IsBuffer, BindBuffer, BufferData, BufferSubData, GetBufferParameteriv}
+use Rattle.egl_calls.specs.declared.kinds.GlKind.TheVariants.{Flush, Finish, Clear, ReadPixels, DrawTexi, DrawTexx, GenTextures, DeleteTextures, IsTexture, BindTexture, TexParameterx, TexParameteriv, TexImage2d, TexSubImage2d, CopyTexImage2d, CopyTexSubImage2d, GenBuffers, DeleteBuffers, IsBuffer, BindBuffer, BufferData, BufferSubData, GetBufferParameteriv, GenRenderbuffers, DeleteRenderbuffers, IsRenderbuffer, BindRenderbuffer, RenderbufferStorage, GetRenderbufferParameteriv}
 use Rattle.egl_calls.specs.declared.kinds.OwnKind.TheVariants.{ReadBuffer}
 use Rattle.egl_calls.specs.declared.errors.GlError.{GlError}
 use Rattle.egl_calls.specs.declared.errors.GlError.TheVariants.{InvalidEnum, InvalidValue, InvalidOperation}
@@ -20,6 +20,7 @@ use Rattle.call_rules.specs.FramebufferRules.{framebuffer_row}
 use Rattle.call_rules.specs.CopyRules.{copy_part_rows, copy_rows}
 use Rattle.call_rules.specs.TextureRules.{count_row, crop_length_row, crop_row, image_rows, name_row, parameter_row, part_rows, texture_row}
 use Rattle.call_rules.specs.BufferRules.{bound_row, buffer_parameter_row, buffer_row, buffer_part_rows, data_rows}
+use Rattle.call_rules.specs.RenderbufferRules.{is_no_side, renderbuffer_parameter_row, renderbuffer_row, storage_rows}
 use Rattle.context_state.specs.Kinds.{context_gl_call}
 use Rattle.context_state.specs.Refusals.{context_rows}
 use Rattle.context_state.specs.declared.kinds.ContextCall.{ContextCall}
@@ -48,10 +49,6 @@ buffer_bits = bit_or (bit_or GL_COLOR_BUFFER_BIT GL_DEPTH_BUFFER_BIT) GL_STENCIL
 -- whether a mask has no bit besides those; a negative one has
 abbrev pub is_clear_mask : ℤ → Bool
 is_clear_mask mask = not (int_lt mask (pos 0)) && (bit_or (unsigned mask) buffer_bits == buffer_bits)
-
--- a width or height that nothing can have
-abbrev pub is_no_side : ℤ → Bool
-is_no_side side = int_lt side (pos 0) || int_lt (pos 2048) side
 
 -- the formats of pixels that are read (OpenGL ES 1.1, section 4.3.1)
 abbrev pub is_read_format : ℕ → Bool
@@ -146,6 +143,22 @@ object_rows BufferSubData c f = buffer_part_rows c f
 object_rows GetBufferParameteriv c f =
     buffer_row c ∷
     buffer_parameter_row c ∷
+    bound_row f ∷
+    []
+-- OES_framebuffer_object
+object_rows GenRenderbuffers c f =
+    count_row c ∷
+    []
+object_rows DeleteRenderbuffers c f = []
+object_rows IsRenderbuffer c f = []
+object_rows BindRenderbuffer c f =
+    renderbuffer_row c ∷
+    name_row c ∷
+    []
+object_rows RenderbufferStorage c f = storage_rows c f
+object_rows GetRenderbufferParameteriv c f =
+    renderbuffer_row c ∷
+    renderbuffer_parameter_row c ∷
     bound_row f ∷
     []
 -- a call that isn't built

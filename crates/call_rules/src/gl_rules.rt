@@ -3,7 +3,7 @@ ghost use Rattle.call_rules.specs.Kinds.{is_built, is_object_call};
 ghost use Rattle.std.specs.Prelude.{◌≡◌, true};
 ghost use Rattle.egl_calls.specs.declared.kinds.GlKind.TheVariants.{ReadPixels};
 ghost use Rattle.refusal_rows.specs.Rows.{first_error};
-ghost use Rattle.call_rules.specs.GlRules.{gl_refusal, object_rows, draw_rows, draws_nothing, is_clear_mask, is_no_side, is_read_format, is_read_type, is_read_pair};
+ghost use Rattle.call_rules.specs.GlRules.{gl_refusal, object_rows, draw_rows, draws_nothing, is_clear_mask, is_read_format, is_read_type, is_read_pair};
 
 use crate::buffer_rules::{
     buffer_data, buffer_part, not_bound, wrong_buffer_parameter, wrong_buffer_target,
@@ -11,6 +11,9 @@ use crate::buffer_rules::{
 use crate::copy_rules::{copy_tex_image, copy_tex_sub_image};
 use crate::framebuffer_rules::incomplete;
 use crate::gl_facts::GlFacts;
+use crate::renderbuffer_rules::{
+    is_no_side, renderbuffer_storage, wrong_renderbuffer_parameter, wrong_renderbuffer_target,
+};
 use crate::texture_rules::{
     tex_image, tex_parameteriv, tex_sub_image, wrong_count, wrong_name, wrong_parameter,
     wrong_target,
@@ -31,12 +34,6 @@ fn is_clear_mask(mask: i64) -> bool
     ensures { result ≡ is_clear_mask mask }
 {
     mask >= 0 && (unsigned(mask) | BUFFER_BITS) == BUFFER_BITS
-}
-
-fn is_no_side(side: i64) -> bool
-    ensures { result ≡ is_no_side side }
-{
-    side < 0 || side > 2_048
 }
 
 fn is_read_format(format: u64) -> bool
@@ -126,6 +123,18 @@ fn object_refusal(kind: GlKind, call: &Call, facts: &GlFacts) -> Option<GlError>
         GlKind::GetBufferParameteriv => first_error(&[
             wrong_buffer_target(call),
             wrong_buffer_parameter(call),
+            not_bound(facts),
+        ]),
+        GlKind::GenRenderbuffers => first_error(&[wrong_count(call)]),
+        GlKind::DeleteRenderbuffers => None,
+        GlKind::IsRenderbuffer => None,
+        GlKind::BindRenderbuffer => {
+            first_error(&[wrong_renderbuffer_target(call), wrong_name(call)])
+        }
+        GlKind::RenderbufferStorage => renderbuffer_storage(call, facts),
+        GlKind::GetRenderbufferParameteriv => first_error(&[
+            wrong_renderbuffer_target(call),
+            wrong_renderbuffer_parameter(call),
             not_bound(facts),
         ]),
         _ => unreachable!(),

@@ -32,7 +32,13 @@ fn is_object_call(kind: GlKind) -> bool
         | GlKind::BindBuffer
         | GlKind::BufferData
         | GlKind::BufferSubData
-        | GlKind::GetBufferParameteriv => true,
+        | GlKind::GetBufferParameteriv
+        | GlKind::GenRenderbuffers
+        | GlKind::DeleteRenderbuffers
+        | GlKind::IsRenderbuffer
+        | GlKind::BindRenderbuffer
+        | GlKind::RenderbufferStorage
+        | GlKind::GetRenderbufferParameteriv => true,
         _ => false,
     }
 }

@@ -10,7 +10,7 @@ use Rattle.egl_calls.specs.Ranges.{IsNumber, unsigned}
 use Rattle.driver_objects.specs.Links.{bound_in}
 use Rattle.driver_objects.specs.Targets.{binding_of, name_kind, slot_of}
 use Rattle.driver_objects.specs.declared.targets.BindTarget.{BindTarget}
-use Rattle.driver_objects.specs.declared.targets.BindTarget.TheVariants.{Texture as TextureTarget, ArrayBuffer, ElementArrayBuffer}
+use Rattle.driver_objects.specs.declared.targets.BindTarget.TheVariants.{Texture as TextureTarget, ArrayBuffer, ElementArrayBuffer, Renderbuffer as RenderbufferTarget}
 use Rattle.driver_objects.specs.declared.contexts.Context.{Context as ContextObject}
 use Rattle.driver_objects.specs.declared.objects.Object.{Object}
 use Rattle.driver_objects.specs.declared.objects.Object.TheVariants.{Context, Group}
@@ -54,7 +54,7 @@ same_group b x c = by (is_place x (bound_in (slot_of b) c.bound))
 still_group : (k : NameKind) (x : ℕ) (c : ContextObject) → (unbound_object k x c).group ≡ c.group
 still_group textures x c = same_group TextureTarget x c
 still_group buffers x c = same_group ElementArrayBuffer x (unbound_at ArrayBuffer x c) ∙ same_group ArrayBuffer x c
-still_group renderbuffers x c = refl
+still_group renderbuffers x c = same_group RenderbufferTarget x c
 still_group framebuffers x c = refl
 
 unbound_own : (k : NameKind) (g x : ℕ) (o : Option Object) → own_at g (with_context (unbound_object k x) o) ≡ own_at g o
@@ -108,6 +108,7 @@ rank_new : (b : BindTarget) → rank_in (Some (new_object b)) ≤ 1
 rank_new TextureTarget = omega arith
 rank_new ArrayBuffer = omega arith
 rank_new ElementArrayBuffer = omega arith
+rank_new RenderbufferTarget = omega arith
 
 pub anew_there : (b : BindTarget) (os mid : List (Option Object)) (g n : ℕ) (f : GroupValue → GroupValue) → n ≡ length os → IsLeft (change_group f g (os ++ Some (new_object b) ∷ [])) mid → IsSome (get_or mid n None) → IfSome (Some n) (λ m. IsSome (get_or mid m None) × (rank_in (get_or mid m None) < 4))
 unfolding change_group

@@ -91,7 +91,7 @@ unfolding gl_refusal
 crop_four s t n c h r = eqb-true (length c.list) 4 (not-false _ (rows_off c no_gl_facts TexParameteriv h r).1.1.0)
 
 -- ---- A storage that is made and held, to which a level refers, and that is let go.
-weighs_storage : (os : List (Option Object)) (v : StorageValue) → weight_of (os ++ Some (Storage v) ∷ []) ≡ weight_of os + 1
+pub weighs_storage : (os : List (Option Object)) (v : StorageValue) → weight_of (os ++ Some (Storage v) ∷ []) ≡ weight_of os + 1
 unfolding weight_of
 weighs_storage os v = sum_by-append (λ o. option_map_or (λ (x : Object). 1 + length (edges_of x)) o 0) os (Some (Storage v) ∷ [])
 

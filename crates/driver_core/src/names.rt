@@ -21,9 +21,10 @@ use crate::contexts::new_texture;
 use crate::machine::Driver;
 use crate::replies::listed_with;
 use buffer_objects::Buffer;
-use driver_objects::{BindTarget, Object};
+use driver_objects::{BackedRenderbuffer, BindTarget, Object};
 use egl_calls::places::{BOUND_NAME, COUNT};
 use egl_calls::{Call, NoMemory, Numbers, ReplyPair, unsigned};
+use framebuffer_objects::Renderbuffer;
 use object_table::ObjectTable;
 use ref_store::Steps;
 use share_group::{Group, NameKind};
@@ -50,7 +51,7 @@ fn room_for(alloc: Global, count: u32) -> Result<Vec<i64>, NoMemory>
     }
 }
 
-/// What a name gets that has no object: a texture without storage, a buffer without bytes.
+/// What a name gets that has no object: a texture or a renderbuffer without storage, a buffer without bytes.
 fn new_object(alloc: Global, target: BindTarget) -> Object
     ensures value { result ≡ new_object target }
     ensures plain { edges_of result ≡ [] }
@@ -61,6 +62,10 @@ fn new_object(alloc: Global, target: BindTarget) -> Object
         BindTarget::ArrayBuffer | BindTarget::ElementArrayBuffer => {
             Object::Buffer(Buffer::new(alloc))
         }
+        BindTarget::Renderbuffer => Object::Renderbuffer(BackedRenderbuffer {
+            renderbuffer: Renderbuffer::new(),
+            storage: None,
+        }),
     }
 }
 

@@ -276,6 +276,16 @@ impl Driver {
             GlKind::GetBufferParameteriv => {
                 Ok(valued(alloc, self.buffer_parameter(context, call)))
             }
+            GlKind::GenRenderbuffers => {
+                self.generate(alloc, context, NameKind::Renderbuffer, call)
+            }
+            GlKind::IsRenderbuffer => {
+                let name = name_of(call, ASKED_NAME);
+                Ok(valued(alloc, self.is_name(context, NameKind::Renderbuffer, name)))
+            }
+            GlKind::GetRenderbufferParameteriv => {
+                Ok(valued(alloc, self.renderbuffer_parameter(context, call)))
+            }
             _ => unreachable!(),
         }
     }
@@ -346,6 +356,18 @@ impl Driver {
             }
             GlKind::DeleteBuffers => {
                 self.delete_names(context, NameKind::Buffer, call, steps);
+                Ok(valued(alloc, 0))
+            }
+            GlKind::BindRenderbuffer => {
+                self.bind_name(alloc, context, BindTarget::Renderbuffer, call, steps)?;
+                Ok(valued(alloc, 0))
+            }
+            GlKind::DeleteRenderbuffers => {
+                self.delete_names(context, NameKind::Renderbuffer, call, steps);
+                Ok(valued(alloc, 0))
+            }
+            GlKind::RenderbufferStorage => {
+                self.set_storage(alloc, thread, context, call, steps)?;
                 Ok(valued(alloc, 0))
             }
             GlKind::TexImage2d => {

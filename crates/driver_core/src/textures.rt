@@ -97,7 +97,7 @@ impl Driver {
         ensures state { self.new ≡ record self.old { state = sweep (specified level None (Some texture) self.old.state) } }
         ensures steps { IsCheap self.old.state self.new.state steps.old steps.new }
     {
-        self.objects.link_level(texture, level, None, steps);
+        self.objects.link_pixels(texture, level, None, steps);
         self.objects.left();
     }
 
@@ -117,7 +117,7 @@ impl Driver {
         self.objects.reserve(1)?;
         let new = self.objects.len();
         self.objects.make_one(Object::Storage(storage));
-        self.objects.link_level(texture, level, Some(new), steps);
+        self.objects.link_pixels(texture, level, Some(new), steps);
         self.objects.release(new, steps);
         self.objects.left();
         Ok(())

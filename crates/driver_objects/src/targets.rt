@@ -6,16 +6,17 @@ ghost use Rattle.driver_objects.specs.Targets.{binding_of, buffer_target, name_k
 use crate::contexts::BoundObjects;
 use egl_names::codes::{
     GL_ARRAY_BUFFER_BINDING, GL_ELEMENT_ARRAY_BUFFER, GL_ELEMENT_ARRAY_BUFFER_BINDING,
-    GL_TEXTURE_BINDING_2D,
+    GL_RENDERBUFFER_BINDING_OES, GL_TEXTURE_BINDING_2D,
 };
 use share_group::NameKind;
 
-/// What a context binds objects with names to (OpenGL ES 1.1, sections 2.9 and 3.7.11).
+/// What a context binds objects with names to (OpenGL ES 1.1, sections 2.9 and 3.7.11; OES_framebuffer_object).
 #[derive(Clone, Copy, Debug, PartialEq, Eq, Drop)]
 pub enum BindTarget {
     Texture,
     ArrayBuffer,
     ElementArrayBuffer,
+    Renderbuffer,
 }
 
 impl BindTarget {
@@ -28,6 +29,7 @@ impl BindTarget {
             BindTarget::Texture => 2,
             BindTarget::ArrayBuffer => 3,
             BindTarget::ElementArrayBuffer => 4,
+            BindTarget::Renderbuffer => 5,
         }
     }
 
@@ -39,6 +41,7 @@ impl BindTarget {
             BindTarget::Texture => GL_TEXTURE_BINDING_2D,
             BindTarget::ArrayBuffer => GL_ARRAY_BUFFER_BINDING,
             BindTarget::ElementArrayBuffer => GL_ELEMENT_ARRAY_BUFFER_BINDING,
+            BindTarget::Renderbuffer => GL_RENDERBUFFER_BINDING_OES,
         }
     }
 
@@ -49,6 +52,7 @@ impl BindTarget {
         match self {
             BindTarget::Texture => NameKind::Texture,
             BindTarget::ArrayBuffer | BindTarget::ElementArrayBuffer => NameKind::Buffer,
+            BindTarget::Renderbuffer => NameKind::Renderbuffer,
         }
     }
 
@@ -60,6 +64,7 @@ impl BindTarget {
             BindTarget::Texture => bound.texture,
             BindTarget::ArrayBuffer => bound.array_buffer,
             BindTarget::ElementArrayBuffer => bound.element_array_buffer,
+            BindTarget::Renderbuffer => bound.renderbuffer,
         }
     }
 }

@@ -1,19 +1,20 @@
--- What a context has bound, and names whose objects are bound and deleted (OpenGL ES 1.1, sections 2.9 and 3.7.11).
+-- What a context has bound, and names whose objects are bound and deleted (OpenGL ES 1.1, sections 2.9 and 3.7.11; OES_framebuffer_object).
 use Rattle.std.specs.Prelude.{ℕ, ℤ, ◌==◌, List, [], ◌∷◌, ◌++◌, length, if◌then◌else◌, Option, None, Some}
 use Rattle.std.specs.Option.{option_map}
 use Rattle.egl_calls.specs.Ranges.{unsigned}
 use Rattle.context_state.specs.Bindings.{with_name}
 use Rattle.context_state.specs.Parts.{PartValue}
 use Rattle.buffer_objects.specs.Buffers.{fresh}
+use Rattle.framebuffer_objects.specs.Renderbuffers as renderbuffer_objects
 use Rattle.share_group.specs.declared.names.NameKind.{NameKind}
 use Rattle.share_group.specs.declared.names.NameKind.TheVariants.{Texture as textures, Buffer as buffers, Renderbuffer as renderbuffers, Framebuffer as framebuffers}
 use Rattle.driver_objects.specs.Links.{bound_in, bound_with}
 use Rattle.driver_objects.specs.Targets.{binding_of, name_kind, slot_of}
 use Rattle.driver_objects.specs.declared.contexts.Context.{Context as ContextObject}
 use Rattle.driver_objects.specs.declared.objects.Object.{Object}
-use Rattle.driver_objects.specs.declared.objects.Object.TheVariants.{Buffer}
+use Rattle.driver_objects.specs.declared.objects.Object.TheVariants.{Buffer, Renderbuffer}
 use Rattle.driver_objects.specs.declared.targets.BindTarget.{BindTarget}
-use Rattle.driver_objects.specs.declared.targets.BindTarget.TheVariants.{Texture, ArrayBuffer, ElementArrayBuffer}
+use Rattle.driver_objects.specs.declared.targets.BindTarget.TheVariants.{Texture, ArrayBuffer, ElementArrayBuffer, Renderbuffer as renderbuffer_target}
 use Rattle.egl_model.specs.State.{State}
 use Rattle.egl_model.specs.Contexts.{new_texture}
 use Rattle.egl_model.specs.Names.{group_of, object_named, with_name_of}
@@ -36,11 +37,12 @@ named_at which name c = record c { names = with_name which name c.names; part = 
 abbrev pub bound_object : BindTarget → ℕ → Option ℕ → ℕ → List (Option Object) → List (Option Object)
 bound_object b n o name os = change_context (bound_at (slot_of b) o) n (change_context (named_at (binding_of b) name) n os)
 
--- what a name gets that has no object: a texture without storage, a buffer without bytes
+-- what a name gets that has no object: a texture or a renderbuffer without storage, a buffer without bytes
 abbrev pub new_object : BindTarget → Object
 new_object Texture = new_texture
 new_object ArrayBuffer = Buffer fresh
 new_object ElementArrayBuffer = Buffer fresh
+new_object renderbuffer_target = Renderbuffer (record { renderbuffer = renderbuffer_objects.fresh; storage = None })
 
 -- a new object gets a name, and is bound
 abbrev pub bound_anew : BindTarget → ℕ → ℕ → ℕ → List (Option Object) → List (Option Object)
@@ -51,7 +53,7 @@ abbrev pub bound_named : BindTarget → ℕ → ℕ → ℕ → Option ℕ → S
 bound_named b g n name (Some x) s = record s { objects = bound_object b n (Some x) name s.objects }
 bound_named b g n name None s = record s { objects = bound_anew b g n name s.objects }
 
--- what has the name is bound, and is made where there is nothing; 0 is the context's own texture, and no buffer
+-- what has the name is bound, and is made where there is nothing; 0 is the context's own texture, and no buffer or renderbuffer
 abbrev pub bound_name : BindTarget → State → ℕ → ℕ → State
 bound_name b s n name =
     if name == 0 then record s { objects = bound_object b n None 0 s.objects }
@@ -66,7 +68,7 @@ unbound_at b x c = if is_place x (bound_in (slot_of b) c.bound) then bound_at (s
 abbrev pub unbound_object : NameKind → ℕ → ContextObject → ContextObject
 unbound_object textures x c = unbound_at Texture x c
 unbound_object buffers x c = unbound_at ElementArrayBuffer x (unbound_at ArrayBuffer x c)
-unbound_object renderbuffers x c = c
+unbound_object renderbuffers x c = unbound_at renderbuffer_target x c
 unbound_object framebuffers x c = c
 
 abbrev pub unbound_in : NameKind → ℕ → Option ℕ → List (Option Object) → List (Option Object)

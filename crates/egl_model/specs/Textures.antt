@@ -10,7 +10,7 @@ use Rattle.texture_objects.specs.Uploads.{data_form, uploaded}
 use Rattle.driver_objects.specs.Storages.{StorageValue, rewritten_storage, stored}
 use Rattle.driver_objects.specs.declared.textures.BackedTexture.{BackedTexture}
 use Rattle.driver_objects.specs.declared.objects.Object.{Object}
-use Rattle.driver_objects.specs.declared.objects.Object.TheVariants.{Storage}
+use Rattle.driver_objects.specs.declared.objects.Object.TheVariants.{Renderbuffer, Storage, Texture}
 use Rattle.egl_model.specs.State.{State}
 use Rattle.egl_model.specs.Arguments.{number}
 use Rattle.egl_model.specs.Currents.{part_of_context}
@@ -59,10 +59,19 @@ new_level c align = if has_no_side c then None else Some (stored (frozen (upload
 abbrev pub with_level : ℕ → Option ℕ → BackedTexture → BackedTexture
 with_level k o x = record x { levels = slice_set x.levels k o }
 
--- a level of a texture loses its storage, or has a new one
+-- the same of any object that has pixels: a renderbuffer has them at 0 alone
+abbrev pub with_pixels : ℕ → Option ℕ → Option Object → Option Object
+with_pixels k o (Some (Texture x)) = Some (Texture (with_level k o x))
+with_pixels k o (Some (Renderbuffer r)) = Some (Renderbuffer (record r { storage = o }))
+with_pixels k o x = x
+
+unfoldable pub change_pixels : ℕ → Option ℕ → ℕ → List (Option Object) → List (Option Object)
+change_pixels k o n os = slice_set os n (with_pixels k o (slice_index_or os n None))
+
+-- a level of a texture, or a renderbuffer, loses its storage or has a new one
 abbrev pub specified_in : ℕ → Option StorageValue → ℕ → List (Option Object) → List (Option Object)
-specified_in k None x os = change_texture (with_level k None) x os
-specified_in k (Some v) x os = change_texture (with_level k (Some (length os))) x (os ++ Some (Storage v) ∷ [])
+specified_in k None x os = change_pixels k None x os
+specified_in k (Some v) x os = change_pixels k (Some (length os)) x (os ++ Some (Storage v) ∷ [])
 
 abbrev pub specified : ℕ → Option StorageValue → Option ℕ → State → State
 specified k v None s = s

@@ -1,6 +1,6 @@
 //! The internal formats of renderbuffers.
 ghost use Rattle.std.specs.Prelude.{◌≡◌};
-ghost use Rattle.framebuffer_objects.specs.InternalFormats.{format_of, point_of};
+ghost use Rattle.framebuffer_objects.specs.InternalFormats.{format_of, is_internal, point_of};
 
 use crate::points::Point;
 use egl_names::codes::{
@@ -9,8 +9,20 @@ use egl_names::codes::{
 };
 use pixel_formats::Format;
 
-/// The format of the pixels, and none of depth and stencil, which hold no values.
-pub(crate) fn format_of(internal: u64) -> Option<Format>
+/// Whether a code is that of an internal format of renderbuffers: GL_RGB565_OES, GL_RGBA4_OES, GL_RGB5_A1_OES, GL_RGBA8_OES, GL_DEPTH_COMPONENT16_OES or GL_STENCIL_INDEX8_OES (OES_framebuffer_object).
+pub fn is_internal(format: u64) -> bool
+    ensures { result ≡ is_internal format }
+{
+    format == GL_RGB565_OES
+        || format == GL_RGBA4_OES
+        || format == GL_RGB5_A1_OES
+        || format == GL_RGBA8_OES
+        || format == GL_DEPTH_COMPONENT16_OES
+        || format == GL_STENCIL_INDEX8_OES
+}
+
+/// The format of the pixels of an internal format, and none for depth and stencil, which hold no values.
+pub fn format_of(internal: u64) -> Option<Format>
     ensures { result ≡ format_of internal }
 {
     if internal == GL_RGB565_OES {

@@ -11,5 +11,6 @@ mod renderbuffers;
 
 pub use completeness::{Part, status};
 pub use framebuffers::{Attached, Framebuffer};
+pub use internal_formats::{format_of, is_internal};
 pub use points::Point;
 pub use renderbuffers::Renderbuffer;

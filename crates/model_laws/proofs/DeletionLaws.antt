@@ -6,14 +6,14 @@ use Rattle.std.proofs.lemmas.List.{get_or-set_other}
 use Rattle.std.proofs.lemmas.Option.{none-some}
 use Rattle.egl_calls.specs.Calls.{CallValue}
 use Rattle.egl_calls.specs.Ranges.{unsigned}
-use Rattle.egl_calls.specs.declared.kinds.GlKind.TheVariants.{DeleteBuffers, DeleteTextures}
+use Rattle.egl_calls.specs.declared.kinds.GlKind.TheVariants.{DeleteBuffers, DeleteRenderbuffers, DeleteTextures}
 use Rattle.driver_objects.specs.Links.{bound_in}
 use Rattle.driver_objects.specs.Targets.{binding_of, slot_of}
 use Rattle.driver_objects.specs.declared.contexts.Context.{Context as ContextObject}
 use Rattle.driver_objects.specs.declared.objects.Object.{Object}
 use Rattle.driver_objects.specs.declared.objects.Object.TheVariants.{Context, Group}
 use Rattle.driver_objects.specs.declared.targets.BindTarget.{BindTarget}
-use Rattle.driver_objects.specs.declared.targets.BindTarget.TheVariants.{Texture as TextureTarget, ArrayBuffer, ElementArrayBuffer}
+use Rattle.driver_objects.specs.declared.targets.BindTarget.TheVariants.{Texture as TextureTarget, ArrayBuffer, ElementArrayBuffer, Renderbuffer as RenderbufferTarget}
 use Rattle.share_group.specs.Groups.{GroupValue}
 use Rattle.share_group.specs.Names.{object_of}
 use Rattle.share_group.specs.declared.names.NameKind.{NameKind}
@@ -67,6 +67,9 @@ textures_stay_elsewhere s t n m c y a ne h = elsewhere textures s n m c.list y n
 pub buffers_stay_elsewhere : (s : State) (t n m : ℕ) (c : CallValue) (y : ContextObject) → IsAllowedGl s t n DeleteBuffers c → m ≢ n → context_in (step s t c).state.objects m ≡ Some y → context_in s.objects m ≡ Some y
 buffers_stay_elsewhere s t n m c y a ne h = elsewhere buffers s n m c.list y ne (subst (λ (z : Stepped). context_in z.state.objects m ≡ Some y) (allowed_gl s t n DeleteBuffers c a) h)
 
+pub renderbuffers_stay_elsewhere : (s : State) (t n m : ℕ) (c : CallValue) (y : ContextObject) → IsAllowedGl s t n DeleteRenderbuffers c → m ≢ n → context_in (step s t c).state.objects m ≡ Some y → context_in s.objects m ≡ Some y
+renderbuffers_stay_elsewhere s t n m c y a ne h = elsewhere renderbuffers s n m c.list y ne (subst (λ (z : Stepped). context_in z.state.objects m ≡ Some y) (allowed_gl s t n DeleteRenderbuffers c a) h)
+
 -- ---- The caller's context.
 NotAt : BindTarget → ℕ → ContextObject → Type 0
 NotAt b x c = bound_in (slot_of b) c.bound ≢ Some x
@@ -76,6 +79,7 @@ unfolding NotAt
 none_at TextureTarget x c h = none-some x h
 none_at ArrayBuffer x c h = none-some x h
 none_at ElementArrayBuffer x c h = none-some x h
+none_at RenderbufferTarget x c h = none-some x h
 
 no_place : (x : ℕ) (o : Option ℕ) → is_place x o ≡ false → o ≢ Some x
 no_place x o e h = false≢true (sym e ∙ ap (is_place x) h ∙ eq-eqb x x refl)
@@ -96,6 +100,13 @@ less_at ArrayBuffer ElementArrayBuffer x c h e = h e
 less_at ElementArrayBuffer TextureTarget x c h e = h e
 less_at ElementArrayBuffer ArrayBuffer x c h e = h e
 less_at ElementArrayBuffer ElementArrayBuffer x c h e = none-some x e
+less_at TextureTarget RenderbufferTarget x c h e = h e
+less_at ArrayBuffer RenderbufferTarget x c h e = h e
+less_at ElementArrayBuffer RenderbufferTarget x c h e = h e
+less_at RenderbufferTarget TextureTarget x c h e = h e
+less_at RenderbufferTarget ArrayBuffer x c h e = h e
+less_at RenderbufferTarget ElementArrayBuffer x c h e = h e
+less_at RenderbufferTarget RenderbufferTarget x c h e = none-some x e
 
 still_not : (a b : BindTarget) (z x : ℕ) (c : ContextObject) → NotAt b x c → NotAt b x (unbound_at a z c)
 unfolding NotAt
@@ -106,7 +117,7 @@ unbound_of : (k : NameKind) (x : ℕ) (c : ContextObject) → HasUnbound k x (un
 unfolding NotAt
 unbound_of textures x c = unbound_here TextureTarget x c
 unbound_of buffers x c = (still_not ElementArrayBuffer ArrayBuffer x x (unbound_at ArrayBuffer x c) (unbound_here ArrayBuffer x c), unbound_here ElementArrayBuffer x (unbound_at ArrayBuffer x c))
-unbound_of renderbuffers x c = tt
+unbound_of renderbuffers x c = unbound_here RenderbufferTarget x c
 unbound_of framebuffers x c = tt
 
 still_of : (k : NameKind) (z x : ℕ) (c : ContextObject) → HasUnbound k x c → HasUnbound k x (unbound_object k z c)
@@ -114,7 +125,7 @@ unfolding NotAt
 still_of textures z x c h = still_not TextureTarget TextureTarget z x c h
 still_of buffers z x c h = let d = unbound_at ArrayBuffer z c in
     (still_not ElementArrayBuffer ArrayBuffer z x d (still_not ArrayBuffer ArrayBuffer z x c h.0), still_not ElementArrayBuffer ElementArrayBuffer z x d (still_not ArrayBuffer ElementArrayBuffer z x c h.1))
-still_of renderbuffers z x c h = h
+still_of renderbuffers z x c h = still_not RenderbufferTarget RenderbufferTarget z x c h
 still_of framebuffers z x c h = h
 
 -- a context, if it is one, has the object unbound
@@ -176,3 +187,6 @@ texture_is_unbound s t n x c v a i e = subst (λ (z : Stepped). IfSome (context_
 
 pub buffer_is_unbound : (s : State) (t n x : ℕ) (c : CallValue) (v : ℤ) → IsAllowedGl s t n DeleteBuffers c → Contains c.list v → object_named s (group_of s n) buffers (unsigned v) ≡ Some x → IfSome (context_in (step s t c).state.objects n) (HasUnbound buffers x)
 buffer_is_unbound s t n x c v a i e = subst (λ (z : Stepped). IfSome (context_in z.state.objects n) (HasUnbound buffers x)) (sym (allowed_gl s t n DeleteBuffers c a)) (swept_unbound buffers n x (deleted_names buffers s n c.list) (each_unbound buffers (group_of s n) n i.0 x v c.list s i.1 i.2 e))
+
+pub renderbuffer_is_unbound : (s : State) (t n x : ℕ) (c : CallValue) (v : ℤ) → IsAllowedGl s t n DeleteRenderbuffers c → Contains c.list v → object_named s (group_of s n) renderbuffers (unsigned v) ≡ Some x → IfSome (context_in (step s t c).state.objects n) (HasUnbound renderbuffers x)
+renderbuffer_is_unbound s t n x c v a i e = subst (λ (z : Stepped). IfSome (context_in z.state.objects n) (HasUnbound renderbuffers x)) (sym (allowed_gl s t n DeleteRenderbuffers c a)) (swept_unbound renderbuffers n x (deleted_names renderbuffers s n c.list) (each_unbound renderbuffers (group_of s n) n i.0 x v c.list s i.1 i.2 e))

@@ -14,6 +14,7 @@ pub mod TextureLaws
 pub mod NameLaws
 pub mod DeletionLaws
 pub mod BufferLaws
+pub mod RenderbufferLaws
 pub mod PixelLaws
 pub mod LinkLaws
 pub mod LinkedSteps
@@ -45,6 +46,7 @@ pub mod LinkSetters
 pub mod NameCalls
 pub mod TextureCalls
 pub mod BufferCalls
+pub mod RenderbufferCalls
 pub mod DrawCalls
 pub mod CopyCalls
 pub mod EglCalls

@@ -9,13 +9,13 @@ use Rattle.pixel_rows.specs.Images.{ImageValue}
 use Rattle.driver_objects.specs.Links.{bound_in, linked_names}
 use Rattle.driver_objects.specs.Targets.{binding_of, name_kind, slot_of}
 use Rattle.driver_objects.specs.declared.targets.BindTarget.{BindTarget}
-use Rattle.driver_objects.specs.declared.targets.BindTarget.TheVariants.{Texture as TextureTarget, ArrayBuffer, ElementArrayBuffer}
+use Rattle.driver_objects.specs.declared.targets.BindTarget.TheVariants.{Texture as TextureTarget, ArrayBuffer, ElementArrayBuffer, Renderbuffer as RenderbufferTarget}
 use Rattle.driver_objects.specs.Objects.{filled}
 use Rattle.driver_objects.specs.declared.contexts.Context.{Context as ContextObject}
 use Rattle.driver_objects.specs.declared.kinds.ObjectKind.{ObjectKind}
 use Rattle.driver_objects.specs.declared.kinds.ObjectKind.TheVariants.{Storage as a_storage}
 use Rattle.driver_objects.specs.declared.objects.Object.{Object}
-use Rattle.driver_objects.specs.declared.objects.Object.TheVariants.{Context, Group, Texture, Storage}
+use Rattle.driver_objects.specs.declared.objects.Object.TheVariants.{Context, Group, Texture, Renderbuffer, Storage}
 use Rattle.driver_objects.specs.declared.textures.BackedTexture.{BackedTexture}
 use Rattle.share_group.specs.Groups.{GroupValue, names_of, with_names}
 use Rattle.share_group.specs.Names.{after, fresh, is_of, object_in, object_of, put, unused_from, without}
@@ -32,7 +32,7 @@ use Rattle.model_laws.specs.Shapes.{Goes, IsFree, Leads, Shape, pixels_in, slots
 use Rattle.model_laws.specs.Slots.{level_slots, name_slots, slots_of}
 use Rattle.egl_model.specs.State.{State}
 use Rattle.egl_model.specs.Bindings.{bound_at, name_in_part, named_at, unbound_object, unbound_at}
-use Rattle.egl_model.specs.Textures.{with_crop, with_level, with_value}
+use Rattle.egl_model.specs.Textures.{with_crop, with_pixels, with_value}
 use Rattle.model_laws.proofs.Moves.{NoneElse, Setter, Suits, body_in}
 use Rattle.model_laws.proofs.Slots.{group_parts, group_whole, in_cases, in_left, in_right}
 
@@ -133,6 +133,7 @@ leads-bound : (sh : List (Option Shape)) (b : BindTarget) (o : Option ℕ) → G
 leads-bound sh TextureTarget o g c l = (l.0, (l.1.0, (g, l.1.1.1)))
 leads-bound sh ArrayBuffer o g c l = (l.0, (l.1.0, (l.1.1.0, (g, l.1.1.1.1))))
 leads-bound sh ElementArrayBuffer o g c l = (l.0, (l.1.0, (l.1.1.0, (l.1.1.1.0, (g, l.1.1.1.1.1)))))
+leads-bound sh RenderbufferTarget o g c l = (l.0, (l.1.0, (l.1.1.0, (l.1.1.1.0, (l.1.1.1.1.0, (g, l.1.1.1.1.1.1))))))
 
 pub suits-bound : (t : ℕ) (sh : List (Option Shape)) (s : State) (n : ℕ) (target : BindTarget) (b : Option ℕ) → Goes sh (kind_named (name_kind target)) b → Suits t sh s n (with_context (bound_at (slot_of target) b))
 suits-bound t sh s n target b g = record { leads = leads; pixels = λ o k i. inl (ap (is_in k) (sym (looks o)) ∙ i); part = inl past_part; image = inl past_image }
@@ -213,7 +214,7 @@ renames-self = record { home = λ c. refl; part = λ c h. h }
 renames-unbound : (k : NameKind) (x : ℕ) → Renames (unbound_object k x)
 renames-unbound textures x = renames-at TextureTarget x
 renames-unbound buffers x = renames-then (unbound_at ArrayBuffer x) (unbound_at ElementArrayBuffer x) (renames-at ArrayBuffer x) (renames-at ElementArrayBuffer x)
-renames-unbound renderbuffers x = renames-self
+renames-unbound renderbuffers x = renames-at RenderbufferTarget x
 renames-unbound framebuffers x = renames-self
 
 pub setter-unbound : (k : NameKind) (x : ℕ) → Setter (with_context (unbound_object k x))
@@ -226,7 +227,7 @@ leads-at sh b x c l = cond_both (is_place x (bound_in (slot_of b) c.bound)) (bou
 leads-unbound : (sh : List (Option Shape)) (k : NameKind) (x : ℕ) (c : ContextObject) → Leads sh (slots_of (Context c)) → Leads sh (slots_of (Context (unbound_object k x c)))
 leads-unbound sh textures x c l = leads-at sh TextureTarget x c l
 leads-unbound sh buffers x c l = leads-at sh ElementArrayBuffer x (unbound_at ArrayBuffer x c) (leads-at sh ArrayBuffer x c l)
-leads-unbound sh renderbuffers x c l = l
+leads-unbound sh renderbuffers x c l = leads-at sh RenderbufferTarget x c l
 leads-unbound sh framebuffers x c l = l
 
 pub suits-unbound : (t : ℕ) (sh : List (Option Shape)) (s : State) (n : ℕ) (k : NameKind) (x : ℕ) → NoneElse (has_context n) s.threads t → Suits t sh s n (with_context (unbound_object k x))
@@ -290,8 +291,47 @@ filled_set m o (x ∷ xs) (suc k) h = elim (in_cases m (option_to_list x) (fille
   ]
 ]
 
-pub suits-level : (t : ℕ) (sh : List (Option Shape)) (s : State) (n k : ℕ) (o : Option ℕ) → Goes sh a_storage o → ((m : ℕ) → is_in m (option_to_list o) ≡ true → IsFree sh m) → Suits t sh s n (with_texture (with_level k o))
-suits-level t sh s n k o g free = suits-texture t sh s n (with_level k o) (λ x l. leads_level sh o g 0 x.levels k l) (λ x m i. elim (filled_set m o x.levels k i) [
-  | inl e ↦ inl e
-  | inr e ↦ inr (free m e)
-])
+-- ---- The pixels of a texture's level, or of a renderbuffer.
+pub setter-pixels : (k : ℕ) (o : Option ℕ) → Setter (with_pixels k o)
+setter-pixels k o = record { body = body; full = full }
+  where
+    body : (y : Option Object) → body_in (with_pixels k o y) ≡ body_in y
+    body (Some (Texture x)) = refl
+    body (Some (Renderbuffer x)) = refl
+    body y = refl
+
+    full : (y : Option Object) → Full y → Full (with_pixels k o y)
+    full (Some (Texture x)) f = tt
+    full (Some (Renderbuffer x)) f = tt
+    full y f = f
+
+pub suits-pixels : (t : ℕ) (sh : List (Option Shape)) (s : State) (n k : ℕ) (o : Option ℕ) → Goes sh a_storage o → ((m : ℕ) → is_in m (option_to_list o) ≡ true → IsFree sh m) → Suits t sh s n (with_pixels k o)
+suits-pixels t sh s n k o g free = record { leads = leads; pixels = pixels; part = inl past_part; image = inl past_image }
+  where
+    past_part : (x : Option PartValue) (y : Option Object) → set_part x (with_pixels k o y) ≡ with_pixels k o (set_part x y)
+    past_part x (Some (Context c)) = refl
+    past_part x (Some (Texture a)) = refl
+    past_part x (Some (Renderbuffer a)) = refl
+    past_part x y = refl
+
+    past_image : (i : Option ImageValue) (y : Option Object) → set_image i (with_pixels k o y) ≡ with_pixels k o (set_image i y)
+    past_image i (Some (Storage v)) = refl
+    past_image i (Some (Texture a)) = refl
+    past_image i (Some (Renderbuffer a)) = refl
+    past_image i y = refl
+
+    in_row : (xs : List (Option ℕ)) (j m : ℕ) → is_in m (filled (set xs j o)) ≡ true → (is_in m (filled xs) ≡ true) ⊎ IsFree sh m
+    in_row xs j m i = elim (filled_set m o xs j i) [
+      | inl e ↦ inl e
+      | inr e ↦ inr (free m e)
+    ]
+
+    pixels : (y : Option Object) (m : ℕ) → is_in m (pixels_in (with_pixels k o y)) ≡ true → (is_in m (pixels_in y) ≡ true) ⊎ IsFree sh m
+    pixels (Some (Texture x)) m i = in_row x.levels k m i
+    pixels (Some (Renderbuffer x)) m i = in_row (x.storage ∷ []) 0 m i
+    pixels y m i = inl i
+
+    leads : (y : Option Object) → Leads sh (slots_in y) → Leads sh (slots_in (with_pixels k o y))
+    leads (Some (Texture x)) l = leads_level sh o g 0 x.levels k l
+    leads (Some (Renderbuffer x)) l = (g, tt)
+    leads y l = l

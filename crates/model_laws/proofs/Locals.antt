@@ -9,7 +9,7 @@ use Rattle.egl_calls.specs.declared.kinds.Kind.TheVariants.{Egl, Gl, Own as OwnC
 use Rattle.egl_calls.specs.declared.kinds.EglKind.{EglKind}
 use Rattle.egl_calls.specs.declared.kinds.EglKind.TheVariants.{GetError as EglGetError, GetDisplay, GetCurrentContext, BindApi, QueryApi, GetCurrentSurface, GetCurrentDisplay}
 use Rattle.egl_calls.specs.declared.kinds.GlKind.{GlKind}
-use Rattle.egl_calls.specs.declared.kinds.GlKind.TheVariants.{Clear, ReadPixels, DrawTexi, DrawTexx, TexImage2d, TexSubImage2d, CopyTexImage2d, CopyTexSubImage2d, BufferData, BufferSubData, GetBufferParameteriv}
+use Rattle.egl_calls.specs.declared.kinds.GlKind.TheVariants.{Clear, ReadPixels, DrawTexi, DrawTexx, TexImage2d, TexSubImage2d, CopyTexImage2d, CopyTexSubImage2d, BufferData, BufferSubData, GetBufferParameteriv, RenderbufferStorage, GetRenderbufferParameteriv}
 use Rattle.egl_calls.specs.declared.errors.EglError.{EglError}
 use Rattle.egl_calls.specs.declared.errors.EglError.TheVariants.{Success}
 use Rattle.egl_calls.specs.declared.errors.GlError.{GlError}
@@ -248,6 +248,8 @@ local_gl_refusal s t n c CopyTexSubImage2d b o m = not_local m
 local_gl_refusal s t n c BufferData b o m = not_local m
 local_gl_refusal s t n c BufferSubData b o m = not_local m
 local_gl_refusal s t n c GetBufferParameteriv b o m = not_local m
+local_gl_refusal s t n c RenderbufferStorage b o m = not_local m
+local_gl_refusal s t n c GetRenderbufferParameteriv b o m = not_local m
 local_gl_refusal s t n c k b o m = refl
 
 by_part : (s : State) (t n : ℕ) (c : CallValue) (k : GlKind) (x : Option PartValue) → IsSound s → HasOwn s t → current_context s t ≡ Some n → part_of_context s n ≡ x → is_some x ≡ true → (is_local_gl k || (is_local_unbound k && is_unbound x)) ≡ true →

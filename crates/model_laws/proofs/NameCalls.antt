@@ -5,7 +5,7 @@ use Rattle.egl_calls.specs.Ranges.{unsigned}
 use Rattle.driver_objects.specs.Objects.{kind_of}
 use Rattle.driver_objects.specs.Targets.{binding_of, name_kind, slot_of}
 use Rattle.driver_objects.specs.declared.targets.BindTarget.{BindTarget}
-use Rattle.driver_objects.specs.declared.targets.BindTarget.TheVariants.{Texture as TextureTarget, ArrayBuffer, ElementArrayBuffer}
+use Rattle.driver_objects.specs.declared.targets.BindTarget.TheVariants.{Texture as TextureTarget, ArrayBuffer, ElementArrayBuffer, Renderbuffer as RenderbufferTarget}
 use Rattle.driver_objects.specs.declared.objects.Object.TheVariants.{Context, Storage}
 use Rattle.share_group.specs.Groups.{names_of}
 use Rattle.share_group.specs.Names.{object_of}
@@ -56,27 +56,32 @@ kind-new : (b : BindTarget) → option_map kind_of (Some (new_object b)) ≡ Som
 kind-new TextureTarget = refl
 kind-new ArrayBuffer = refl
 kind-new ElementArrayBuffer = refl
+kind-new RenderbufferTarget = refl
 
 full-new : (b : BindTarget) → Full (Some (new_object b))
 full-new TextureTarget = tt
 full-new ArrayBuffer = tt
 full-new ElementArrayBuffer = tt
+full-new RenderbufferTarget = tt
 
 bytes-new : (b : BindTarget) → live_bytes (Some (new_object b) ∷ []) ≡ 0
 unfolding live_bytes
 bytes-new TextureTarget = refl
 bytes-new ArrayBuffer = refl
 bytes-new ElementArrayBuffer = refl
+bytes-new RenderbufferTarget = refl
 
 leads-new : (sh : List (Option Shape)) (b : BindTarget) → Leads sh (slots_in (Some (new_object b)))
 leads-new sh TextureTarget = leads-new_texture sh
 leads-new sh ArrayBuffer = tt
 leads-new sh ElementArrayBuffer = tt
+leads-new sh RenderbufferTarget = (tt, tt)
 
 stored-new : (sh : List (Option Shape)) (place : ℕ) (b : BindTarget) → IsStored sh place (Some (new_object b))
 stored-new sh place TextureTarget = stored-new_texture sh place
 stored-new sh place ArrayBuffer = without_pixels sh place _ refl refl
 stored-new sh place ElementArrayBuffer = without_pixels sh place _ refl refl
+stored-new sh place RenderbufferTarget = without_pixels sh place _ refl refl
 
 -- ---- glBindTexture and its kin.
 acts-bound : (s : State) (t n : ℕ) (b : BindTarget) (o : Option ℕ) (name : ℕ) → current_context s t ≡ Some n → (IsWhole (shapes s.objects) s → Goes (shapes s.objects) (kind_named (name_kind b)) o) → Acts quiet t s (λ a. record a { objects = bound_object b n o name a.objects })

@@ -7,7 +7,7 @@ use Rattle.std.proofs.lemmas.Bool.{cases_eq, cond_both, false≢true}
 use Rattle.std.proofs.lemmas.List.{get_or-set_other}
 use Rattle.egl_calls.specs.Calls.{CallValue}
 use Rattle.egl_calls.specs.Ranges.{unsigned}
-use Rattle.egl_calls.specs.declared.kinds.GlKind.TheVariants.{DeleteBuffers, DeleteTextures}
+use Rattle.egl_calls.specs.declared.kinds.GlKind.TheVariants.{DeleteBuffers, DeleteRenderbuffers, DeleteTextures}
 use Rattle.driver_objects.specs.declared.objects.Object.{Object}
 use Rattle.driver_objects.specs.declared.objects.Object.TheVariants.{Context, Group}
 use Rattle.share_group.specs.Groups.{GroupValue, names_of, with_names}
@@ -103,3 +103,6 @@ deleted_texture_is_free s t n c x h i = ap (λ (y : Stepped). is_used (unsigned 
 
 pub deleted_buffer_is_free : (s : State) (t n : ℕ) (c : CallValue) (x : ℤ) → IsAllowedGl s t n DeleteBuffers c → Contains c.list x → is_used (unsigned x) (names_in (step s t c).state (group_of s n) buffers) ≡ false
 deleted_buffer_is_free s t n c x h i = ap (λ (y : Stepped). is_used (unsigned x) (names_in y.state (group_of s n) buffers)) (allowed_gl s t n DeleteBuffers c h) ∙ free_after buffers s n c.list x i
+
+pub deleted_renderbuffer_is_free : (s : State) (t n : ℕ) (c : CallValue) (x : ℤ) → IsAllowedGl s t n DeleteRenderbuffers c → Contains c.list x → is_used (unsigned x) (names_in (step s t c).state (group_of s n) renderbuffers) ≡ false
+deleted_renderbuffer_is_free s t n c x h i = ap (λ (y : Stepped). is_used (unsigned x) (names_in y.state (group_of s n) renderbuffers)) (allowed_gl s t n DeleteRenderbuffers c h) ∙ free_after renderbuffers s n c.list x i

@@ -5,7 +5,7 @@ use Rattle.driver_objects.specs.declared.contexts.Context.{Context as ContextObj
 use Rattle.driver_objects.specs.Objects.{filled}
 use Rattle.driver_objects.specs.declared.surfaces.BackedSurface.{BackedSurface}
 use Rattle.driver_objects.specs.declared.objects.Object.{Object}
-use Rattle.driver_objects.specs.declared.objects.Object.TheVariants.{Context, Group, Texture, Buffer, Surface, Storage, Sync}
+use Rattle.driver_objects.specs.declared.objects.Object.TheVariants.{Context, Group, Texture, Buffer, Renderbuffer, Surface, Storage, Sync}
 use Rattle.display_table.specs.declared.handles.Handle.{Handle}
 use Rattle.egl_model.specs.declared.records.Bound.{Bound}
 use Rattle.egl_model.specs.Graph.{is_in}
@@ -66,6 +66,7 @@ group_in (Some (Context a)) x e = at_head x.group a.group (a.texture ∷ bound_e
 group_in (Some (Group a)) x e = none_context x e
 group_in (Some (Texture a)) x e = none_context x e
 group_in (Some (Buffer a)) x e = none_context x e
+group_in (Some (Renderbuffer a)) x e = none_context x e
 group_in (Some (Surface a)) x e = none_context x e
 group_in (Some (Storage a)) x e = none_context x e
 group_in (Some (Sync a)) x e = none_context x e
@@ -77,6 +78,7 @@ texture_in (Some (Context a)) x e = at_tail x.texture a.group (a.texture ∷ bou
 texture_in (Some (Group a)) x e = none_context x e
 texture_in (Some (Texture a)) x e = none_context x e
 texture_in (Some (Buffer a)) x e = none_context x e
+texture_in (Some (Renderbuffer a)) x e = none_context x e
 texture_in (Some (Surface a)) x e = none_context x e
 texture_in (Some (Storage a)) x e = none_context x e
 texture_in (Some (Sync a)) x e = none_context x e
@@ -87,6 +89,7 @@ storage_of (Some (Context a)) x e = none_surface x e
 storage_of (Some (Group a)) x e = none_surface x e
 storage_of (Some (Texture a)) x e = none_surface x e
 storage_of (Some (Buffer a)) x e = none_surface x e
+storage_of (Some (Renderbuffer a)) x e = none_surface x e
 storage_of (Some (Surface a)) x e = at_head x.storage a.storage [] (ap (λ (c : BackedSurface). c.storage) (some_surface a x e))
 storage_of (Some (Storage a)) x e = none_surface x e
 storage_of (Some (Sync a)) x e = none_surface x e

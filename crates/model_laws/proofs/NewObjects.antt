@@ -49,6 +49,9 @@ with_own_pixels sh place x e = record {
 pub full-blank : (f : Format) (w h : ℕ) → w ≤ 2048 → h ≤ 2048 → Full (Some (Storage (stored (blank f w h))))
 full-blank f w h a b = (record { wide = a; high = b; image = record { image = record { wide = a; high = b; area = length-replicate (h * w) _ }; format = refl; width = refl; height = refl; owned = refl } }, refl)
 
+pub full-frozen : (f : Format) (w h : ℕ) → w ≤ 2048 → h ≤ 2048 → Full (Some (Storage (stored (frozen (blank f w h)))))
+full-frozen f w h a b = (record { wide = a; high = b; image = record { image = record { wide = a; high = b; area = length-replicate (h * w) _ }; format = refl; width = refl; height = refl; owned = refl } }, refl)
+
 -- ---- The pixels that glTexImage2D gives.
 pub full-uploaded : (c : CallValue) (align : ℕ) → unsigned (signed c 3) ≤ 2048 → unsigned (signed c 4) ≤ 2048 → Full (Some (Storage (stored (frozen (uploaded c align)))))
 unfolding loaded painted

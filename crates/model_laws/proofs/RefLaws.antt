@@ -11,7 +11,7 @@ use Rattle.std.specs.List.{sum_by, count_by, list_all, range_with_len}
 use Rattle.std.specs.Option.{option_map_or}
 use Rattle.driver_objects.specs.declared.objects.Object.{Object}
 use Rattle.driver_objects.specs.Objects.{edges_of}
-use Rattle.driver_objects.specs.declared.objects.Object.TheVariants.{Context, Group, Texture, Buffer, Surface, Storage, Sync}
+use Rattle.driver_objects.specs.declared.objects.Object.TheVariants.{Context, Group, Texture, Buffer, Renderbuffer, Surface, Storage, Sync}
 use Rattle.driver_objects.specs.declared.kinds.ObjectKind.{ObjectKind}
 use Rattle.driver_objects.specs.declared.kinds.ObjectKind.TheVariants.{Texture as a_texture, Buffer as a_buffer, Renderbuffer as a_renderbuffer, Framebuffer as a_framebuffer}
 use Rattle.driver_objects.specs.Links.{is_apart}
@@ -222,6 +222,7 @@ end_of (Context c) = 7
 end_of (Group g) = 17179869184
 end_of (Texture x) = 0 + length x.levels
 end_of (Buffer x) = 0
+end_of (Renderbuffer x) = 1
 end_of (Surface x) = 1
 end_of (Storage x) = 0
 end_of (Sync x) = 0
@@ -236,6 +237,7 @@ rising_of (Group g) a = let r = risen g a in
     (rising_from 12884901888 12884901889 (name_slots 12884901888 a_framebuffer g.framebuffers) _ (omega arith) (rising_names 12884901888 a_framebuffer 1 g.framebuffers r.framebuffers))))
 rising_of (Texture x) a = rising_levels 0 x.levels
 rising_of (Buffer x) a = omega arith
+rising_of (Renderbuffer x) a = (omega arith, omega arith)
 rising_of (Surface x) a = (omega arith, omega arith)
 rising_of (Storage x) a = omega arith
 rising_of (Sync x) a = omega arith

@@ -19,7 +19,7 @@ use Rattle.egl_calls.specs.declared.errors.Outcome.TheVariants.{Done, Egl as Ref
 use Rattle.context_state.specs.Parts.{PartValue, kept, noted}
 use Rattle.driver_objects.specs.declared.contexts.Context.{Context as ContextObject}
 use Rattle.driver_objects.specs.declared.objects.Object.{Object}
-use Rattle.driver_objects.specs.declared.objects.Object.TheVariants.{Context, Group, Texture, Buffer, Surface, Storage, Sync}
+use Rattle.driver_objects.specs.declared.objects.Object.TheVariants.{Context, Group, Texture, Buffer, Renderbuffer, Surface, Storage, Sync}
 use Rattle.egl_model.specs.State.{State, initial, object_at, record_of, set_error}
 use Rattle.egl_model.specs.Objects.{as_context, with_part, change_part}
 use Rattle.egl_model.specs.Currents.{current_context, part_of_context}
@@ -101,6 +101,7 @@ with_part_before e (Some (Context c)) p h ne = part_before e c c.part p refl h n
 with_part_before e (Some (Group a)) p h ne = refl
 with_part_before e (Some (Texture a)) p h ne = refl
 with_part_before e (Some (Buffer x)) p h ne = refl
+with_part_before e (Some (Renderbuffer x)) p h ne = refl
 with_part_before e (Some (Surface x)) p h ne = refl
 with_part_before e (Some (Storage x)) p h ne = refl
 with_part_before e (Some (Sync x)) p h ne = refl
@@ -119,6 +120,7 @@ with_part_first e (Some (Context c)) p h z = let w : c.part ≡ Some p = h in rw
 with_part_first e (Some (Group a)) p h z = absurd (let f : None ≡ Some p = h in cc)
 with_part_first e (Some (Texture a)) p h z = absurd (let f : None ≡ Some p = h in cc)
 with_part_first e (Some (Buffer x)) p h z = absurd (let f : None ≡ Some p = h in cc)
+with_part_first e (Some (Renderbuffer x)) p h z = absurd (let f : None ≡ Some p = h in cc)
 with_part_first e (Some (Surface x)) p h z = absurd (let f : None ≡ Some p = h in cc)
 with_part_first e (Some (Storage x)) p h z = absurd (let f : None ≡ Some p = h in cc)
 with_part_first e (Some (Sync x)) p h z = absurd (let f : None ≡ Some p = h in cc)

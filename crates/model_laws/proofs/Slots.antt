@@ -6,7 +6,7 @@ use Rattle.std.proofs.lemmas.List.Folds.{list_any-append}
 use Rattle.driver_objects.specs.declared.kinds.ObjectKind.{ObjectKind}
 use Rattle.driver_objects.specs.declared.kinds.ObjectKind.TheVariants.{Texture as a_texture, Buffer as a_buffer, Renderbuffer as a_renderbuffer, Framebuffer as a_framebuffer, Storage as a_storage}
 use Rattle.driver_objects.specs.declared.objects.Object.{Object}
-use Rattle.driver_objects.specs.declared.objects.Object.TheVariants.{Context, Group, Texture, Buffer, Surface, Storage, Sync}
+use Rattle.driver_objects.specs.declared.objects.Object.TheVariants.{Context, Group, Texture, Buffer, Renderbuffer, Surface, Storage, Sync}
 use Rattle.model_laws.specs.Slots.{Slot, ends, level_slots, name_slots, slots_of}
 use Rattle.share_group.specs.declared.names.Name.{Name}
 use Rattle.share_group.specs.Groups.{GroupValue}
@@ -66,6 +66,7 @@ falls (Group g) =
     (falls_names 3 8589934592 a_renderbuffer g.renderbuffers _ (omega arith) (falls_all 3 12884901888 a_framebuffer g.framebuffers (omega arith))))
 falls (Texture x) = falls_levels 1 0 x.levels (omega arith)
 falls (Buffer x) = tt
+falls (Renderbuffer x) = (omega arith, tt)
 falls (Surface x) = (omega arith, tt)
 falls (Storage x) = tt
 falls (Sync x) = tt
@@ -123,6 +124,7 @@ at_levels sh i (x ∷ xs) k l h = elim (in_cases k (option_to_list x) (filled xs
 
 pub pixels_are_storages : (sh : List (Option Shape)) (o : Option Object) (k : ℕ) → Leads sh (slots_in o) → is_in k (pixels_in o) ≡ true → HasKind sh a_storage k
 pixels_are_storages sh (Some (Texture x)) k l h = at_levels sh 0 x.levels k l h
+pixels_are_storages sh (Some (Renderbuffer x)) k l h = at_levels sh 0 (x.storage ∷ []) k l h
 pixels_are_storages sh (Some (Surface x)) k l h = record { is = ap (kind_at sh) (sym (only_one k x.storage h)) ∙ l.0.is }
 pixels_are_storages sh o k l h = no_edge k h
 

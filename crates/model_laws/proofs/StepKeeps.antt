@@ -9,7 +9,7 @@ use Rattle.egl_calls.specs.declared.kinds.Kind.TheVariants.{Egl, Gl}
 use Rattle.egl_calls.specs.declared.kinds.EglKind.{EglKind}
 use Rattle.egl_calls.specs.declared.kinds.EglKind.TheVariants.{Initialize, Terminate, CreateWindowSurface, CreatePbufferSurface, CreateContext, MakeCurrent, DestroySurface, SurfaceAttrib, DestroyContext, SwapBuffers, WaitClient, ReleaseThread, CreateSync, DestroySync, ClientWaitSync, WaitSync}
 use Rattle.egl_calls.specs.declared.kinds.GlKind.{GlKind}
-use Rattle.egl_calls.specs.declared.kinds.GlKind.TheVariants.{Flush, Finish, Clear, DrawTexi, DrawTexx, GenTextures, DeleteTextures, BindTexture, TexParameterx, TexParameteriv, TexImage2d, TexSubImage2d, CopyTexImage2d, CopyTexSubImage2d, GenBuffers, DeleteBuffers, BindBuffer, BufferData, BufferSubData}
+use Rattle.egl_calls.specs.declared.kinds.GlKind.TheVariants.{Flush, Finish, Clear, DrawTexi, DrawTexx, GenTextures, DeleteTextures, BindTexture, TexParameterx, TexParameteriv, TexImage2d, TexSubImage2d, CopyTexImage2d, CopyTexSubImage2d, GenBuffers, DeleteBuffers, BindBuffer, BufferData, BufferSubData, GenRenderbuffers, DeleteRenderbuffers, BindRenderbuffer, RenderbufferStorage}
 use Rattle.egl_calls.specs.declared.errors.EglError.TheVariants.{Success}
 use Rattle.context_state.specs.Parts.{noted}
 use Rattle.context_state.specs.Kinds.{context_gl_call}
@@ -45,13 +45,14 @@ use Rattle.egl_model.specs.Flushes.{flush}
 use Rattle.egl_model.specs.Windows.{swapped}
 use Rattle.model_laws.proofs.SyncCalls.{acts-client_wait, acts-create_sync, acts-flush, acts-flushed, acts-serve}
 use Rattle.model_laws.proofs.GlCalls.{acts-clear, acts-own_part}
-use Rattle.share_group.specs.declared.names.NameKind.TheVariants.{Texture as textures, Buffer as buffers}
+use Rattle.share_group.specs.declared.names.NameKind.TheVariants.{Texture as textures, Buffer as buffers, Renderbuffer as renderbuffers}
 use Rattle.model_laws.proofs.CopyCalls.{acts-copied, acts-copied_part}
 use Rattle.driver_objects.specs.Targets.{buffer_target}
-use Rattle.driver_objects.specs.declared.targets.BindTarget.TheVariants.{Texture as TextureTarget}
+use Rattle.driver_objects.specs.declared.targets.BindTarget.TheVariants.{Texture as TextureTarget, Renderbuffer as RenderbufferTarget}
 use Rattle.model_laws.proofs.DrawCalls.{acts-drawn}
 use Rattle.model_laws.proofs.NameCalls.{acts-bound_name, acts-delete, acts-generated}
 use Rattle.model_laws.proofs.BufferCalls.{acts-data, acts-part_of}
+use Rattle.model_laws.proofs.RenderbufferCalls.{acts-stored}
 use Rattle.model_laws.proofs.TextureCalls.{acts-crop, acts-parameter, acts-rewritten, acts-specified}
 use Rattle.model_laws.proofs.FrameMoves.{frame_self, handles_then, objects_then}
 use Rattle.model_laws.proofs.LinkLaws.{exists_marked}
@@ -103,6 +104,10 @@ object_acts s t n c DeleteBuffers h r i = acts-delete s t n buffers c.list i
 object_acts s t n c BindBuffer h r i = acts-bound_name s t n (buffer_target (number c 0)) (number c 1) i
 object_acts s t n c BufferData h r i = acts-data s t n c h r
 object_acts s t n c BufferSubData h r i = acts-part_of s t n c
+object_acts s t n c GenRenderbuffers h r i = acts-generated s t n renderbuffers (number c 0)
+object_acts s t n c DeleteRenderbuffers h r i = acts-delete s t n renderbuffers c.list i
+object_acts s t n c BindRenderbuffer h r i = acts-bound_name s t n RenderbufferTarget (number c 1) i
+object_acts s t n c RenderbufferStorage h r i = acts-stored s t n c h r
 object_acts s t n c k h r i = acts_self t s
 
 acts_by : (o : Option ContextCall) (s : State) (t n : ℕ) (c : CallValue) (k : GlKind) → c.kind ≡ Gl k → gl_refusal s t n k c ≡ None → current_context s t ≡ Some n → Acts quiet t s (λ a. (effect_by o a t n k c).state)

@@ -17,20 +17,23 @@ use Rattle.egl_calls.specs.declared.kinds.Kind.TheVariants.{Egl, Gl, Own as OwnC
 use Rattle.egl_calls.specs.declared.kinds.EglKind.{EglKind}
 use Rattle.egl_calls.specs.declared.kinds.EglKind.TheVariants.{CreateWindowSurface, SwapBuffers, GetError as EglGetError, CreatePbufferSurface, MakeCurrent, GetCurrentContext, GetCurrentSurface, GetCurrentDisplay, QueryApi, QuerySurface, QueryContext, CreateSync, ClientWaitSync, WaitSync, GetSyncAttrib}
 use Rattle.egl_calls.specs.declared.kinds.GlKind.{GlKind}
-use Rattle.egl_calls.specs.declared.kinds.GlKind.TheVariants.{Clear, ReadPixels, DrawTexi, DrawTexx, GenTextures, IsTexture, TexImage2d, TexSubImage2d, CopyTexImage2d, CopyTexSubImage2d, GenBuffers, IsBuffer, BufferData, BufferSubData, GetBufferParameteriv}
+use Rattle.egl_calls.specs.declared.kinds.GlKind.TheVariants.{Clear, ReadPixels, DrawTexi, DrawTexx, GenTextures, IsTexture, TexImage2d, TexSubImage2d, CopyTexImage2d, CopyTexSubImage2d, GenBuffers, IsBuffer, BufferData, BufferSubData, GetBufferParameteriv, GenRenderbuffers, IsRenderbuffer, RenderbufferStorage, GetRenderbufferParameteriv}
 use Rattle.call_rules.specs.GlRules as gl_rules
 use Rattle.context_state.specs.Kinds.{context_gl_call}
 use Rattle.context_state.specs.declared.kinds.ContextCall.{ContextCall}
 use Rattle.context_state.specs.Parts.{PartValue}
 use Rattle.share_group.specs.Names.{given}
 use Rattle.share_group.specs.declared.names.NameKind.{NameKind}
-use Rattle.share_group.specs.declared.names.NameKind.TheVariants.{Texture as textures, Buffer as buffers}
+use Rattle.share_group.specs.declared.names.NameKind.TheVariants.{Texture as textures, Buffer as buffers, Renderbuffer as renderbuffers}
 use Rattle.egl_model.specs.Buffers.{buffer_parameter, part_read}
-use Rattle.egl_model.specs.GlFacts.{bound_facts, buffer_facts, image_facts, framebuffer_facts}
+use Rattle.call_rules.specs.GlRules.{no_gl_facts}
+use Rattle.egl_model.specs.GlFacts.{bound_facts, buffer_facts, image_facts, framebuffer_facts, renderbuffer_facts}
+use Rattle.egl_model.specs.Renderbuffers.{renderbuffer_bytes, renderbuffer_parameter}
 use Rattle.egl_model.specs.Names.{generated, group_of, name_value, object_named}
 use Rattle.model_laws.proofs.CopyCalls.{blind-copy_facts, blind-copy_part_facts}
 use Rattle.model_laws.proofs.TextureCalls.{blind-part_facts}
 use Rattle.model_laws.proofs.BufferCalls.{blind-buffer_of}
+use Rattle.model_laws.proofs.RenderbufferCalls.{blind-renderbuffer_of, blind-target_renderbuffer}
 use Rattle.model_laws.proofs.NameCalls.{blind-group_of, blind-named, blind-names}
 use Rattle.egl_calls.specs.declared.errors.EglError.{EglError}
 use Rattle.egl_calls.specs.declared.errors.GlError.{GlError}
@@ -128,6 +131,9 @@ blind-buffer_facts t n c s w v x ne = ap bound_facts (blind-buffer_of t n c s w 
 blind-framebuffer_refusal : (t : ℕ) (c : CallValue) (s : State) → Blind t s (λ a. gl_rules.gl_refusal c (framebuffer_facts (bound_framebuffer a t).is_complete))
 blind-framebuffer_refusal t c s w v x ne = ap (λ b. gl_rules.gl_refusal c (framebuffer_facts b)) (blind-complete t s w v x ne)
 
+blind-renderbuffer_facts : (t n : ℕ) (s : State) → Blind t s (λ a. renderbuffer_facts a n)
+blind-renderbuffer_facts t n s w v x ne = ap (λ o. record no_gl_facts { is_bound = is_some o }) (blind-target_renderbuffer t n s w v x ne)
+
 blind-gl_refusal : (t n : ℕ) (c : CallValue) (s : State) (k : GlKind) → Blind t s (λ a. gl_refusal a t n k c)
 unfolding gl_refusal
 blind-gl_refusal t n c s Clear w v x ne = blind-framebuffer_refusal t c s w v x ne
@@ -143,6 +149,10 @@ blind-gl_refusal t n c s BufferData w v x ne =
     ∙ ap (λ f. gl_rules.gl_refusal c (record f { live_bytes = live_bytes s.objects; new_bytes = number c 1; video_limit = s.video })) (blind-buffer_facts t n c s w v x ne)
 blind-gl_refusal t n c s BufferSubData w v x ne = ap (gl_rules.gl_refusal c) (blind-buffer_facts t n c s w v x ne)
 blind-gl_refusal t n c s GetBufferParameteriv w v x ne = ap (gl_rules.gl_refusal c) (blind-buffer_facts t n c s w v x ne)
+blind-gl_refusal t n c s RenderbufferStorage w v x ne =
+    ap (λ b. gl_rules.gl_refusal c (record (renderbuffer_facts (put_own s v x) n) { live_bytes = b; new_bytes = renderbuffer_bytes c; video_limit = s.video })) (blind-live_bytes t s w v x ne)
+    ∙ ap (λ f. gl_rules.gl_refusal c (record f { live_bytes = live_bytes s.objects; new_bytes = renderbuffer_bytes c; video_limit = s.video })) (blind-renderbuffer_facts t n s w v x ne)
+blind-gl_refusal t n c s GetRenderbufferParameteriv w v x ne = ap (gl_rules.gl_refusal c) (blind-renderbuffer_facts t n s w v x ne)
 blind-gl_refusal t n c s k w v x ne = refl
 
 blind-buffer_refusal : (t n : ℕ) (c : CallValue) (s : State) → Blind t s (λ a. buffer_refusal a t n c)
@@ -188,6 +198,9 @@ blind-object_reply t n c s IsTexture e w v x ne = blind-is_name t n textures (nu
 blind-object_reply t n c s GenBuffers e w v x ne = blind-generated t n buffers (number c 0) s w v x ne
 blind-object_reply t n c s IsBuffer e w v x ne = blind-is_name t n buffers (number c 0) s w v x ne
 blind-object_reply t n c s GetBufferParameteriv e w v x ne = ap (λ o. done (valued (unwrap_or (buffer_parameter c o) (pos 0)) s)) (blind-buffer_of t n c s w v x ne)
+blind-object_reply t n c s GenRenderbuffers e w v x ne = blind-generated t n renderbuffers (number c 0) s w v x ne
+blind-object_reply t n c s IsRenderbuffer e w v x ne = blind-is_name t n renderbuffers (number c 0) s w v x ne
+blind-object_reply t n c s GetRenderbufferParameteriv e w v x ne = ap (λ o. done (valued (renderbuffer_parameter c o) s)) (blind-renderbuffer_of t n s w v x ne)
 blind-object_reply t n c s k e w v x ne = refl
 
 blind-reply_by : (o : Option ContextCall) (t n : ℕ) (c : CallValue) (s : State) (k : GlKind) → current_context s t ≡ Some n → Blind t s (λ a. done (effect_by o a t n k c))

@@ -33,11 +33,11 @@ use Rattle.model_laws.specs.Shapes.{IsFree, own_at, pixels_in, shapes}
 use Rattle.model_laws.specs.Sound.{IsWhole}
 use Rattle.egl_model.specs.State.{State, object_at}
 use Rattle.egl_model.specs.Sweep.{live_bytes}
-use Rattle.egl_model.specs.Textures.{has_no_side, image_bytes, level_of, level_storage, new_level, rewritten_part, set_crop, set_parameter, specified, specified_in, storage_at, target_texture, unpack_alignment, with_crop, with_level, with_value}
+use Rattle.egl_model.specs.Textures.{change_pixels, has_no_side, image_bytes, level_of, level_storage, new_level, rewritten_part, set_crop, set_parameter, specified, specified_in, storage_at, target_texture, unpack_alignment, with_crop, with_pixels, with_value}
 use Rattle.model_laws.proofs.Blinds.{blind-context, blind-length, blind-object, blind-own_part}
 use Rattle.model_laws.proofs.Keeps.{Acts, Blind, acts_of, acts_self, by_moves, by_quiet_moves}
 use Rattle.model_laws.proofs.GlCalls.{acts-written}
-use Rattle.model_laws.proofs.LinkSetters.{setter-texture, suits-crop, suits-level, suits-value}
+use Rattle.model_laws.proofs.LinkSetters.{setter-pixels, setter-texture, suits-crop, suits-pixels, suits-value}
 use Rattle.model_laws.proofs.Moves.{Add, Change, own_in}
 use Rattle.model_laws.proofs.NewObjects.{free_new, full-uploaded, without_pixels}
 use Rattle.model_laws.proofs.Places.{new_kind, own_at-shapes}
@@ -124,19 +124,19 @@ unfolding loaded painted
 new_bytes c align a b = rw (small (unsigned (signed c 3)) a, small (unsigned (signed c 4)) b) refl
 
 pub acts-new_level : (s : State) (t k x : ℕ) (v : StorageValue) → Full (Some (Storage v)) → live_bytes s.objects + storage_bytes v ≤ s.video → Acts quiet t s (λ a. record a { objects = specified_in k (Some v) x a.objects })
-unfolding live_bytes change_texture
+unfolding live_bytes change_pixels
 acts-new_level s t k x v full fit =
     let m = length s.objects in let new = Some (Storage v) ∷ [] in let sh = shapes s.objects ++ shapes new in
-    acts_of quiet t s (λ a. length a.objects) (λ m a. record a { objects = change_texture (with_level k (Some m)) x (a.objects ++ Some (Storage v) ∷ []) }) (blind-length t s)
-    (by_moves t s (Add new ∷ Change x (with_texture (with_level k (Some m))) ∷ []) ((full, tt), (setter-texture _, tt)) (λ p. omega (arith, fit))
+    acts_of quiet t s (λ a. length a.objects) (λ m a. record a { objects = change_pixels k (Some m) x (a.objects ++ Some (Storage v) ∷ []) }) (blind-length t s)
+    (by_moves t s (Add new ∷ Change x (with_pixels k (Some m)) ∷ []) ((full, tt), (setter-pixels _ _, tt)) (λ p. omega (arith, fit))
     (λ w. (
       (tt, without_pixels _ _ _ refl refl, tt),
-      λ u. (suits-level t sh _ x k (Some m) (new_kind s.objects new 0 m a_storage (omega arith) refl) (λ j h. subst (IsFree sh) (only_one j m h) (free_new s (Some (Storage v)) refl w)), tt),
+      λ u. (suits-pixels t sh _ x k (Some m) (new_kind s.objects new 0 m a_storage (omega arith) refl) (λ j h. subst (IsFree sh) (only_one j m h) (free_new s (Some (Storage v)) refl w)), tt),
     )))
 
 pub acts-no_level : (s : State) (t k x : ℕ) → Acts quiet t s (λ a. record a { objects = specified_in k None x a.objects })
-unfolding change_texture
-acts-no_level s t k x = by_quiet_moves t s (Change x (with_texture (with_level k None)) ∷ []) refl (setter-texture _, tt) (λ w. (suits-level t (shapes s.objects) s x k None tt (λ j h. no_edge j h), tt))
+unfolding change_pixels
+acts-no_level s t k x = by_quiet_moves t s (Change x (with_pixels k None) ∷ []) refl (setter-pixels _ _, tt) (λ w. (suits-pixels t (shapes s.objects) s x k None tt (λ j h. no_edge j h), tt))
 
 acts-level : (s : State) (t k : ℕ) (c : CallValue) (align : ℕ) (o : Option ℕ) → ImageAllowed c (image_facts s c) → Acts quiet t s (λ a. specified k (new_level c align) o a)
 acts-level s t k c align None h = acts_self t s

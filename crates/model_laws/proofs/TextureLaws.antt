@@ -11,17 +11,17 @@ use Rattle.call_rules.specs.GlAllowed.{CopyAsked, ImageAsked}
 use Rattle.call_rules.proofs.GlLaws.{copy_wants, image_wants, wanting_copy, wanting_image}
 use Rattle.driver_objects.specs.Storages.{StorageValue}
 use Rattle.driver_objects.specs.declared.objects.Object.{Object}
-use Rattle.driver_objects.specs.declared.objects.Object.TheVariants.{Texture, Storage}
+use Rattle.driver_objects.specs.declared.objects.Object.TheVariants.{Renderbuffer, Texture, Storage}
 use Rattle.driver_objects.specs.declared.textures.BackedTexture.{BackedTexture}
 use Rattle.egl_model.specs.Currents.{current_context}
 use Rattle.egl_model.specs.GlEffects.{gl_effect}
 use Rattle.egl_model.specs.GlFacts.{copy_facts, gl_refusal, image_facts}
 use Rattle.model_laws.specs.Laws.{IsAllowedGl, IsGlCall}
-use Rattle.egl_model.specs.Objects.{as_storage, as_texture, change_texture, storage_in, texture_in, with_texture}
+use Rattle.egl_model.specs.Objects.{as_storage, as_texture, storage_in, texture_in}
 use Rattle.egl_model.specs.State.{State, object_at}
 use Rattle.egl_model.specs.Step.{Stepped, done, step}
 use Rattle.egl_model.specs.Sweep.{sweep, swept, roots}
-use Rattle.egl_model.specs.Textures.{level_of, new_level, specified, specified_in, storage_at, target_texture, unpack_alignment, with_level}
+use Rattle.egl_model.specs.Textures.{change_pixels, level_of, new_level, specified, specified_in, storage_at, target_texture, unpack_alignment, with_level, with_pixels}
 use Rattle.model_laws.specs.Wants.{AnswersGl, WantsCopy, WantsImage}
 use Rattle.model_laws.proofs.Places.{at_old}
 use Rattle.model_laws.proofs.RefusalLaws.{gl_call}
@@ -85,8 +85,9 @@ record KeepsLevels (k : ℕ) (here : Bool) (before after : Option Object) : Type
 same_levels : (k : ℕ) (here : Bool) (o : Option Object) → KeepsLevels k here o o
 same_levels k here o = record { levels = λ j y z ne h i. ap (storage_at j) (same_Some z y (sym i ∙ h)); pixels = refl }
 
-set_levels : (k : ℕ) (w : Option ℕ) (o : Option Object) → KeepsLevels k true o (with_texture (with_level k w) o)
+set_levels : (k : ℕ) (w : Option ℕ) (o : Option Object) → KeepsLevels k true o (with_pixels k w o)
 set_levels k w (Some (Texture x)) = record { levels = λ j y z ne h i. ap (storage_at j) (sym (same_Some _ z i)) ∙ other_level k j w x (ne refl) ∙ ap (storage_at j) (same_Some x y h); pixels = refl }
+set_levels k w (Some (Renderbuffer x)) = record { levels = λ j y z ne h i. absurd (none-some y h); pixels = refl }
 set_levels k w o = same_levels k true o
 
 there : (n : ℕ) (os : List (Option Object)) → is_some (get_or os n None) ≡ true → n < length os
@@ -95,11 +96,11 @@ there n os h = elim (cases_lt n (length os)) [
   | inr l ↦ absurd (false≢true (sym (ap is_some (get_or_past os n None l)) ∙ h))
 ]
 
-changed_levels : (k : ℕ) (w : Option ℕ) (x0 x : ℕ) (os : List (Option Object)) → KeepsLevels k (x == x0) (get_or os x None) (get_or (change_texture (with_level k w) x0 os) x None)
-unfolding change_texture
+changed_levels : (k : ℕ) (w : Option ℕ) (x0 x : ℕ) (os : List (Option Object)) → KeepsLevels k (x == x0) (get_or os x None) (get_or (change_pixels k w x0 os) x None)
+unfolding change_pixels
 changed_levels k w x0 x os = elim (cases_eq x x0) [
-  | inl e ↦ rw (e, eq-eqb x0 x0 refl, changed_at (with_texture (with_level k w)) refl x0 os) (set_levels k w (get_or os x0 None))
-  | inr ne ↦ rw (get_or-set_other os x0 x (with_texture (with_level k w) (get_or os x0 None)) None ne) (same_levels k (x == x0) (get_or os x None))
+  | inl e ↦ rw (e, eq-eqb x0 x0 refl, changed_at (with_pixels k w) refl x0 os) (set_levels k w (get_or os x0 None))
+  | inr ne ↦ rw (get_or-set_other os x0 x (with_pixels k w (get_or os x0 None)) None ne) (same_levels k (x == x0) (get_or os x None))
 ]
 
 specified_levels : (k : ℕ) (v : Option StorageValue) (x0 x : ℕ) (os : List (Option Object)) → is_some (get_or os x None) ≡ true → KeepsLevels k (x == x0) (get_or os x None) (get_or (specified_in k v x0 os) x None)

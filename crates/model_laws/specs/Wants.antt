@@ -19,6 +19,7 @@ use Rattle.egl_model.specs.Currents.{current_context, display_at}
 use Rattle.egl_model.specs.Displays.{display_facts}
 use Rattle.egl_model.specs.Windows.{is_used_at, is_window_config, named_place, named_spec}
 use Rattle.egl_model.specs.Surfaces.{asked_height, asked_width, asks_for_largest, surface_bytes, pbuffer_facts, side_of}
+use Rattle.egl_model.specs.Renderbuffers.{renderbuffer_bytes}
 use Rattle.egl_model.specs.Sweep.{live_bytes}
 use Rattle.egl_model.specs.Step.{bare, step}
 use Rattle.egl_model.specs.Copies.{copied_bytes}
@@ -85,6 +86,10 @@ WantsCopy s c = s.video < live_bytes s.objects + copied_bytes c
 -- the same for the contents that a glBufferData gives
 abbrev pub WantsData : State → CallValue → Type 0
 WantsData s c = s.video < live_bytes s.objects + number c BUFFER_SIZE
+
+-- and for the pixels that a glRenderbufferStorageOES gives
+abbrev pub WantsStorage : State → CallValue → Type 0
+WantsStorage s c = s.video < live_bytes s.objects + renderbuffer_bytes c
 
 -- the numbers for handles are used up
 abbrev pub WantsNumber : State → Type 0

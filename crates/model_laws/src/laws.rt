@@ -10,7 +10,7 @@ ghost use Rattle.egl_calls.specs.declared.kinds.Kind.TheVariants.{Egl, Own};
 ghost use Rattle.egl_calls.specs.declared.kinds.EglKind.{EglKind};
 ghost use Rattle.egl_calls.specs.declared.kinds.EglKind.TheVariants.{Initialize, Terminate, CreatePbufferSurface, CreateContext, DestroySurface, DestroyContext, ReleaseThread, CreateWindowSurface, CreateSync, DestroySync, ClientWaitSync};
 ghost use Rattle.egl_calls.specs.declared.kinds.GlKind.{GlKind};
-ghost use Rattle.egl_calls.specs.declared.kinds.GlKind.TheVariants.{CopyTexImage2d, DeleteTextures, TexImage2d, BufferData, DeleteBuffers};
+ghost use Rattle.egl_calls.specs.declared.kinds.GlKind.TheVariants.{CopyTexImage2d, DeleteTextures, TexImage2d, BufferData, DeleteBuffers, DeleteRenderbuffers, RenderbufferStorage};
 ghost use Rattle.egl_calls.specs.Ranges.{unsigned};
 ghost use Rattle.egl_calls.specs.declared.kinds.OwnKind.{OwnKind};
 ghost use Rattle.egl_calls.specs.declared.kinds.OwnKind.TheVariants.{ReadBuffer, WaitEnd};
@@ -21,7 +21,7 @@ ghost use Rattle.egl_calls.specs.declared.errors.GlError.TheVariants.{NoError, O
 ghost use Rattle.egl_calls.specs.declared.errors.Outcome.TheVariants.{Done, InWait, NoWait, Waiting, Egl as RefusedEgl, Gl as RefusedGl};
 ghost use Rattle.context_state.specs.Parts.{PartValue};
 ghost use Rattle.call_rules.specs.EglAllowed.{makes_handle};
-ghost use Rattle.call_rules.specs.GlAllowed.{CopyAsked, ImageAsked, DataAsked};
+ghost use Rattle.call_rules.specs.GlAllowed.{CopyAsked, ImageAsked, DataAsked, StorageAsked};
 ghost use Rattle.call_rules.specs.EglRules.{is_release};
 ghost use Rattle.display_table.specs.declared.handles.HandleKind.TheVariants.{Context, Surface, Sync};
 ghost use Rattle.surface_store.specs.Windows.{windows_ok};
@@ -37,12 +37,12 @@ ghost use Rattle.driver_objects.specs.Storages.{StorageValue};
 ghost use Rattle.driver_objects.specs.declared.contexts.Context.{Context as AContext};
 ghost use Rattle.driver_objects.specs.declared.textures.BackedTexture.{BackedTexture};
 ghost use Rattle.share_group.specs.Names.{is_used};
-ghost use Rattle.share_group.specs.declared.names.NameKind.TheVariants.{Texture as a_texture_name, Buffer as a_buffer_name};
+ghost use Rattle.share_group.specs.declared.names.NameKind.TheVariants.{Texture as a_texture_name, Buffer as a_buffer_name, Renderbuffer as a_renderbuffer_name};
 ghost use Rattle.model_laws.specs.Shapes.{shapes};
 ghost use Rattle.driver_objects.specs.declared.fences.Fence.{Fence as AFence};
 ghost use Rattle.driver_objects.specs.declared.kinds.ObjectKind.TheVariants.{Context as ContextKind};
 ghost use Rattle.egl_model.specs.EglFacts.{egl_refusal};
-ghost use Rattle.egl_model.specs.GlFacts.{copy_facts, gl_refusal, data_facts};
+ghost use Rattle.egl_model.specs.GlFacts.{copy_facts, gl_refusal, data_facts, storage_facts};
 ghost use Rattle.egl_model.specs.Step.{bare, done, note_error, step};
 ghost use Rattle.egl_model.specs.Waits.{ended, is_signalled};
 ghost use Rattle.egl_model.specs.History.{replay_from, IsLegalFrom};
@@ -61,7 +61,7 @@ ghost use Rattle.model_laws.specs.Sound.{IsSound};
 ghost use Rattle.model_laws.specs.Refs.{AreNamesApart, size, objects_gone, refs_gone};
 ghost use Rattle.egl_model.specs.Syncs.{flush_for, sync_handle, waits_forever};
 ghost use Rattle.egl_names.specs.declared.codes.TheConstants.{EGL_CONDITION_SATISFIED, EGL_TIMEOUT_EXPIRED};
-ghost use Rattle.model_laws.specs.Wants.{Answers, AnswersGl, AsksTooLarge, IsFaultlessContext, IsFaultlessPbuffer, IsFaultlessSync, IsFaultlessWindow, IsWindowUsed, PixelsFit, WantsCopy, WantsImage, WantsNumber, WantsVideo, WantsWindowPixels, asked_bytes, WantsData};
+ghost use Rattle.model_laws.specs.Wants.{Answers, AnswersGl, AsksTooLarge, IsFaultlessContext, IsFaultlessPbuffer, IsFaultlessSync, IsFaultlessWindow, IsWindowUsed, PixelsFit, WantsCopy, WantsImage, WantsNumber, WantsVideo, WantsWindowPixels, asked_bytes, WantsData, WantsStorage};
 
 /// A sweep leaves each object that chains of references reach as it is, and no other; it changes what is reached for none.
 pub fn a_sweep_keeps_what_is_reached()
@@ -270,28 +270,36 @@ pub fn a_buffer_wants_bytes()
     ensures { (s : State) (t n : ℕ) (c : CallValue) → IsGlCall s t BufferData c → current_context s t ≡ Some n → AnswersGl s t c OutOfMemory ↔ (DataAsked c (data_facts s n c) × WantsData s c) }
 {}
 
+/// glRenderbufferStorageOES answers GL_OUT_OF_MEMORY exactly where nothing else is wrong and the pixels that live before the call and the new ones are too many (OES_framebuffer_object).
+pub fn a_renderbuffer_wants_pixels()
+    ensures { (s : State) (t n : ℕ) (c : CallValue) → IsGlCall s t RenderbufferStorage c → current_context s t ≡ Some n → AnswersGl s t c OutOfMemory ↔ (StorageAsked c (storage_facts s n c) × WantsStorage s c) }
+{}
+
 /// A glTexImage2D gives one level of one texture: each other level of a texture that is still there has the storage that it had, and each storage that is still there is as it was (section 3.7.1).
 pub fn a_level_is_given_alone()
     ensures levels { (s : State) (t n : ℕ) (c : CallValue) (x j : ℕ) (y z : BackedTexture) → IsAllowedGl s t n TexImage2d c → (target_texture s n ≡ Some x → j ≢ level_of c) → texture_in s.objects x ≡ Some y → texture_in (step s t c).state.objects x ≡ Some z → storage_at j z ≡ storage_at j y }
     ensures pixels { (s : State) (t n : ℕ) (c : CallValue) (x : ℕ) (v : StorageValue) → IsAllowedGl s t n TexImage2d c → storage_in s.objects x ≡ Some v → has_object (step s t c).state x ≡ true → storage_in (step s t c).state.objects x ≡ Some v }
 {}
 
-/// A name that a glDeleteTextures or a glDeleteBuffers is given is free at once, whoever still has its object bound (sections 3.7.11 and 2.9). The object is gone with the last reference to it, as each object is.
+/// A name that a glDeleteTextures, a glDeleteBuffers or a glDeleteRenderbuffersOES is given is free at once, whoever still has its object bound (sections 3.7.11 and 2.9; OES_framebuffer_object). The object is gone with the last reference to it, as each object is.
 pub fn a_deleted_name_is_free()
     ensures textures { (s : State) (t n : ℕ) (c : CallValue) (x : ℤ) → IsAllowedGl s t n DeleteTextures c → Contains c.list x → is_used (unsigned x) (names_in (step s t c).state (group_of s n) a_texture_name) ≡ false }
     ensures buffers { (s : State) (t n : ℕ) (c : CallValue) (x : ℤ) → IsAllowedGl s t n DeleteBuffers c → Contains c.list x → is_used (unsigned x) (names_in (step s t c).state (group_of s n) a_buffer_name) ≡ false }
+    ensures renderbuffers { (s : State) (t n : ℕ) (c : CallValue) (x : ℤ) → IsAllowedGl s t n DeleteRenderbuffers c → Contains c.list x → is_used (unsigned x) (names_in (step s t c).state (group_of s n) a_renderbuffer_name) ≡ false }
 {}
 
-/// The object of a name that a glDeleteTextures or a glDeleteBuffers is given isn't bound in the caller's context any more (sections 3.7.11 and 2.9).
+/// The object of a name that a glDeleteTextures, a glDeleteBuffers or a glDeleteRenderbuffersOES is given isn't bound in the caller's context any more (sections 3.7.11 and 2.9; OES_framebuffer_object).
 pub fn a_deleted_object_is_unbound()
     ensures textures { (s : State) (t n x : ℕ) (c : CallValue) (v : ℤ) → IsAllowedGl s t n DeleteTextures c → Contains c.list v → object_named s (group_of s n) a_texture_name (unsigned v) ≡ Some x → IfSome (context_in (step s t c).state.objects n) (HasUnbound a_texture_name x) }
     ensures buffers { (s : State) (t n x : ℕ) (c : CallValue) (v : ℤ) → IsAllowedGl s t n DeleteBuffers c → Contains c.list v → object_named s (group_of s n) a_buffer_name (unsigned v) ≡ Some x → IfSome (context_in (step s t c).state.objects n) (HasUnbound a_buffer_name x) }
+    ensures renderbuffers { (s : State) (t n x : ℕ) (c : CallValue) (v : ℤ) → IsAllowedGl s t n DeleteRenderbuffers c → Contains c.list v → object_named s (group_of s n) a_renderbuffer_name (unsigned v) ≡ Some x → IfSome (context_in (step s t c).state.objects n) (HasUnbound a_renderbuffer_name x) }
 {}
 
 /// Each other context that is still there is as it was, and so has bound what it had.
 pub fn a_deletion_leaves_other_contexts()
     ensures textures { (s : State) (t n m : ℕ) (c : CallValue) (y : AContext) → IsAllowedGl s t n DeleteTextures c → m ≢ n → context_in (step s t c).state.objects m ≡ Some y → context_in s.objects m ≡ Some y }
     ensures buffers { (s : State) (t n m : ℕ) (c : CallValue) (y : AContext) → IsAllowedGl s t n DeleteBuffers c → m ≢ n → context_in (step s t c).state.objects m ≡ Some y → context_in s.objects m ≡ Some y }
+    ensures renderbuffers { (s : State) (t n m : ℕ) (c : CallValue) (y : AContext) → IsAllowedGl s t n DeleteRenderbuffers c → m ≢ n → context_in (step s t c).state.objects m ≡ Some y → context_in s.objects m ≡ Some y }
 {}
 
 /// eglCreateContext answers EGL_BAD_ALLOC exactly where nothing else is wrong, and no number is left for its handle (section 3.7.1).

@@ -9,11 +9,11 @@ use Rattle.std.proofs.lemmas.List.Sums.{sum_by-set}
 use Rattle.driver_objects.specs.Links.{bound_in}
 use Rattle.driver_objects.specs.Targets.{binding_of, slot_of}
 use Rattle.driver_objects.specs.declared.targets.BindTarget.{BindTarget}
-use Rattle.driver_objects.specs.declared.targets.BindTarget.TheVariants.{Texture as TextureTarget, ArrayBuffer, ElementArrayBuffer}
+use Rattle.driver_objects.specs.declared.targets.BindTarget.TheVariants.{Texture as TextureTarget, ArrayBuffer, ElementArrayBuffer, Renderbuffer as RenderbufferTarget}
 use Rattle.driver_objects.specs.Objects.{edges_of, filled}
 use Rattle.driver_objects.specs.declared.contexts.Context.{Context as ContextObject}
 use Rattle.driver_objects.specs.declared.objects.Object.{Object}
-use Rattle.driver_objects.specs.declared.objects.Object.TheVariants.{Context, Group, Texture, Buffer, Surface, Storage, Sync}
+use Rattle.driver_objects.specs.declared.objects.Object.TheVariants.{Context, Group, Texture, Buffer, Renderbuffer, Surface, Storage, Sync}
 use Rattle.egl_model.specs.Names.{with_name_of}
 use Rattle.egl_model.specs.Objects.{as_context, as_group, change_context, change_group, with_context, with_group}
 use Rattle.egl_model.specs.Parts.{is_place}
@@ -85,6 +85,7 @@ slot_in_row : (b : BindTarget) (c : ContextObject) → has_slot_in (Some (Contex
 slot_in_row TextureTarget c = refl
 slot_in_row ArrayBuffer c = refl
 slot_in_row ElementArrayBuffer c = refl
+slot_in_row RenderbufferTarget c = refl
 
 slot_there : (b : BindTarget) (o : Option Object) (which name x : ℕ) → has_there b x o ≡ true → has_slot_in (with_context (named_at which name) o) (slot_of b) ≡ true
 slot_there b (Some (Context c)) which name x h = slot_in_row b (named_at which name c)
@@ -92,6 +93,7 @@ slot_there b None which name x h = absurd (false≢true h)
 slot_there b (Some (Group v)) which name x h = absurd (false≢true h)
 slot_there b (Some (Texture v)) which name x h = absurd (false≢true h)
 slot_there b (Some (Buffer v)) which name x h = absurd (false≢true h)
+slot_there b (Some (Renderbuffer v)) which name x h = absurd (false≢true h)
 slot_there b (Some (Surface v)) which name x h = absurd (false≢true h)
 slot_there b (Some (Storage v)) which name x h = absurd (false≢true h)
 slot_there b (Some (Sync v)) which name x h = absurd (false≢true h)
@@ -102,6 +104,7 @@ edge_there b None which name x h = absurd (false≢true h)
 edge_there b (Some (Group v)) which name x h = absurd (false≢true h)
 edge_there b (Some (Texture v)) which name x h = absurd (false≢true h)
 edge_there b (Some (Buffer v)) which name x h = absurd (false≢true h)
+edge_there b (Some (Renderbuffer v)) which name x h = absurd (false≢true h)
 edge_there b (Some (Surface v)) which name x h = absurd (false≢true h)
 edge_there b (Some (Storage v)) which name x h = absurd (false≢true h)
 edge_there b (Some (Sync v)) which name x h = absurd (false≢true h)
@@ -112,6 +115,7 @@ linked_there b None x h = absurd (false≢true h)
 linked_there b (Some (Group v)) x h = absurd (false≢true h)
 linked_there b (Some (Texture v)) x h = absurd (false≢true h)
 linked_there b (Some (Buffer v)) x h = absurd (false≢true h)
+linked_there b (Some (Renderbuffer v)) x h = absurd (false≢true h)
 linked_there b (Some (Surface v)) x h = absurd (false≢true h)
 linked_there b (Some (Storage v)) x h = absurd (false≢true h)
 linked_there b (Some (Sync v)) x h = absurd (false≢true h)
@@ -208,6 +212,7 @@ context_group a g n None e h down gone = refl
 context_group a g n (Some (Group v)) e h down gone = refl
 context_group a g n (Some (Texture v)) e h down gone = refl
 context_group a g n (Some (Buffer v)) e h down gone = refl
+context_group a g n (Some (Renderbuffer v)) e h down gone = refl
 context_group a g n (Some (Surface v)) e h down gone = refl
 context_group a g n (Some (Storage v)) e h down gone = refl
 context_group a g n (Some (Sync v)) e h down gone = refl

@@ -62,7 +62,8 @@ impl ObjectTable {
                 self.unbind_at(n, BindTarget::ArrayBuffer, object, steps);
                 self.unbind_at(n, BindTarget::ElementArrayBuffer, object, steps);
             }
-            NameKind::Renderbuffer | NameKind::Framebuffer => (),
+            NameKind::Renderbuffer => self.unbind_at(n, BindTarget::Renderbuffer, object, steps),
+            NameKind::Framebuffer => (),
         }
     }
 

@@ -16,7 +16,7 @@ use Rattle.egl_calls.specs.declared.kinds.Kind.TheVariants.{Egl, Gl, Own}
 use Rattle.egl_calls.specs.declared.kinds.EglKind.{EglKind}
 use Rattle.egl_calls.specs.declared.kinds.EglKind.TheVariants.{ClientWaitSync, CreateContext, CreatePbufferSurface, CreateSync, CreateWindowSurface, MakeCurrent, ReleaseThread, SurfaceAttrib, SwapBuffers, WaitClient, WaitSync}
 use Rattle.egl_calls.specs.declared.kinds.GlKind.{GlKind}
-use Rattle.egl_calls.specs.declared.kinds.GlKind.TheVariants.{BindTexture, Clear, CopyTexImage2d, CopyTexSubImage2d, DeleteTextures, DrawTexi, DrawTexx, Finish, Flush, GenTextures, ReadPixels, TexImage2d, TexParameterx, TexParameteriv, TexSubImage2d, GenBuffers, DeleteBuffers, BindBuffer, BufferData, BufferSubData}
+use Rattle.egl_calls.specs.declared.kinds.GlKind.TheVariants.{BindTexture, Clear, CopyTexImage2d, CopyTexSubImage2d, DeleteTextures, DrawTexi, DrawTexx, Finish, Flush, GenTextures, ReadPixels, TexImage2d, TexParameterx, TexParameteriv, TexSubImage2d, GenBuffers, DeleteBuffers, BindBuffer, BufferData, BufferSubData, GenRenderbuffers, DeleteRenderbuffers, BindRenderbuffer, RenderbufferStorage}
 use Rattle.egl_calls.specs.declared.kinds.OwnKind.{OwnKind}
 use Rattle.egl_calls.specs.declared.kinds.OwnKind.TheVariants.{ReadBuffer, WaitEnd}
 use Rattle.call_rules.specs.EglRules.{is_release}
@@ -26,7 +26,7 @@ use Rattle.context_state.specs.declared.kinds.ContextCall.{ContextCall}
 use Rattle.context_state.specs.Parts.{PartValue, noted}
 use Rattle.share_group.specs.Groups.{GroupValue}
 use Rattle.share_group.specs.declared.names.NameKind.{NameKind}
-use Rattle.share_group.specs.declared.names.NameKind.TheVariants.{Texture as textures, Buffer as buffers}
+use Rattle.share_group.specs.declared.names.NameKind.TheVariants.{Texture as textures, Buffer as buffers, Renderbuffer as renderbuffers}
 use Rattle.surface_store.specs.Surfaces.{SurfaceValue}
 use Rattle.surface_store.specs.Windows.{WindowValue, posted}
 use Rattle.surface_store.specs.WindowTables.{fits, no_window, place_of, posted_to, swapped_windows, window_at}
@@ -34,12 +34,15 @@ use Rattle.driver_objects.specs.Storages.{StorageValue, shown_by}
 use Rattle.driver_objects.specs.declared.contexts.Context.{Context as ContextObject}
 use Rattle.driver_objects.specs.declared.fences.Fence.{Fence}
 use Rattle.driver_objects.specs.declared.objects.Object.{Object}
-use Rattle.driver_objects.specs.declared.objects.Object.TheVariants.{Context, Group, Texture, Buffer, Surface, Storage, Sync}
+use Rattle.driver_objects.specs.declared.objects.Object.TheVariants.{Context, Group, Texture, Buffer, Renderbuffer, Surface, Storage, Sync}
 use Rattle.driver_objects.specs.declared.surfaces.BackedSurface.{BackedSurface}
 use Rattle.buffer_objects.specs.Buffers.{BufferValue}
+use Rattle.framebuffer_objects.specs.Renderbuffers.{RenderbufferValue}
+use Rattle.driver_objects.specs.declared.renderbuffers.BackedRenderbuffer.{BackedRenderbuffer}
+use Rattle.egl_model.specs.Renderbuffers.{new_kind, new_pixels, stored_as, target_renderbuffer}
 use Rattle.driver_objects.specs.Targets.{buffer_target, name_kind}
 use Rattle.driver_objects.specs.declared.targets.BindTarget.{BindTarget}
-use Rattle.driver_objects.specs.declared.targets.BindTarget.TheVariants.{Texture as TextureTarget}
+use Rattle.driver_objects.specs.declared.targets.BindTarget.TheVariants.{Texture as TextureTarget, Renderbuffer as RenderbufferTarget}
 use Rattle.driver_objects.specs.declared.textures.BackedTexture.{BackedTexture}
 use Rattle.display_table.specs.declared.handles.Handle.{Handle}
 use Rattle.pixel_rows.specs.Images.{ImageValue}
@@ -61,7 +64,7 @@ use Rattle.egl_model.specs.MakeCurrent.{bind, bound_anew, bound_by, context_hand
 use Rattle.egl_model.specs.Bindings.{bound_named, bound_object, deleted_in, deleted_name, freed, unbound_in}
 use Rattle.egl_model.specs.Buffers.{set_data, set_part_of, target_buffer}
 use Rattle.egl_model.specs.Names.{group_of, object_named}
-use Rattle.egl_model.specs.Objects.{as_buffer, as_storage, as_texture, change_buffer, change_context, change_fence, change_group, change_part, change_storage, change_surface, change_texture, with_context, with_fence, with_group, with_part, with_surface}
+use Rattle.egl_model.specs.Objects.{as_buffer, as_renderbuffer, as_storage, as_texture, change_buffer, change_renderbuffer, change_context, change_fence, change_group, change_part, change_storage, change_surface, change_texture, with_context, with_fence, with_group, with_part, with_surface}
 use Rattle.egl_model.specs.OwnCalls.{buffer_effect, buffer_refusal}
 use Rattle.egl_model.specs.State.{State, record_of}
 use Rattle.egl_model.specs.Step.{Stepped, after_egl_rules, after_gl_rules, buffer_step_on, egl_step, gl_step, gl_step_on, own_step, step, step_by, step_in, wait_step}
@@ -69,6 +72,7 @@ use Rattle.egl_model.specs.Surfaces.{with_behavior}
 use Rattle.egl_model.specs.Sweep.{edges_at, sweep, swept}
 use Rattle.egl_model.specs.Syncs.{add_sync, asks_for_flush, client_waited, flush_for, has_to_wait, serve, sync_handle}
 use Rattle.egl_model.specs.Textures as calls
+use Rattle.egl_model.specs.Textures.{change_pixels}
 use Rattle.egl_model.specs.Waits.{is_signalled, is_wait_end, waiting}
 use Rattle.egl_model.specs.Windows.{swapped_surface, swapped_with}
 use Rattle.model_laws.proofs.SweepLaws.{length-swept, object_at-swept}
@@ -80,7 +84,7 @@ use Rattle.race_report.proofs.WordLaws.{contains_first, contains_later}
 
 -- ---- One object.
 as_it_was : (o : Option Object) → IsAsItWas o o
-as_it_was o = (inl refl, (inl refl, inl refl))
+as_it_was o = (inl refl, (inl refl, (inl refl, inl refl)))
 
 one_then : {A : Type 0} (x y z : Option A) → (y ≡ x) ⊎ (y ≡ None) → (z ≡ y) ⊎ (z ≡ None) → (z ≡ x) ⊎ (z ≡ None)
 one_then x y z f g = elim g [
@@ -89,65 +93,70 @@ one_then x y z f g = elim g [
 ]
 
 was_then : (o p q : Option Object) → IsAsItWas o p → IsAsItWas p q → IsAsItWas o q
-was_then o p q f g = (one_then (as_texture o) (as_texture p) (as_texture q) f.0 g.0, (one_then (as_storage o) (as_storage p) (as_storage q) f.1.0 g.1.0, one_then (as_buffer o) (as_buffer p) (as_buffer q) f.1.1 g.1.1))
+was_then o p q f g = (one_then (as_texture o) (as_texture p) (as_texture q) f.0 g.0, (one_then (as_storage o) (as_storage p) (as_storage q) f.1.0 g.1.0, (one_then (as_buffer o) (as_buffer p) (as_buffer q) f.1.1.0 g.1.1.0, one_then (as_renderbuffer o) (as_renderbuffer p) (as_renderbuffer q) f.1.1.1 g.1.1.1)))
 
 gone_or_not : (b : Bool) (o : Option Object) → IsAsItWas o (if b then o else None)
 gone_or_not true o = as_it_was o
-gone_or_not false o = (inr refl, (inr refl, inr refl))
+gone_or_not false o = (inr refl, (inr refl, (inr refl, inr refl)))
 
--- no change of an object of another kind is one of a texture, a storage or a buffer
+-- no change of an object of another kind is one of a texture, a storage, a buffer or a renderbuffer
 abbrev Spared : (Option Object → Option Object) → Type 0
 Spared f = (o : Option Object) → IsAsItWas o (f o)
 
 spared-context : (f : ContextObject → ContextObject) → Spared (with_context f)
-spared-context f None = (inl refl, (inl refl, inl refl))
-spared-context f (Some (Context x)) = (inl refl, (inl refl, inl refl))
-spared-context f (Some (Group x)) = (inl refl, (inl refl, inl refl))
-spared-context f (Some (Texture x)) = (inl refl, (inl refl, inl refl))
-spared-context f (Some (Buffer x)) = (inl refl, (inl refl, inl refl))
-spared-context f (Some (Surface x)) = (inl refl, (inl refl, inl refl))
-spared-context f (Some (Storage x)) = (inl refl, (inl refl, inl refl))
-spared-context f (Some (Sync x)) = (inl refl, (inl refl, inl refl))
+spared-context f None = (inl refl, (inl refl, (inl refl, inl refl)))
+spared-context f (Some (Context x)) = (inl refl, (inl refl, (inl refl, inl refl)))
+spared-context f (Some (Group x)) = (inl refl, (inl refl, (inl refl, inl refl)))
+spared-context f (Some (Texture x)) = (inl refl, (inl refl, (inl refl, inl refl)))
+spared-context f (Some (Buffer x)) = (inl refl, (inl refl, (inl refl, inl refl)))
+spared-context f (Some (Renderbuffer x)) = (inl refl, (inl refl, (inl refl, inl refl)))
+spared-context f (Some (Surface x)) = (inl refl, (inl refl, (inl refl, inl refl)))
+spared-context f (Some (Storage x)) = (inl refl, (inl refl, (inl refl, inl refl)))
+spared-context f (Some (Sync x)) = (inl refl, (inl refl, (inl refl, inl refl)))
 
 spared-part : (f : PartValue → PartValue) → Spared (with_part f)
-spared-part f None = (inl refl, (inl refl, inl refl))
-spared-part f (Some (Context x)) = (inl refl, (inl refl, inl refl))
-spared-part f (Some (Group x)) = (inl refl, (inl refl, inl refl))
-spared-part f (Some (Texture x)) = (inl refl, (inl refl, inl refl))
-spared-part f (Some (Buffer x)) = (inl refl, (inl refl, inl refl))
-spared-part f (Some (Surface x)) = (inl refl, (inl refl, inl refl))
-spared-part f (Some (Storage x)) = (inl refl, (inl refl, inl refl))
-spared-part f (Some (Sync x)) = (inl refl, (inl refl, inl refl))
+spared-part f None = (inl refl, (inl refl, (inl refl, inl refl)))
+spared-part f (Some (Context x)) = (inl refl, (inl refl, (inl refl, inl refl)))
+spared-part f (Some (Group x)) = (inl refl, (inl refl, (inl refl, inl refl)))
+spared-part f (Some (Texture x)) = (inl refl, (inl refl, (inl refl, inl refl)))
+spared-part f (Some (Buffer x)) = (inl refl, (inl refl, (inl refl, inl refl)))
+spared-part f (Some (Renderbuffer x)) = (inl refl, (inl refl, (inl refl, inl refl)))
+spared-part f (Some (Surface x)) = (inl refl, (inl refl, (inl refl, inl refl)))
+spared-part f (Some (Storage x)) = (inl refl, (inl refl, (inl refl, inl refl)))
+spared-part f (Some (Sync x)) = (inl refl, (inl refl, (inl refl, inl refl)))
 
 spared-group : (f : GroupValue → GroupValue) → Spared (with_group f)
-spared-group f None = (inl refl, (inl refl, inl refl))
-spared-group f (Some (Context x)) = (inl refl, (inl refl, inl refl))
-spared-group f (Some (Group x)) = (inl refl, (inl refl, inl refl))
-spared-group f (Some (Texture x)) = (inl refl, (inl refl, inl refl))
-spared-group f (Some (Buffer x)) = (inl refl, (inl refl, inl refl))
-spared-group f (Some (Surface x)) = (inl refl, (inl refl, inl refl))
-spared-group f (Some (Storage x)) = (inl refl, (inl refl, inl refl))
-spared-group f (Some (Sync x)) = (inl refl, (inl refl, inl refl))
+spared-group f None = (inl refl, (inl refl, (inl refl, inl refl)))
+spared-group f (Some (Context x)) = (inl refl, (inl refl, (inl refl, inl refl)))
+spared-group f (Some (Group x)) = (inl refl, (inl refl, (inl refl, inl refl)))
+spared-group f (Some (Texture x)) = (inl refl, (inl refl, (inl refl, inl refl)))
+spared-group f (Some (Buffer x)) = (inl refl, (inl refl, (inl refl, inl refl)))
+spared-group f (Some (Renderbuffer x)) = (inl refl, (inl refl, (inl refl, inl refl)))
+spared-group f (Some (Surface x)) = (inl refl, (inl refl, (inl refl, inl refl)))
+spared-group f (Some (Storage x)) = (inl refl, (inl refl, (inl refl, inl refl)))
+spared-group f (Some (Sync x)) = (inl refl, (inl refl, (inl refl, inl refl)))
 
 spared-fence : (f : Fence → Fence) → Spared (with_fence f)
-spared-fence f None = (inl refl, (inl refl, inl refl))
-spared-fence f (Some (Context x)) = (inl refl, (inl refl, inl refl))
-spared-fence f (Some (Group x)) = (inl refl, (inl refl, inl refl))
-spared-fence f (Some (Texture x)) = (inl refl, (inl refl, inl refl))
-spared-fence f (Some (Buffer x)) = (inl refl, (inl refl, inl refl))
-spared-fence f (Some (Surface x)) = (inl refl, (inl refl, inl refl))
-spared-fence f (Some (Storage x)) = (inl refl, (inl refl, inl refl))
-spared-fence f (Some (Sync x)) = (inl refl, (inl refl, inl refl))
+spared-fence f None = (inl refl, (inl refl, (inl refl, inl refl)))
+spared-fence f (Some (Context x)) = (inl refl, (inl refl, (inl refl, inl refl)))
+spared-fence f (Some (Group x)) = (inl refl, (inl refl, (inl refl, inl refl)))
+spared-fence f (Some (Texture x)) = (inl refl, (inl refl, (inl refl, inl refl)))
+spared-fence f (Some (Buffer x)) = (inl refl, (inl refl, (inl refl, inl refl)))
+spared-fence f (Some (Renderbuffer x)) = (inl refl, (inl refl, (inl refl, inl refl)))
+spared-fence f (Some (Surface x)) = (inl refl, (inl refl, (inl refl, inl refl)))
+spared-fence f (Some (Storage x)) = (inl refl, (inl refl, (inl refl, inl refl)))
+spared-fence f (Some (Sync x)) = (inl refl, (inl refl, (inl refl, inl refl)))
 
 spared-surface : (f : SurfaceValue → SurfaceValue) → Spared (with_surface f)
-spared-surface f None = (inl refl, (inl refl, inl refl))
-spared-surface f (Some (Context x)) = (inl refl, (inl refl, inl refl))
-spared-surface f (Some (Group x)) = (inl refl, (inl refl, inl refl))
-spared-surface f (Some (Texture x)) = (inl refl, (inl refl, inl refl))
-spared-surface f (Some (Buffer x)) = (inl refl, (inl refl, inl refl))
-spared-surface f (Some (Surface x)) = (inl refl, (inl refl, inl refl))
-spared-surface f (Some (Storage x)) = (inl refl, (inl refl, inl refl))
-spared-surface f (Some (Sync x)) = (inl refl, (inl refl, inl refl))
+spared-surface f None = (inl refl, (inl refl, (inl refl, inl refl)))
+spared-surface f (Some (Context x)) = (inl refl, (inl refl, (inl refl, inl refl)))
+spared-surface f (Some (Group x)) = (inl refl, (inl refl, (inl refl, inl refl)))
+spared-surface f (Some (Texture x)) = (inl refl, (inl refl, (inl refl, inl refl)))
+spared-surface f (Some (Buffer x)) = (inl refl, (inl refl, (inl refl, inl refl)))
+spared-surface f (Some (Renderbuffer x)) = (inl refl, (inl refl, (inl refl, inl refl)))
+spared-surface f (Some (Surface x)) = (inl refl, (inl refl, (inl refl, inl refl)))
+spared-surface f (Some (Storage x)) = (inl refl, (inl refl, (inl refl, inl refl)))
+spared-surface f (Some (Sync x)) = (inl refl, (inl refl, (inl refl, inl refl)))
 
 -- ---- Objects.
 record Kept (ws : List ℤ) (os ps : List (Option Object)) : Type 0 where
@@ -225,6 +234,14 @@ kept-storage ws f n os w = kept_set ws os n _ (inl w)
 kept-buffer : (ws : List ℤ) (f : BufferValue → BufferValue) (n : ℕ) (os : List (Option Object)) → Contains ws (pos n) → Kept ws os (change_buffer f n os)
 unfolding change_buffer
 kept-buffer ws f n os w = kept_set ws os n _ (inl w)
+
+kept-renderbuffer : (ws : List ℤ) (f : BackedRenderbuffer → BackedRenderbuffer) (n : ℕ) (os : List (Option Object)) → Contains ws (pos n) → Kept ws os (change_renderbuffer f n os)
+unfolding change_renderbuffer
+kept-renderbuffer ws f n os w = kept_set ws os n _ (inl w)
+
+kept-pixels : (ws : List ℤ) (k : ℕ) (o : Option ℕ) (n : ℕ) (os : List (Option Object)) → Contains ws (pos n) → Kept ws os (change_pixels k o n os)
+unfolding change_pixels
+kept-pixels ws k o n os w = kept_set ws os n _ (inl w)
 
 kept-flush : (ws : List ℤ) (o : Option ℕ) (os : List (Option Object)) → Kept ws os (flush_in o os)
 kept-flush ws None os = kept_self ws os
@@ -381,12 +398,17 @@ told-crop s xs None = tells_self [] s.objects s.windows
 told-crop s xs (Some x) = with_objects (object (Some x)) s.objects _ s.windows (kept-texture (object (Some x)) _ x s.objects (has_object x))
 
 kept-specified : (k : ℕ) (v : Option StorageValue) (x : ℕ) (os : List (Option Object)) → Kept (object (Some x)) os (calls.specified_in k v x os)
-kept-specified k None x os = kept-texture (object (Some x)) _ x os (has_object x)
-kept-specified k (Some v) x os = kept_then (object (Some x)) os _ _ (kept_more (object (Some x)) os _) (kept-texture (object (Some x)) _ x _ (has_object x))
+kept-specified k None x os = kept-pixels (object (Some x)) k None x os (has_object x)
+kept-specified k (Some v) x os = kept_then (object (Some x)) os _ _ (kept_more (object (Some x)) os _) (kept-pixels (object (Some x)) k _ x _ (has_object x))
 
 told-specified : (s : State) (k : ℕ) (v : Option StorageValue) (o : Option ℕ) → Told (object o) s (calls.specified k v o s)
 told-specified s k v None = tells_self [] s.objects s.windows
 told-specified s k v (Some x) = with_objects (object (Some x)) s.objects _ s.windows (kept-specified k v x s.objects)
+
+told-stored : (s : State) (r : RenderbufferValue) (v : Option StorageValue) (o : Option ℕ) → Told (object o) s (stored_as r v o s)
+told-stored s r v None = tells_self [] s.objects s.windows
+told-stored s r v (Some x) = with_objects (object (Some x)) s.objects _ s.windows
+    (kept_then (object (Some x)) s.objects _ _ (kept-renderbuffer (object (Some x)) _ x s.objects (has_object x)) (kept-specified 0 v x _))
 
 told-rewritten : (s : State) (c : CallValue) (align : ℕ) (o : Option ℕ) → Told (object o) s (calls.rewritten_part c align o s)
 told-rewritten s c align None = tells_self [] s.objects s.windows
@@ -429,6 +451,10 @@ told-object s t n c DeleteBuffers = told-deleted _ buffers (group_of s n) n c.li
 told-object s t n c BindBuffer = told-bind s (buffer_target (number c 0)) n (number c 1) (number c 1 == 0)
 told-object s t n c BufferData = told-data s c (target_buffer s n c)
 told-object s t n c BufferSubData = told-part_of s c (target_buffer s n c)
+told-object s t n c GenRenderbuffers = with_objects [] s.objects _ s.windows (kept-group [] _ (group_of s n) s.objects)
+told-object s t n c DeleteRenderbuffers = told-deleted _ renderbuffers (group_of s n) n c.list s
+told-object s t n c BindRenderbuffer = told-bind s RenderbufferTarget n (number c 1) (number c 1 == 0)
+told-object s t n c RenderbufferStorage = told-stored s (new_kind c) (new_pixels c) (target_renderbuffer s n)
 told-object s t n c k = tells_self _ s.objects s.windows
 
 told_by-gl : (o : Option ContextCall) (s : State) (t n : ℕ) (c : CallValue) (k : GlKind) → Told (touches_by_class o s t n k c).writes s (effect_by o s t n k c).state

@@ -9,14 +9,14 @@ use Rattle.egl_calls.specs.declared.kinds.Kind.TheVariants.{Egl, Gl, Own}
 use Rattle.egl_calls.specs.declared.kinds.EglKind.{EglKind}
 use Rattle.egl_calls.specs.declared.kinds.EglKind.TheVariants.{SwapBuffers}
 use Rattle.egl_calls.specs.declared.kinds.GlKind.{GlKind}
-use Rattle.egl_calls.specs.declared.kinds.GlKind.TheVariants.{Flush, Finish, Clear, ReadPixels, DrawTexi, DrawTexx, GenTextures, DeleteTextures, IsTexture, BindTexture, TexParameterx, TexParameteriv, TexImage2d, TexSubImage2d, CopyTexImage2d, CopyTexSubImage2d, GenBuffers, DeleteBuffers, IsBuffer, BindBuffer, BufferData, BufferSubData, GetBufferParameteriv}
+use Rattle.egl_calls.specs.declared.kinds.GlKind.TheVariants.{Flush, Finish, Clear, ReadPixels, DrawTexi, DrawTexx, GenTextures, DeleteTextures, IsTexture, BindTexture, TexParameterx, TexParameteriv, TexImage2d, TexSubImage2d, CopyTexImage2d, CopyTexSubImage2d, GenBuffers, DeleteBuffers, IsBuffer, BindBuffer, BufferData, BufferSubData, GetBufferParameteriv, GenRenderbuffers, DeleteRenderbuffers, IsRenderbuffer, BindRenderbuffer, RenderbufferStorage, GetRenderbufferParameteriv}
 use Rattle.egl_calls.specs.declared.kinds.OwnKind.{OwnKind}
 use Rattle.egl_calls.specs.declared.kinds.OwnKind.TheVariants.{ReadBuffer, ReadFront}
 use Rattle.egl_calls.specs.declared.places.TheConstants.{FRONT}
 use Rattle.context_state.specs.Kinds.{context_gl_call}
 use Rattle.context_state.specs.Parts.{PartValue}
 use Rattle.context_state.specs.declared.kinds.ContextCall.{ContextCall}
-use Rattle.share_group.specs.declared.names.NameKind.TheVariants.{Texture as textures, Buffer as buffers}
+use Rattle.share_group.specs.declared.names.NameKind.TheVariants.{Texture as textures, Buffer as buffers, Renderbuffer as renderbuffers}
 use Rattle.driver_objects.specs.Objects.{filled}
 use Rattle.share_group.specs.declared.names.NameKind.{NameKind}
 use Rattle.driver_objects.specs.declared.surfaces.BackedSurface.{BackedSurface}
@@ -26,6 +26,7 @@ use Rattle.egl_model.specs.Buffers.{target_buffer}
 use Rattle.egl_model.specs.Drawing.{clears_colour}
 use Rattle.egl_model.specs.Names.{group_of, object_named}
 use Rattle.egl_model.specs.Objects.{texture_in}
+use Rattle.egl_model.specs.Renderbuffers.{target_renderbuffer}
 use Rattle.egl_model.specs.State.{State, record_of}
 use Rattle.egl_model.specs.Step.{step}
 use Rattle.egl_model.specs.Textures.{level_of, level_storage, target_texture}
@@ -102,9 +103,13 @@ object_touches s t n CopyTexSubImage2d c = record { reads = object (target_textu
 object_touches s t n BufferData c = writing (object (target_buffer s n c))
 object_touches s t n BufferSubData c = writing (object (target_buffer s n c))
 object_touches s t n GetBufferParameteriv c = reading (object (target_buffer s n c))
+-- the renderbuffer on which calls work
+object_touches s t n RenderbufferStorage c = writing (object (target_renderbuffer s n))
+object_touches s t n GetRenderbufferParameteriv c = reading (object (target_renderbuffer s n))
 -- what is deleted
 object_touches s t n DeleteTextures c = writing (objects_named s n textures c.list)
 object_touches s t n DeleteBuffers c = writing (objects_named s n buffers c.list)
+object_touches s t n DeleteRenderbuffers c = writing (objects_named s n renderbuffers c.list)
 -- nothing but names, and what the context has flushed
 object_touches s t n Flush c = nothing
 object_touches s t n Finish c = nothing
@@ -114,6 +119,9 @@ object_touches s t n BindTexture c = nothing
 object_touches s t n GenBuffers c = nothing
 object_touches s t n IsBuffer c = nothing
 object_touches s t n BindBuffer c = nothing
+object_touches s t n GenRenderbuffers c = nothing
+object_touches s t n IsRenderbuffer c = nothing
+object_touches s t n BindRenderbuffer c = nothing
 object_touches s t n k c = unbuilt
 
 -- a call of its context's own state touches nothing else

@@ -5,16 +5,16 @@ use Rattle.egl_calls.specs.Ranges.{unsigned}
 use Rattle.driver_objects.specs.declared.objects.Object.{Object}
 use Rattle.surface_store.specs.Windows.{WindowValue}
 use Rattle.surface_store.specs.WindowTables.{window_at}
-use Rattle.egl_model.specs.Objects.{as_buffer, as_storage, as_texture}
+use Rattle.egl_model.specs.Objects.{as_buffer, as_renderbuffer, as_storage, as_texture}
 use Rattle.egl_model.specs.State.{State}
 use Rattle.race_report.specs.Touches.{front}
 use Rattle.race_report.specs.declared.touched.Touches.{Touches}
 
--- a texture, a storage or a buffer is as it was, or is gone; and so is what isn't one
+-- a texture, a storage, a buffer or a renderbuffer is as it was, or is gone; and so is what isn't one
 abbrev pub IsAsItWas : Option Object → Option Object → Type 0
-IsAsItWas o p = ((as_texture p ≡ as_texture o) ⊎ (as_texture p ≡ None)) × (((as_storage p ≡ as_storage o) ⊎ (as_storage p ≡ None)) × ((as_buffer p ≡ as_buffer o) ⊎ (as_buffer p ≡ None)))
+IsAsItWas o p = ((as_texture p ≡ as_texture o) ⊎ (as_texture p ≡ None)) × (((as_storage p ≡ as_storage o) ⊎ (as_storage p ≡ None)) × (((as_buffer p ≡ as_buffer o) ⊎ (as_buffer p ≡ None)) × ((as_renderbuffer p ≡ as_renderbuffer o) ⊎ (as_renderbuffer p ≡ None))))
 
--- each texture, each storage and each buffer is written, or as it was, or gone
+-- each texture, each storage, each buffer and each renderbuffer is written, or as it was, or gone
 abbrev pub Spares : List ℤ → List (Option Object) → List (Option Object) → Type 0
 Spares writes before after = (n : ℕ) → n < length before → Contains writes (pos n) ⊎ IsAsItWas (slice_index_or before n None) (slice_index_or after n None)
 

@@ -6,14 +6,15 @@ ghost use Rattle.egl_calls.specs.declared.kinds.GlKind.TheVariants.{ClearColorx}
 use buffer_objects::Buffer;
 use context_state::{Bindings, ContextPart};
 use driver_objects::{
-    BackedSurface, BackedTexture, BindTarget, BoundObjects, Context, Object, ObjectKind, Storage,
-    buffer_target,
+    BackedRenderbuffer, BackedSurface, BackedTexture, BindTarget, BoundObjects, Context, Object,
+    ObjectKind, Storage, buffer_target,
 };
 use egl_calls::{Call, GlKind, Kind, Numbers};
 use egl_names::codes::{
     GL_ARRAY_BUFFER, GL_ARRAY_BUFFER_BINDING, GL_ELEMENT_ARRAY_BUFFER,
-    GL_ELEMENT_ARRAY_BUFFER_BINDING, GL_TEXTURE_BINDING_2D,
+    GL_ELEMENT_ARRAY_BUFFER_BINDING, GL_RENDERBUFFER_BINDING_OES, GL_TEXTURE_BINDING_2D,
 };
+use framebuffer_objects::Renderbuffer;
 use pixel_formats::Format;
 use pixel_rows::{Image, Rect};
 use share_group::{Group, NameKind};
@@ -230,12 +231,30 @@ fn a_buffer_has_its_bytes_and_no_reference(rt: HostRuntime) {
 }
 
 #[test]
+fn a_renderbuffer_has_its_pixels_where_it_has_any(rt: HostRuntime) {
+    let alloc = rt.alloc();
+    for (storage, edges) in [(None, [].as_slice()), (Some(9), [9].as_slice())] {
+        let renderbuffer = BackedRenderbuffer {
+            renderbuffer: Renderbuffer::new(),
+            storage,
+        };
+        expect_object(
+            &rt,
+            alloc,
+            Object::Renderbuffer(renderbuffer),
+            (ObjectKind::Renderbuffer, 0),
+            edges,
+        );
+    }
+}
+
+#[test]
 fn each_target_has_its_slot_and_its_names(rt: HostRuntime) {
     let bound = BoundObjects {
         texture: Some(1),
         array_buffer: Some(2),
         element_array_buffer: Some(3),
-        renderbuffer: None,
+        renderbuffer: Some(4),
         framebuffer: None,
     };
     for (target, slot, binding, names, object) in [
@@ -259,6 +278,13 @@ fn each_target_has_its_slot_and_its_names(rt: HostRuntime) {
             GL_ELEMENT_ARRAY_BUFFER_BINDING,
             NameKind::Buffer,
             3,
+        ),
+        (
+            BindTarget::Renderbuffer,
+            5,
+            GL_RENDERBUFFER_BINDING_OES,
+            NameKind::Renderbuffer,
+            4,
         ),
     ] {
         assert_eq!(rt; (target.slot(), target.binding()), (slot, binding));

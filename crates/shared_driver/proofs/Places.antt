@@ -88,7 +88,7 @@ place_memory (Gl Flush) h b = refl
 place_memory (Gl Finish) h b = refl
 place_memory (Gl DeleteTextures) h b = refl
 place_memory (Gl DeleteBuffers) h b = refl
-place_memory (Gl DeleteRenderbuffers) h b = absurd (let e : false ≡ true = b in cc)
+place_memory (Gl DeleteRenderbuffers) h b = refl
 place_memory (Gl DeleteFramebuffers) h b = absurd (let e : false ≡ true = b in cc)
 place_memory (Own Halt) h b = refl
 place_memory k h b = absurd (let e : false ≡ true = h in cc)

@@ -18,6 +18,7 @@ use Rattle.egl_calls.specs.contracts.replies.Reply as reply
 use Rattle.egl_calls.specs.contracts.entries.Entry as entry
 use Rattle.egl_calls.specs.contracts.entries.Journal as journal
 use Rattle.buffer_objects.specs.contracts.buffers.Buffer as buffer
+use Rattle.framebuffer_objects.specs.contracts.renderbuffers.Renderbuffer as renderbuffer
 use Rattle.display_table.specs.contracts.displays.Displays as displays
 use Rattle.share_group.proofs.Sending.{group_send}
 use Rattle.driver_objects.specs.contracts.contexts.Context as context
@@ -86,6 +87,9 @@ texture_send = search (sendable, crosses) depth 60 fits 20000
 pub buffer_send : IsSend buffer.the_row
 buffer_send = search (sendable, crosses) depth 60 fits 20000
 
+pub renderbuffer_send : IsSend renderbuffer.the_row
+renderbuffer_send = search (sendable, crosses) depth 60 fits 20000
+
 pub storage_send : IsSend storage.the_row
 storage_send = search (sendable, crosses) depth 60 fits 20000
 
@@ -93,7 +97,7 @@ pub fence_send : IsSend fence.the_row
 fence_send = search (sendable, crosses) depth 60 fits 20000
 
 pub object_send : IsSend (object.the_field).row
-object_send = let a = context_send in let b = surface_send in let d = storage_send in let e = fence_send in let g = group_send in let h = texture_send in let f = buffer_send in search (sendable, crosses) depth 60 fits 20000
+object_send = let a = context_send in let b = surface_send in let d = storage_send in let e = fence_send in let g = group_send in let h = texture_send in let f = buffer_send in let r = renderbuffer_send in search (sendable, crosses) depth 60 fits 20000
 
 pub stored_send : IsSend stored.the_row
 stored_send = recorded_send _ stored.the_type.D stored.the_type.to stored.the_type.to_one (struct_send (declared.shape stored.the_type) (object_send, tt))

@@ -1,10 +1,9 @@
 use Rattle.std.proofs.Common.{List, Option, [], ◌∷◌, ◌++◌, Some, length, ap, refl, ◌∙◌}
 use Rattle.driver_objects.specs.declared.objects.Object.{Object}
 use Rattle.driver_objects.specs.declared.objects.Object.TheVariants.{Storage}
-use Rattle.egl_model.specs.Objects.{change_texture}
 use Rattle.egl_model.specs.State.{State}
 use Rattle.egl_model.specs.Sweep.{roots_of}
-use Rattle.egl_model.specs.Textures.{with_level}
+use Rattle.egl_model.specs.Textures.{change_pixels}
 use Rattle.driver_core.specs.Machine.{state_of}
 use Rattle.driver_core.proofs.LevelLaws.{cheap_level, held_again, left_after}
 use Rattle.driver_core.proofs.RootLaws.{first_held}
@@ -13,16 +12,16 @@ use Rattle.driver_core.proofs.machine.Driver.add_level.Goals as goal
 pub release-requires : goal.release-requires
 release-requires g c =
     let roots = roots_of c.self.inside.displays.handles c.self.inside.threads.records in
-    let k = held_again c.len-new.result roots c.make_one.new.self.holds c.link_level.new.self.holds c.link_level.ensures.holds (rw c.len-new.ensures.value (c.make_one.ensures.held roots (rw c.reserve.ensures.holds c.self.invariant))) in
-    record { held = first_held c.len-new.result roots c.link_level.new.self.holds k }
+    let k = held_again c.len-new.result roots c.make_one.new.self.holds c.link_pixels.new.self.holds c.link_pixels.ensures.holds (rw c.len-new.ensures.value (c.make_one.ensures.held roots (rw c.reserve.ensures.holds c.self.invariant))) in
+    record { held = first_held c.len-new.result roots c.link_pixels.new.self.holds k }
 
 pub returns-clause-state : goal.returns-clause-state
 returns-clause-state g c =
     let roots = roots_of c.self.inside.displays.handles c.self.inside.threads.records in
-    let k = held_again c.len-new.result roots c.make_one.new.self.holds c.link_level.new.self.holds c.link_level.ensures.holds (rw c.len-new.ensures.value (c.make_one.ensures.held roots (rw c.reserve.ensures.holds c.self.invariant))) in
+    let k = held_again c.len-new.result roots c.make_one.new.self.holds c.link_pixels.new.self.holds c.link_pixels.ensures.holds (rw c.len-new.ensures.value (c.make_one.ensures.held roots (rw c.reserve.ensures.holds c.self.invariant))) in
     let w = c.make_one.ensures.objects ∙ ap (λ (os : List (Option Object)). os ++ Some (Storage c.args.storage) ∷ []) c.reserve.ensures.objects in
     let n = c.len-new.ensures.value ∙ ap length c.reserve.ensures.objects in
-    let o = left_after c.link_level.new.self c.release.new.self (change_texture (with_level c.args.level (Some c.len-new.result)) c.args.texture c.make_one.new.self.objects) c.len-new.result c.link_level.new.steps c.release.new.steps roots c.link_level.ensures.objects k c.release.ensures c.left.ensures in
+    let o = left_after c.link_pixels.new.self c.release.new.self (change_pixels c.args.level (Some c.len-new.result) c.args.texture c.make_one.new.self.objects) c.len-new.result c.link_pixels.new.steps c.release.new.steps roots c.link_pixels.ensures.objects k c.release.ensures c.left.ensures in
     rw (← c.self.view_is) (rw (o, w, n) refl)
 
 pub returns-clause-steps : goal.returns-clause-steps
@@ -30,4 +29,4 @@ returns-clause-steps g c =
     let s : State = state_of c.self.inside.displays c.self.inside.objects.objects c.self.inside.threads.records c.self.inside.windows c.self.inside.video in
     let a : State = state_of c.self.inside.displays c.release.new.self.objects c.self.inside.threads.records c.self.inside.windows c.self.inside.video in
     let w = c.make_one.ensures.objects ∙ ap (λ (os : List (Option Object)). os ++ Some (Storage c.args.storage) ∷ []) c.reserve.ensures.objects in
-    rw (← c.self.view_is) (cheap_level s a c.link_level.new.self.objects c.make_one.new.self.objects c.args.storage c.args.steps.now c.link_level.new.steps c.release.new.steps refl w c.link_level.ensures.steps c.release.ensures.steps)
+    rw (← c.self.view_is) (cheap_level s a c.link_pixels.new.self.objects c.make_one.new.self.objects c.args.storage c.args.steps.now c.link_pixels.new.steps c.release.new.steps refl w c.link_pixels.ensures.steps c.release.ensures.steps)
