@@ -1,9 +1,7 @@
 //! The driver's calls that may run out of memory, with ample memory.
-ghost use Rattle.std.specs.Prelude.{◌≡◌, ◌<◌, true, IfOk};
-ghost use Rattle.call_rules.specs.Kinds.{is_built};
+ghost use Rattle.std.specs.Prelude.{◌≡◌, ◌<◌, IfOk};
 ghost use Rattle.egl_calls.specs.declared.kinds.Kind.TheVariants.{Egl};
 
-use call_rules::is_built;
 use driver_core::Driver;
 use egl_calls::{Call, EglKind, Kind, NoMemory, Numbers, Outcome, Reply};
 use egl_names::codes::EGL_SUCCESS;
@@ -14,7 +12,6 @@ use std::test::Fail;
 /// Plays a call with one number.
 fn play(alloc: Global, driver: &mut Driver, kind: EglKind, number: u32) -> Result<Reply, NoMemory>
     requires made { 0 < driver.old.made }
-    requires built { is_built (Egl kind) ≡ true }
     ensures made { driver.new.made ≡ driver.old.made }
 {
     let call = Call {
@@ -39,9 +36,6 @@ fn holds(alloc: Global, driver: &mut Driver, kind: EglKind, number: u32, value: 
     requires made { 0 < driver.old.made }
     ensures made { driver.new.made ≡ driver.old.made }
 {
-    if !is_built(Kind::Egl(kind)) {
-        return false;
-    }
     match play(alloc, driver, kind, number) {
         Ok(reply) => reply.outcome == Outcome::Done && reply.value == value,
         Err(_) => false,

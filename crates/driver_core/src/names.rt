@@ -5,13 +5,12 @@ ghost use Rattle.driver_core.specs.Costs.{IsCheap};
 ghost use Rattle.driver_core.specs.Groups.{IsGroup};
 ghost use Rattle.driver_objects.specs.Objects.{edges_of, rank_of};
 ghost use Rattle.egl_calls.specs.Ranges.{IsNumber, is_client_wait, unsigned};
-ghost use Rattle.egl_calls.specs.declared.errors.Outcome.TheVariants.{Done};
 ghost use Rattle.egl_model.specs.Arguments.{number};
 ghost use Rattle.egl_model.specs.Bindings.{bound_anew, bound_name, bound_object, deleted_in, deleted_names, new_object};
 ghost use Rattle.egl_model.specs.Names.{generated, group_of, name_value, names_in, object_named};
 ghost use Rattle.egl_model.specs.Objects.{context_in};
 ghost use Rattle.egl_model.specs.State.{State};
-ghost use Rattle.egl_model.specs.Step.{bare, done};
+ghost use Rattle.egl_model.specs.Step.{done};
 ghost use Rattle.egl_model.specs.Sweep.{sweep};
 ghost use Rattle.object_table.specs.Links.{IsLeft};
 ghost use Rattle.object_table.specs.Tables.{weight_of};
@@ -24,7 +23,7 @@ use buffer_objects::Buffer;
 use driver_objects::{BackedRenderbuffer, BindTarget, Object};
 use egl_calls::places::{BOUND_NAME, COUNT};
 use egl_calls::{Call, NoMemory, Numbers, ReplyPair, unsigned};
-use framebuffer_objects::Renderbuffer;
+use framebuffer_objects::{Framebuffer, Renderbuffer};
 use object_table::ObjectTable;
 use ref_store::Steps;
 use share_group::{Group, NameKind};
@@ -51,7 +50,7 @@ fn room_for(alloc: Global, count: u32) -> Result<Vec<i64>, NoMemory>
     }
 }
 
-/// What a name gets that has no object: a texture or a renderbuffer without storage, a buffer without bytes.
+/// What a name gets that has no object: a texture or a renderbuffer without storage, a buffer without bytes, a framebuffer with nothing attached.
 fn new_object(alloc: Global, target: BindTarget) -> Object
     ensures value { result ≡ new_object target }
     ensures plain { edges_of result ≡ [] }
@@ -66,6 +65,7 @@ fn new_object(alloc: Global, target: BindTarget) -> Object
             renderbuffer: Renderbuffer::new(),
             storage: None,
         }),
+        BindTarget::Framebuffer => Object::Framebuffer(Framebuffer::new()),
     }
 }
 
@@ -77,7 +77,7 @@ fn listed_name(call: &Call, k: usize) -> u32
     unsigned(call.list.as_slice()[k]) as u32
 }
 
-/// Frees the names of a list, one after another, and unbinds what has them.
+/// Frees the names of a list, one after another, and detaches and unbinds what has them.
 fn delete_all<L: Ledger>(
     objects: &mut ObjectTable,
     group: u64,
@@ -217,7 +217,7 @@ impl Driver {
         }
     }
 
-    /// Binds what has a name to a target; with 0 the context's own texture, or nothing.
+    /// Binds what has a name to a target; with 0 the context's own texture, the framebuffer of the window system, or nothing.
     pub(crate) fn bind_name<L: Ledger>(
         &mut self,
         alloc: Global,
@@ -245,7 +245,7 @@ impl Driver {
         }
     }
 
-    /// Frees names of a kind, and unbinds what has them.
+    /// Frees names of a kind, and detaches and unbinds what has them.
     pub(crate) fn delete_names<L: Ledger>(
         &mut self,
         context: u64,

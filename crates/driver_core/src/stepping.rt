@@ -5,7 +5,7 @@ ghost use Rattle.driver_core.specs.Releases.{links, releases};
 ghost use Rattle.egl_model.specs.Sweep.{sweep};
 ghost use Rattle.thread_part.specs.Memory.{clears_nothing};
 ghost use Rattle.driver_core.specs.Memory.{egl_takes_no_memory, gl_takes_no_memory, takes_no_memory, is_bare, is_bare_on};
-ghost use Rattle.call_rules.specs.Kinds.{is_built, is_object_call};
+ghost use Rattle.context_state.specs.Kinds.{context_gl_call};
 ghost use Rattle.egl_calls.specs.declared.kinds.Kind.TheVariants.{Egl as EglCall, Gl as GlCall};
 ghost use Rattle.egl_calls.specs.Ranges.{IsNumber};
 ghost use Rattle.attrib_lists.specs.Lists.{bad_place};
@@ -66,7 +66,6 @@ impl Driver {
     ) -> Result<ReplyPair, NoMemory>
         requires made { thread < self.old.made }
         requires kind { call.now.kind ≡ EglCall kind }
-        requires built { is_built (EglCall kind) ≡ true }
         requires allowed { egl_refusal self.old.state thread kind call.now ≡ None }
         requires keeps { releases kind ≡ false }
         requires goes { (record_of self.old.state thread).wait ≡ None }
@@ -115,7 +114,10 @@ impl Driver {
                 Ok(valued(alloc, 1))
             }
             EglKind::GetSyncAttrib => Ok(valued(alloc, self.sync_value(call).unwrap_or(0))),
-            _ => unreachable!(),
+            EglKind::CreateImage => Ok(valued(alloc, self.create_image(call)?)),
+            EglKind::Terminate | EglKind::MakeCurrent | EglKind::ReleaseThread => unreachable!(),
+            EglKind::DestroySurface | EglKind::DestroyContext => unreachable!(),
+            EglKind::DestroySync | EglKind::DestroyImage => unreachable!(),
         }
     }
 
@@ -130,7 +132,6 @@ impl Driver {
     ) -> Result<ReplyPair, NoMemory>
         requires made { thread < self.old.made }
         requires kind { call.now.kind ≡ EglCall kind }
-        requires built { is_built (EglCall kind) ≡ true }
         requires allowed { egl_refusal self.old.state thread kind call.now ≡ None }
         requires goes { (record_of self.old.state thread).wait ≡ None }
         ensures reply { IfOk result (λ r. r.reply ≡ done (egl_effect self.old.state thread kind call.now)) }
@@ -160,6 +161,10 @@ impl Driver {
                 self.destroy(call, HandleKind::Sync, steps);
                 Ok(valued(alloc, 1))
             }
+            EglKind::DestroyImage => {
+                self.destroy(call, HandleKind::Image, steps);
+                Ok(valued(alloc, 1))
+            }
             EglKind::ReleaseThread => {
                 self.release(thread, steps);
                 Ok(valued(alloc, 1))
@@ -183,7 +188,6 @@ impl Driver {
     ) -> Result<ReplyPair, NoMemory>
         requires made { thread < self.old.made }
         requires kind { call.now.kind ≡ EglCall kind }
-        requires built { is_built (EglCall kind) ≡ true }
         requires goes { (record_of self.old.state thread).wait ≡ None }
         ensures reply { IfOk result (λ r. r.reply ≡ (egl_step self.old.state thread kind call.now).reply) }
         ensures state { OnOk result (self.new ≡ record self.old { state = (egl_step self.old.state thread kind call.now).state }) }
@@ -216,7 +220,7 @@ impl Driver {
     ) -> Result<ReplyPair, NoMemory>
         requires made { thread < self.old.made }
         requires kind { call.now.kind ≡ GlCall kind }
-        requires object { is_object_call kind ≡ true }
+        requires object { context_gl_call kind ≡ None }
         requires allowed { gl_refusal self.old.state thread context kind call.now ≡ None }
         requires keeps { links kind ≡ false }
         ensures reply { IfOk result (λ r. r.reply ≡ done (object_effect self.old.state thread context kind call.now)) }
@@ -286,6 +290,15 @@ impl Driver {
             GlKind::GetRenderbufferParameteriv => {
                 Ok(valued(alloc, self.renderbuffer_parameter(context, call)))
             }
+            GlKind::GenFramebuffers => self.generate(alloc, context, NameKind::Framebuffer, call),
+            GlKind::IsFramebuffer => {
+                let name = name_of(call, ASKED_NAME);
+                Ok(valued(alloc, self.is_name(context, NameKind::Framebuffer, name)))
+            }
+            GlKind::CheckFramebufferStatus => Ok(valued(alloc, self.framebuffer_status(thread))),
+            GlKind::GetFramebufferAttachmentParameteriv => {
+                Ok(valued(alloc, self.attachment_parameter(context, call)))
+            }
             _ => unreachable!(),
         }
     }
@@ -301,7 +314,6 @@ impl Driver {
     ) -> Result<ReplyPair, NoMemory>
         requires made { thread < self.old.made }
         requires kind { call.now.kind ≡ GlCall kind }
-        requires built { is_built (GlCall kind) ≡ true }
         requires allowed { gl_refusal self.old.state thread context kind call.now ≡ None }
         requires keeps { links kind ≡ false }
         ensures reply { IfOk result (λ r. r.reply ≡ done (gl_effect self.old.state thread context kind call.now)) }
@@ -331,7 +343,6 @@ impl Driver {
     ) -> Result<ReplyPair, NoMemory>
         requires made { thread < self.old.made }
         requires kind { call.now.kind ≡ GlCall kind }
-        requires built { is_built (GlCall kind) ≡ true }
         requires allowed { gl_refusal self.old.state thread context kind call.now ≡ None }
         ensures reply { IfOk result (λ r. r.reply ≡ done (gl_effect self.old.state thread context kind call.now)) }
         ensures state { OnOk result (self.new ≡ record self.old { state = sweep (gl_effect self.old.state thread context kind call.now).state }) }
@@ -370,6 +381,30 @@ impl Driver {
                 self.set_storage(alloc, thread, context, call, steps)?;
                 Ok(valued(alloc, 0))
             }
+            GlKind::BindFramebuffer => {
+                self.bind_name(alloc, context, BindTarget::Framebuffer, call, steps)?;
+                Ok(valued(alloc, 0))
+            }
+            GlKind::DeleteFramebuffers => {
+                self.delete_names(context, NameKind::Framebuffer, call, steps);
+                Ok(valued(alloc, 0))
+            }
+            GlKind::FramebufferTexture2d => {
+                self.attach(context, NameKind::Texture, call, steps);
+                Ok(valued(alloc, 0))
+            }
+            GlKind::FramebufferRenderbuffer => {
+                self.attach(context, NameKind::Renderbuffer, call, steps);
+                Ok(valued(alloc, 0))
+            }
+            GlKind::ImageTargetTexture2d => {
+                self.target_texture_image(context, call, steps);
+                Ok(valued(alloc, 0))
+            }
+            GlKind::ImageTargetRenderbufferStorage => {
+                self.target_renderbuffer_image(thread, context, call, steps);
+                Ok(valued(alloc, 0))
+            }
             GlKind::TexImage2d => {
                 self.set_level(alloc, thread, context, call, steps)?;
                 Ok(valued(alloc, 0))
@@ -397,7 +432,6 @@ impl Driver {
     ) -> Result<ReplyPair, NoMemory>
         requires made { thread < self.old.made }
         requires kind { call.now.kind ≡ GlCall kind }
-        requires built { is_built (GlCall kind) ≡ true }
         ensures reply { IfOk result (λ r. r.reply ≡ (gl_step self.old.state thread kind call.now).reply) }
         ensures state { OnOk result (self.new ≡ record self.old { state = (gl_step self.old.state thread kind call.now).state }) }
         ensures steps { IsCheap self.old.state self.new.state steps.old steps.new }
@@ -426,7 +460,6 @@ impl Driver {
         steps: &mut Steps<L>,
     ) -> Result<ReplyPair, NoMemory>
         requires made { thread < self.old.made }
-        requires built { is_built call.now.kind ≡ true }
         requires goes { (record_of self.old.state thread).wait ≡ None }
         ensures reply { IfOk result (λ r. r.reply ≡ (step_by self.old.state thread call.now.kind call.now).reply) }
         ensures state { OnOk result (self.new ≡ record self.old { state = (step_by self.old.state thread call.now.kind call.now).state }) }
@@ -453,7 +486,6 @@ impl Driver {
         steps: &mut Steps<L>,
     ) -> Result<ReplyPair, NoMemory>
         requires made { thread < self.old.made }
-        requires built { is_built call.now.kind ≡ true }
         ensures reply { IfOk result (λ r. r.reply ≡ (step self.old.state thread call.now).reply) }
         ensures state { OnOk result (self.new ≡ record self.old { state = (step self.old.state thread call.now).state }) }
         ensures steps { IsCheap self.old.state self.new.state steps.old steps.new }
@@ -478,7 +510,6 @@ impl Driver {
         steps: &mut Steps<L>,
     ) -> Result<Reply, NoMemory>
         requires made { thread < self.old.made }
-        requires built { is_built call.now.kind ≡ true }
         ensures reply { IfOk result (λ r. r ≡ (step self.old.state thread call.now).reply) }
         ensures state { OnOk result (self.new ≡ record self.old { state = (step self.old.state thread call.now).state }) }
         ensures outside { (s : State) → IsSound s → slice_index_or self.old.away thread false ≡ false → self.old.state ≡ hide (outs self.old.away) s → IfOk result (λ r. r ≡ (step s thread call.now).reply) × OnOk result (self.new ≡ record self.old { state = hide (outs self.old.away) (step s thread call.now).state }) }
@@ -503,7 +534,6 @@ impl Driver {
         steps: &mut Steps<L>,
     ) -> Result<ReplyPair, NoMemory>
         requires made { thread < self.old.made }
-        requires built { is_built call.now.kind ≡ true }
         ensures reply { IfOk result (λ r. r.reply ≡ (step self.old.state thread call.now).reply) }
         ensures state { OnOk result (self.new ≡ record self.old { state = (step self.old.state thread call.now).state }) }
         ensures outside { (s : State) → IsSound s → slice_index_or self.old.away thread false ≡ false → self.old.state ≡ hide (outs self.old.away) s → IfOk result (λ r. r.reply ≡ (step s thread call.now).reply) × OnOk result (self.new ≡ record self.old { state = hide (outs self.old.away) (step s thread call.now).state }) }

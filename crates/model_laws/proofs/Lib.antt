@@ -13,8 +13,12 @@ pub mod WaitOutcomes
 pub mod TextureLaws
 pub mod NameLaws
 pub mod DeletionLaws
+pub mod DetachLaws
+pub mod StatusLaws
 pub mod BufferLaws
 pub mod RenderbufferLaws
+pub mod SiblingLaws
+pub mod ImageLaws
 pub mod PixelLaws
 pub mod LinkLaws
 pub mod LinkedSteps
@@ -38,6 +42,7 @@ pub mod FullMoves
 pub mod PutMoves
 pub mod Keeps
 pub mod Blinds
+pub mod BoundFramebuffers
 pub mod Setters
 pub mod GlCalls
 pub mod Named
@@ -47,8 +52,10 @@ pub mod NameCalls
 pub mod TextureCalls
 pub mod BufferCalls
 pub mod RenderbufferCalls
+pub mod FramebufferCalls
 pub mod DrawCalls
 pub mod CopyCalls
+pub mod ImageCalls
 pub mod EglCalls
 pub mod WindowCalls
 pub mod StepKeeps
@@ -59,6 +66,8 @@ pub mod Locals
 pub mod Framing
 pub mod LateEntry
 pub mod Returns
+pub mod LateDraws
+pub mod OwnedPixels
 pub mod RefLaws
 pub mod FenceLaws
 pub mod SyncCalls

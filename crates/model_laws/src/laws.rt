@@ -1,16 +1,21 @@
 //! What is true of every sweep, step and history: the contracts of functions that do nothing.
-ghost use Rattle.std.specs.Prelude.{◌≡◌, ◌≢◌, ◌<◌, ◌+◌, ◌⊎◌, ◌↔◌, ℕ, ℤ, pos, ◌&&◌, ◌==◌, true, false, All, AllPairs, ◌≤◌, if◌then◌else◌, length, List, ◌++◌, None, Some, Contains, IfSome};
+ghost use Rattle.std.specs.Prelude.{◌≡◌, ◌≢◌, ◌<◌, ◌+◌, ◌⊎◌, ◌↔◌, ℕ, ℤ, pos, ◌&&◌, ◌==◌, true, false, All, AllPairs, ◌≤◌, if◌then◌else◌, length, List, ◌++◌, None, Some, Contains, IfSome, is_some};
 ghost use Rattle.display_table.specs.declared.handles.Handle.{Handle};
-ghost use Rattle.model_laws.specs.Deleted.{HasUnbound};
+ghost use Rattle.model_laws.specs.Deleted.{HasDetached, HasUnbound, IsNamedBy, attached_at};
+ghost use Rattle.framebuffer_objects.specs.Framebuffers.{FramebufferValue as AFramebuffer, at_point, object_of as object_attached};
+ghost use Rattle.framebuffer_objects.specs.declared.points.Point.{Point as APoint};
+ghost use Rattle.egl_model.specs.Framebuffers.{target_framebuffer};
+ghost use Rattle.egl_names.specs.declared.codes.TheConstants.{GL_FRAMEBUFFER_COMPLETE_OES, GL_FRAMEBUFFER_INCOMPLETE_ATTACHMENT_OES, GL_FRAMEBUFFER_INCOMPLETE_DIMENSIONS_OES, GL_FRAMEBUFFER_INCOMPLETE_MISSING_ATTACHMENT_OES, GL_FRAMEBUFFER_UNDEFINED_OES, GL_FRAMEBUFFER_UNSUPPORTED_OES};
+ghost use Rattle.model_laws.specs.Statuses.{AnswersStatus, HasUnfit, HasUnlike, IsBare, HasFramebufferBound, HasWindowBound, IsCheck, IsComplete, LacksColor};
 ghost use Rattle.model_laws.specs.Destroyed.{IsRemoved, KeepsCurrents};
 ghost use Rattle.egl_calls.specs.Arguments.{is_zero};
 ghost use Rattle.egl_calls.specs.Calls.{CallValue};
 ghost use Rattle.egl_calls.specs.declared.entries.Entry.{Entry};
 ghost use Rattle.egl_calls.specs.declared.kinds.Kind.TheVariants.{Egl, Own};
 ghost use Rattle.egl_calls.specs.declared.kinds.EglKind.{EglKind};
-ghost use Rattle.egl_calls.specs.declared.kinds.EglKind.TheVariants.{Initialize, Terminate, CreatePbufferSurface, CreateContext, DestroySurface, DestroyContext, ReleaseThread, CreateWindowSurface, CreateSync, DestroySync, ClientWaitSync};
+ghost use Rattle.egl_calls.specs.declared.kinds.EglKind.TheVariants.{Initialize, Terminate, CreatePbufferSurface, CreateContext, DestroySurface, DestroyContext, ReleaseThread, CreateWindowSurface, CreateSync, DestroySync, ClientWaitSync, CreateImage, DestroyImage};
 ghost use Rattle.egl_calls.specs.declared.kinds.GlKind.{GlKind};
-ghost use Rattle.egl_calls.specs.declared.kinds.GlKind.TheVariants.{CopyTexImage2d, DeleteTextures, TexImage2d, BufferData, DeleteBuffers, DeleteRenderbuffers, RenderbufferStorage};
+ghost use Rattle.egl_calls.specs.declared.kinds.GlKind.TheVariants.{CopyTexImage2d, DeleteTextures, TexImage2d, BufferData, DeleteBuffers, DeleteRenderbuffers, DeleteFramebuffers, RenderbufferStorage, ImageTargetTexture2d, ImageTargetRenderbufferStorage};
 ghost use Rattle.egl_calls.specs.Ranges.{unsigned};
 ghost use Rattle.egl_calls.specs.declared.kinds.OwnKind.{OwnKind};
 ghost use Rattle.egl_calls.specs.declared.kinds.OwnKind.TheVariants.{ReadBuffer, WaitEnd};
@@ -23,21 +28,28 @@ ghost use Rattle.context_state.specs.Parts.{PartValue};
 ghost use Rattle.call_rules.specs.EglAllowed.{makes_handle};
 ghost use Rattle.call_rules.specs.GlAllowed.{CopyAsked, ImageAsked, DataAsked, StorageAsked};
 ghost use Rattle.call_rules.specs.EglRules.{is_release};
-ghost use Rattle.display_table.specs.declared.handles.HandleKind.TheVariants.{Context, Surface, Sync};
+ghost use Rattle.display_table.specs.declared.handles.HandleKind.TheVariants.{Context, Surface, Image, Sync};
 ghost use Rattle.surface_store.specs.Windows.{windows_ok};
 ghost use Rattle.surface_store.specs.declared.windows.WindowSpec.{WindowSpec};
 ghost use Rattle.egl_model.specs.State.{State, object_at, opening, record_of, set_error, initial, has_object};
-ghost use Rattle.egl_model.specs.Currents.{current_context, part_of_context};
+ghost use Rattle.egl_model.specs.Currents.{current_context, draw_storage, part_of_context};
 ghost use Rattle.egl_model.specs.Sweep.{is_reached, live_bytes, sweep};
 ghost use Rattle.egl_model.specs.Flushes.{flushed};
-ghost use Rattle.egl_model.specs.Objects.{context_in, fence_in, storage_in, texture_in};
+ghost use Rattle.egl_model.specs.Images.{source_storage, target_image};
+ghost use Rattle.egl_image.specs.declared.images.EglImage.{EglImage as AnEglImage};
+ghost use Rattle.driver_objects.specs.declared.renderbuffers.BackedRenderbuffer.{BackedRenderbuffer};
+ghost use Rattle.framebuffer_objects.specs.Renderbuffers.{of_kind};
+ghost use Rattle.framebuffer_objects.specs.declared.points.Point.TheVariants.{Color};
+ghost use Rattle.egl_model.specs.Objects.{context_in, fence_in, renderbuffer_in, framebuffer_in, storage_in, texture_in};
 ghost use Rattle.egl_model.specs.Names.{group_of, names_in, object_named};
+ghost use Rattle.texture_objects.specs.declared.levels.TheConstants.{LEVELS};
 ghost use Rattle.egl_model.specs.Textures.{level_of, storage_at, target_texture};
+ghost use Rattle.egl_model.specs.Renderbuffers.{target_renderbuffer};
 ghost use Rattle.driver_objects.specs.Storages.{StorageValue};
 ghost use Rattle.driver_objects.specs.declared.contexts.Context.{Context as AContext};
 ghost use Rattle.driver_objects.specs.declared.textures.BackedTexture.{BackedTexture};
 ghost use Rattle.share_group.specs.Names.{is_used};
-ghost use Rattle.share_group.specs.declared.names.NameKind.TheVariants.{Texture as a_texture_name, Buffer as a_buffer_name, Renderbuffer as a_renderbuffer_name};
+ghost use Rattle.share_group.specs.declared.names.NameKind.TheVariants.{Texture as a_texture_name, Buffer as a_buffer_name, Renderbuffer as a_renderbuffer_name, Framebuffer as a_framebuffer_name};
 ghost use Rattle.model_laws.specs.Shapes.{shapes};
 ghost use Rattle.driver_objects.specs.declared.fences.Fence.{Fence as AFence};
 ghost use Rattle.driver_objects.specs.declared.kinds.ObjectKind.TheVariants.{Context as ContextKind};
@@ -54,14 +66,15 @@ ghost use Rattle.model_laws.specs.Named.{Exists, IsHandled, IsHeldByThread, IsUs
 ghost use Rattle.model_laws.specs.Kinds.{IsA, KindsFit};
 ghost use Rattle.model_laws.specs.DisplayCalls.{IsInitialized, IsTerminated};
 ghost use Rattle.model_laws.specs.CurrentCalls.{HasNoneCurrent, IsBoundBy, IsMadeCurrent};
-ghost use Rattle.model_laws.specs.NewHandles.{HasNewHandle};
+ghost use Rattle.model_laws.specs.NewHandles.{HasNewHandle, HasNewImage};
+ghost use Rattle.model_laws.specs.Siblings.{LeavesSiblings};
 ghost use Rattle.egl_model.specs.Displays.{is_initialized};
 ghost use Rattle.egl_model.specs.Arguments.{number};
 ghost use Rattle.model_laws.specs.Sound.{IsSound};
 ghost use Rattle.model_laws.specs.Refs.{AreNamesApart, size, objects_gone, refs_gone};
 ghost use Rattle.egl_model.specs.Syncs.{flush_for, sync_handle, waits_forever};
 ghost use Rattle.egl_names.specs.declared.codes.TheConstants.{EGL_CONDITION_SATISFIED, EGL_TIMEOUT_EXPIRED};
-ghost use Rattle.model_laws.specs.Wants.{Answers, AnswersGl, AsksTooLarge, IsFaultlessContext, IsFaultlessPbuffer, IsFaultlessSync, IsFaultlessWindow, IsWindowUsed, PixelsFit, WantsCopy, WantsImage, WantsNumber, WantsVideo, WantsWindowPixels, asked_bytes, WantsData, WantsStorage};
+ghost use Rattle.model_laws.specs.Wants.{Answers, AnswersGl, AsksTooLarge, IsFaultlessContext, IsFaultlessImage, IsFaultlessPbuffer, IsFaultlessSync, IsFaultlessWindow, IsWindowUsed, PixelsFit, WantsCopy, WantsImage, WantsNumber, WantsVideo, WantsWindowPixels, asked_bytes, WantsData, WantsStorage};
 
 /// A sweep leaves each object that chains of references reach as it is, and no other; it changes what is reached for none.
 pub fn a_sweep_keeps_what_is_reached()
@@ -161,11 +174,12 @@ pub fn a_step_keeps_other_threads()
 
 /// A handle stays valid but by eglTerminate, which takes those of its display alone, and by the calls that destroy, which take the one that they are given alone (EGL 1.5, section 2.1).
 pub fn handles_stay_valid()
-    ensures other_calls { (s : State) (t : ℕ) (c : CallValue) → c.kind ≢ Egl Terminate → c.kind ≢ Egl DestroySurface → c.kind ≢ Egl DestroyContext → c.kind ≢ Egl DestroySync → StayValid s (step s t c).state }
+    ensures other_calls { (s : State) (t : ℕ) (c : CallValue) → c.kind ≢ Egl Terminate → c.kind ≢ Egl DestroySurface → c.kind ≢ Egl DestroyContext → c.kind ≢ Egl DestroySync → c.kind ≢ Egl DestroyImage → StayValid s (step s t c).state }
     ensures terminated { (s : State) (t : ℕ) (c : CallValue) (h : Handle) → IsTerminated s t c → (h.display == number c 0) ≡ false → Contains s.handles h → Contains (step s t c).state.handles h }
     ensures surface { (s : State) (t : ℕ) (c : CallValue) → IsAllowedEgl s t DestroySurface c → IsRemoved s (step s t c).state (number c 1) }
     ensures context { (s : State) (t : ℕ) (c : CallValue) → IsAllowedEgl s t DestroyContext c → IsRemoved s (step s t c).state (number c 1) }
     ensures sync { (s : State) (t : ℕ) (c : CallValue) → IsAllowedEgl s t DestroySync c → IsRemoved s (step s t c).state (number c 1) }
+    ensures image { (s : State) (t : ℕ) (c : CallValue) → IsAllowedEgl s t DestroyImage c → IsRemoved s (step s t c).state (number c 1) }
 {}
 
 /// What is destroyed stays current to each thread to which it is (sections 3.5.5 and 3.7.2).
@@ -209,7 +223,7 @@ pub fn make_current_binds_what_it_is_given()
     ensures wait { (s : State) (t : ℕ) (c : CallValue) → IsMadeCurrent s t c → (record_of (step s t c).state t).wait ≡ None }
 {}
 
-/// Where no rule refuses an eglCreateWindowSurface, an eglCreatePbufferSurface, an eglCreateContext or an eglCreateSync, it answers the number of a new handle, which names a new object of its kind, and the next number rises by one (EGL 1.5, sections 3.5.1, 3.5.2, 3.7.1 and 3.8.1). It rises at no other call, and at none that isn't done.
+/// Where no rule refuses an eglCreateWindowSurface, an eglCreatePbufferSurface, an eglCreateContext, an eglCreateSync or an eglCreateImage, it answers the number of a new handle, which names a new object of its kind, and the next number rises by one (EGL 1.5, sections 3.5.1, 3.5.2, 3.7.1, 3.8.1 and 3.9). It rises at no other call, and at none that isn't done.
 pub fn a_new_handle_names_its_object()
     ensures window { (s : State) (t : ℕ) (c : CallValue) → IsAllowedEgl s t CreateWindowSurface c → HasNewHandle s (step s t c).state (number c 0) Surface }
     ensures window_reply { (s : State) (t : ℕ) (c : CallValue) → IsAllowedEgl s t CreateWindowSurface c → (step s t c).reply.value ≡ pos s.next_handle }
@@ -219,7 +233,9 @@ pub fn a_new_handle_names_its_object()
     ensures context_reply { (s : State) (t : ℕ) (c : CallValue) → IsAllowedEgl s t CreateContext c → (step s t c).reply.value ≡ pos s.next_handle }
     ensures sync { (s : State) (t : ℕ) (c : CallValue) → IsAllowedEgl s t CreateSync c → HasNewHandle s (step s t c).state (number c 0) Sync }
     ensures sync_reply { (s : State) (t : ℕ) (c : CallValue) → IsAllowedEgl s t CreateSync c → (step s t c).reply.value ≡ pos s.next_handle }
-    ensures others { (s : State) (t : ℕ) (c : CallValue) → c.kind ≢ Egl CreateWindowSurface → c.kind ≢ Egl CreatePbufferSurface → c.kind ≢ Egl CreateContext → c.kind ≢ Egl CreateSync → (step s t c).state.next_handle ≡ s.next_handle }
+    ensures image { (s : State) (t : ℕ) (c : CallValue) → IsAllowedEgl s t CreateImage c → HasNewHandle s (step s t c).state (number c 0) Image }
+    ensures image_reply { (s : State) (t : ℕ) (c : CallValue) → IsAllowedEgl s t CreateImage c → (step s t c).reply.value ≡ pos s.next_handle }
+    ensures others { (s : State) (t : ℕ) (c : CallValue) → c.kind ≢ Egl CreateWindowSurface → c.kind ≢ Egl CreatePbufferSurface → c.kind ≢ Egl CreateContext → c.kind ≢ Egl CreateSync → c.kind ≢ Egl CreateImage → (step s t c).state.next_handle ≡ s.next_handle }
     ensures undone { (s : State) (t : ℕ) (c : CallValue) → (step s t c).reply.outcome ≢ Done → (step s t c).state.next_handle ≡ s.next_handle }
 {}
 
@@ -275,24 +291,60 @@ pub fn a_renderbuffer_wants_pixels()
     ensures { (s : State) (t n : ℕ) (c : CallValue) → IsGlCall s t RenderbufferStorage c → current_context s t ≡ Some n → AnswersGl s t c OutOfMemory ↔ (StorageAsked c (storage_facts s n c) × WantsStorage s c) }
 {}
 
-/// A glTexImage2D gives one level of one texture: each other level of a texture that is still there has the storage that it had, and each storage that is still there is as it was (section 3.7.1).
+/// A glTexImage2D or a glCopyTexImage2D gives one level of one texture: each other level of a texture that is still there has the storage that it had, and each storage that is still there is as it was (sections 3.7.1 and 3.7.2).
 pub fn a_level_is_given_alone()
     ensures levels { (s : State) (t n : ℕ) (c : CallValue) (x j : ℕ) (y z : BackedTexture) → IsAllowedGl s t n TexImage2d c → (target_texture s n ≡ Some x → j ≢ level_of c) → texture_in s.objects x ≡ Some y → texture_in (step s t c).state.objects x ≡ Some z → storage_at j z ≡ storage_at j y }
+    ensures copied_levels { (s : State) (t n : ℕ) (c : CallValue) (x j : ℕ) (y z : BackedTexture) → IsAllowedGl s t n CopyTexImage2d c → (target_texture s n ≡ Some x → j ≢ level_of c) → texture_in s.objects x ≡ Some y → texture_in (step s t c).state.objects x ≡ Some z → storage_at j z ≡ storage_at j y }
     ensures pixels { (s : State) (t n : ℕ) (c : CallValue) (x : ℕ) (v : StorageValue) → IsAllowedGl s t n TexImage2d c → storage_in s.objects x ≡ Some v → has_object (step s t c).state x ≡ true → storage_in (step s t c).state.objects x ≡ Some v }
+    ensures copied_pixels { (s : State) (t n : ℕ) (c : CallValue) (x : ℕ) (v : StorageValue) → IsAllowedGl s t n CopyTexImage2d c → storage_in s.objects x ≡ Some v → has_object (step s t c).state x ≡ true → storage_in (step s t c).state.objects x ≡ Some v }
 {}
 
-/// A name that a glDeleteTextures, a glDeleteBuffers or a glDeleteRenderbuffersOES is given is free at once, whoever still has its object bound (sections 3.7.11 and 2.9; OES_framebuffer_object). The object is gone with the last reference to it, as each object is.
+/// A new image is of the storage that its call names, of a texture's level or of a renderbuffer (EGL 1.5, section 3.9). To make an image or to destroy one changes no object that is still there, and no pixel.
+pub fn a_new_image_shares_its_pixels()
+    ensures created { (s : State) (t : ℕ) (c : CallValue) (k : ℕ) → IsAllowedEgl s t CreateImage c → source_storage s c ≡ Some k → HasNewImage s (step s t c).state (number c 0) k }
+    ensures others { (s : State) (t : ℕ) (c : CallValue) → IsAllowedEgl s t CreateImage c → LeavesSiblings s (step s t c).state None }
+    ensures destroyed { (s : State) (t : ℕ) (c : CallValue) → IsAllowedEgl s t DestroyImage c → LeavesSiblings s (step s t c).state None }
+{}
+
+/// Behind a glEGLImageTargetTexture2DOES level 0 of the bound texture, one with its eleven levels, has the image's storage and no other level has any; behind a glEGLImageTargetRenderbufferStorageOES the bound renderbuffer has it, and is a colour of its sides (OES_EGL_image).
+pub fn what_gets_an_image_has_its_pixels()
+    ensures base { (s : State) (t n : ℕ) (c : CallValue) (x : ℕ) (i : AnEglImage) (y z : BackedTexture) → IsAllowedGl s t n ImageTargetTexture2d c → target_texture s n ≡ Some x → target_image s n c ≡ Some i → texture_in s.objects x ≡ Some y → length y.levels ≡ LEVELS → texture_in (step s t c).state.objects x ≡ Some z → storage_at 0 z ≡ Some i.storage }
+    ensures levels { (s : State) (t n : ℕ) (c : CallValue) (x j : ℕ) (i : AnEglImage) (y z : BackedTexture) → IsAllowedGl s t n ImageTargetTexture2d c → target_texture s n ≡ Some x → target_image s n c ≡ Some i → texture_in s.objects x ≡ Some y → length y.levels ≡ LEVELS → texture_in (step s t c).state.objects x ≡ Some z → j ≢ 0 → storage_at j z ≡ None }
+    ensures renderbuffer { (s : State) (t n : ℕ) (c : CallValue) (x : ℕ) (i : AnEglImage) (z : BackedRenderbuffer) → IsAllowedGl s t n ImageTargetRenderbufferStorage c → target_renderbuffer s n ≡ Some x → target_image s n c ≡ Some i → renderbuffer_in (step s t c).state.objects x ≡ Some z → z.storage ≡ Some i.storage }
+    ensures sides { (s : State) (t n : ℕ) (c : CallValue) (x : ℕ) (i : AnEglImage) (v : StorageValue) (z : BackedRenderbuffer) → IsAllowedGl s t n ImageTargetRenderbufferStorage c → target_renderbuffer s n ≡ Some x → target_image s n c ≡ Some i → storage_in s.objects i.storage ≡ Some v → renderbuffer_in (step s t c).state.objects x ≡ Some z → z.renderbuffer ≡ of_kind Color v.width v.height }
+{}
+
+/// A call that gives a level of a texture or a renderbuffer other pixels, new ones or those of an EGL image, changes that object alone: each other object that is still there is as it was, and so is each storage. So siblings keep the pixels that they share (sections 3.7.1 and 3.7.2; OES_framebuffer_object; OES_EGL_image).
+pub fn siblings_keep_their_pixels()
+    ensures given { (s : State) (t n : ℕ) (c : CallValue) → IsAllowedGl s t n TexImage2d c → LeavesSiblings s (step s t c).state (target_texture s n) }
+    ensures copied { (s : State) (t n : ℕ) (c : CallValue) → IsAllowedGl s t n CopyTexImage2d c → LeavesSiblings s (step s t c).state (target_texture s n) }
+    ensures stored { (s : State) (t n : ℕ) (c : CallValue) → IsAllowedGl s t n RenderbufferStorage c → LeavesSiblings s (step s t c).state (target_renderbuffer s n) }
+    ensures texture { (s : State) (t n : ℕ) (c : CallValue) → IsAllowedGl s t n ImageTargetTexture2d c → LeavesSiblings s (step s t c).state (target_texture s n) }
+    ensures renderbuffer { (s : State) (t n : ℕ) (c : CallValue) → IsAllowedGl s t n ImageTargetRenderbufferStorage c → LeavesSiblings s (step s t c).state (target_renderbuffer s n) }
+{}
+
+/// A name that a glDeleteTextures, a glDeleteBuffers, a glDeleteRenderbuffersOES or a glDeleteFramebuffersOES is given is free at once, whoever still has its object bound (sections 3.7.11 and 2.9; OES_framebuffer_object). The object is gone with the last reference to it, as each object is.
 pub fn a_deleted_name_is_free()
     ensures textures { (s : State) (t n : ℕ) (c : CallValue) (x : ℤ) → IsAllowedGl s t n DeleteTextures c → Contains c.list x → is_used (unsigned x) (names_in (step s t c).state (group_of s n) a_texture_name) ≡ false }
     ensures buffers { (s : State) (t n : ℕ) (c : CallValue) (x : ℤ) → IsAllowedGl s t n DeleteBuffers c → Contains c.list x → is_used (unsigned x) (names_in (step s t c).state (group_of s n) a_buffer_name) ≡ false }
     ensures renderbuffers { (s : State) (t n : ℕ) (c : CallValue) (x : ℤ) → IsAllowedGl s t n DeleteRenderbuffers c → Contains c.list x → is_used (unsigned x) (names_in (step s t c).state (group_of s n) a_renderbuffer_name) ≡ false }
+    ensures framebuffers { (s : State) (t n : ℕ) (c : CallValue) (x : ℤ) → IsAllowedGl s t n DeleteFramebuffers c → Contains c.list x → is_used (unsigned x) (names_in (step s t c).state (group_of s n) a_framebuffer_name) ≡ false }
 {}
 
-/// The object of a name that a glDeleteTextures, a glDeleteBuffers or a glDeleteRenderbuffersOES is given isn't bound in the caller's context any more (sections 3.7.11 and 2.9; OES_framebuffer_object).
+/// The object of a name that a glDeleteTextures, a glDeleteBuffers, a glDeleteRenderbuffersOES or a glDeleteFramebuffersOES is given isn't bound in the caller's context any more (sections 3.7.11 and 2.9; OES_framebuffer_object).
 pub fn a_deleted_object_is_unbound()
     ensures textures { (s : State) (t n x : ℕ) (c : CallValue) (v : ℤ) → IsAllowedGl s t n DeleteTextures c → Contains c.list v → object_named s (group_of s n) a_texture_name (unsigned v) ≡ Some x → IfSome (context_in (step s t c).state.objects n) (HasUnbound a_texture_name x) }
     ensures buffers { (s : State) (t n x : ℕ) (c : CallValue) (v : ℤ) → IsAllowedGl s t n DeleteBuffers c → Contains c.list v → object_named s (group_of s n) a_buffer_name (unsigned v) ≡ Some x → IfSome (context_in (step s t c).state.objects n) (HasUnbound a_buffer_name x) }
     ensures renderbuffers { (s : State) (t n x : ℕ) (c : CallValue) (v : ℤ) → IsAllowedGl s t n DeleteRenderbuffers c → Contains c.list v → object_named s (group_of s n) a_renderbuffer_name (unsigned v) ≡ Some x → IfSome (context_in (step s t c).state.objects n) (HasUnbound a_renderbuffer_name x) }
+    ensures framebuffers { (s : State) (t n x : ℕ) (c : CallValue) (v : ℤ) → IsAllowedGl s t n DeleteFramebuffers c → Contains c.list v → object_named s (group_of s n) a_framebuffer_name (unsigned v) ≡ Some x → IfSome (context_in (step s t c).state.objects n) (HasUnbound a_framebuffer_name x) }
+{}
+
+/// The texture or renderbuffer of a name that a glDeleteTextures or a glDeleteRenderbuffersOES is given isn't attached any more to the framebuffer that the caller has bound (OES_framebuffer_object). Whatever else is attached there, and all that is attached to each other framebuffer, stays: that of another context too, and one that isn't bound.
+pub fn a_deleted_object_is_detached()
+    ensures textures { (s : State) (t n x b : ℕ) (c : CallValue) → IsAllowedGl s t n DeleteTextures c → IsNamedBy a_texture_name s n c x → target_framebuffer s n ≡ Some b → IfSome (framebuffer_in (step s t c).state.objects b) (HasDetached x) }
+    ensures renderbuffers { (s : State) (t n x b : ℕ) (c : CallValue) → IsAllowedGl s t n DeleteRenderbuffers c → IsNamedBy a_renderbuffer_name s n c x → target_framebuffer s n ≡ Some b → IfSome (framebuffer_in (step s t c).state.objects b) (HasDetached x) }
+    ensures others_than_textures { (s : State) (t n m : ℕ) (p : APoint) (f : AFramebuffer) (c : CallValue) → IsAllowedGl s t n DeleteTextures c → (target_framebuffer s n ≡ Some m → (x : ℕ) → IsNamedBy a_texture_name s n c x → object_attached (attached_at s.objects m p) ≢ Some x) → framebuffer_in (step s t c).state.objects m ≡ Some f → at_point p f ≡ attached_at s.objects m p }
+    ensures others_than_renderbuffers { (s : State) (t n m : ℕ) (p : APoint) (f : AFramebuffer) (c : CallValue) → IsAllowedGl s t n DeleteRenderbuffers c → (target_framebuffer s n ≡ Some m → (x : ℕ) → IsNamedBy a_renderbuffer_name s n c x → object_attached (attached_at s.objects m p) ≢ Some x) → framebuffer_in (step s t c).state.objects m ≡ Some f → at_point p f ≡ attached_at s.objects m p }
 {}
 
 /// Each other context that is still there is as it was, and so has bound what it had.
@@ -300,6 +352,18 @@ pub fn a_deletion_leaves_other_contexts()
     ensures textures { (s : State) (t n m : ℕ) (c : CallValue) (y : AContext) → IsAllowedGl s t n DeleteTextures c → m ≢ n → context_in (step s t c).state.objects m ≡ Some y → context_in s.objects m ≡ Some y }
     ensures buffers { (s : State) (t n m : ℕ) (c : CallValue) (y : AContext) → IsAllowedGl s t n DeleteBuffers c → m ≢ n → context_in (step s t c).state.objects m ≡ Some y → context_in s.objects m ≡ Some y }
     ensures renderbuffers { (s : State) (t n m : ℕ) (c : CallValue) (y : AContext) → IsAllowedGl s t n DeleteRenderbuffers c → m ≢ n → context_in (step s t c).state.objects m ≡ Some y → context_in s.objects m ≡ Some y }
+    ensures framebuffers { (s : State) (t n m : ℕ) (c : CallValue) (y : AContext) → IsAllowedGl s t n DeleteFramebuffers c → m ≢ n → context_in (step s t c).state.objects m ≡ Some y → context_in s.objects m ≡ Some y }
+{}
+
+/// glCheckFramebufferStatusOES tells the first status that holds of a framebuffer object, each exactly where it does (OES_framebuffer_object, "Framebuffer Completeness"): something may not stand where it is attached; nothing is attached; two of what is attached have different sides; no colour is attached; else it is complete. The window system's framebuffer is complete where the thread has a surface, and undefined where it has none (OES_surfaceless_context).
+pub fn a_status_tells_what_is_attached()
+    ensures complete { (s : State) (t n : ℕ) (c : CallValue) (f : AFramebuffer) → IsCheck s t n c → HasFramebufferBound s t n f → AnswersStatus s t c GL_FRAMEBUFFER_COMPLETE_OES ↔ IsComplete s.objects f }
+    ensures unfit { (s : State) (t n : ℕ) (c : CallValue) (f : AFramebuffer) → IsCheck s t n c → HasFramebufferBound s t n f → AnswersStatus s t c GL_FRAMEBUFFER_INCOMPLETE_ATTACHMENT_OES ↔ HasUnfit s.objects f }
+    ensures bare { (s : State) (t n : ℕ) (c : CallValue) (f : AFramebuffer) → IsCheck s t n c → HasFramebufferBound s t n f → AnswersStatus s t c GL_FRAMEBUFFER_INCOMPLETE_MISSING_ATTACHMENT_OES ↔ IsBare f }
+    ensures unlike { (s : State) (t n : ℕ) (c : CallValue) (f : AFramebuffer) → IsCheck s t n c → HasFramebufferBound s t n f → AnswersStatus s t c GL_FRAMEBUFFER_INCOMPLETE_DIMENSIONS_OES ↔ HasUnlike s.objects f }
+    ensures lacking { (s : State) (t n : ℕ) (c : CallValue) (f : AFramebuffer) → IsCheck s t n c → HasFramebufferBound s t n f → AnswersStatus s t c GL_FRAMEBUFFER_UNSUPPORTED_OES ↔ LacksColor s.objects f }
+    ensures window { (s : State) (t n : ℕ) (c : CallValue) → IsCheck s t n c → HasWindowBound s t → is_some (draw_storage s t) ≡ true → AnswersStatus s t c GL_FRAMEBUFFER_COMPLETE_OES }
+    ensures surfaceless { (s : State) (t n : ℕ) (c : CallValue) → IsCheck s t n c → HasWindowBound s t → draw_storage s t ≡ None → AnswersStatus s t c GL_FRAMEBUFFER_UNDEFINED_OES }
 {}
 
 /// eglCreateContext answers EGL_BAD_ALLOC exactly where nothing else is wrong, and no number is left for its handle (section 3.7.1).
@@ -318,6 +382,12 @@ pub fn a_window_wants_to_be_free_pixels_or_a_number()
 pub fn a_sync_wants_a_number()
     ensures faultless { (s : State) (t : ℕ) (c : CallValue) → IsEglCall s t CreateSync c → Answers s t c BadAlloc → IsFaultlessSync s t c }
     ensures wants { (s : State) (t : ℕ) (c : CallValue) → IsEglCall s t CreateSync c → IsFaultlessSync s t c → Answers s t c BadAlloc ↔ WantsNumber s }
+{}
+
+/// eglCreateImage answers EGL_BAD_ALLOC only where nothing else is wrong, and then exactly where the numbers of handles are used up (section 3.9): an image shares the pixels that it is made of.
+pub fn an_image_wants_a_number()
+    ensures faultless { (s : State) (t : ℕ) (c : CallValue) → IsEglCall s t CreateImage c → Answers s t c BadAlloc → IsFaultlessImage s c }
+    ensures wants { (s : State) (t : ℕ) (c : CallValue) → IsEglCall s t CreateImage c → IsFaultlessImage s c → Answers s t c BadAlloc ↔ WantsNumber s }
 {}
 
 /// An eglClientWaitSync that no rule refuses is satisfied exactly where the sync is signalled behind the flush that it asks for; else it waits where its timeout is for ever, and where it isn't its time is over at once (section 3.8.1.1).

@@ -1,7 +1,6 @@
 -- What comes of picks.
-use Rattle.std.specs.Prelude.{◌≡◌, ℕ, Bool, true, false, List, [], ◌∷◌, ◌++◌}
+use Rattle.std.specs.Prelude.{◌≡◌, ℕ, Bool, false, List, [], ◌∷◌, ◌++◌}
 use Rattle.egl_calls.specs.Journals.{is_halt_kind}
-use Rattle.call_rules.specs.Kinds.{is_built}
 use Rattle.egl_calls.specs.declared.entries.Entry.{Entry}
 use Rattle.egl_model.specs.Step.{step}
 use Rattle.shared_driver.specs.declared.cores.Core.{Core}
@@ -11,11 +10,6 @@ use Rattle.shared_driver.specs.declared.picks.Picked.{Picked}
 use Rattle.shared_driver.specs.declared.picks.Picked.TheVariants.{Replied, Waited, Stopped}
 use Rattle.shared_driver.specs.Cores.{entry}
 use Rattle.shared_driver.specs.Tokens.{AreOthers, Token}
-
--- a call that is picked is of a kind that the driver plays
-abbrev pub IsBuiltPick : Pick → Type 0
-IsBuiltPick (Call mark call) = is_built call.kind ≡ true
-IsBuiltPick p = Unit {0}
 
 abbrev pub halts : Pick → Bool
 halts (Call mark call) = is_halt_kind call.kind
