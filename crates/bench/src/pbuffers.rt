@@ -1,6 +1,5 @@
 //! Makes pbuffers through the library and destroys each before the next, and tells the memory that the process has.
 ghost use Rattle.std.specs.Prelude.{◌≡◌, ◌<◌, true, IfSome};
-ghost use Rattle.call_rules.specs.Kinds.{is_built};
 
 use crate::calls::{PIXEL_BYTES, create_pbuffer, destroy_surface, initialize};
 use crate::extents::Extent;
@@ -25,7 +24,6 @@ const REST: u32 = 9_999_000;
 // A call of the only thread: its value, unless memory ran out.
 fn value(alloc: Global, driver: &mut Driver, call: &Call) -> Option<i64>
     requires made { 0 < driver.old.made }
-    requires built { is_built call.now.kind ≡ true }
     ensures { driver.new.made ≡ driver.old.made }
 {
     match driver.play(alloc, 0, call) {

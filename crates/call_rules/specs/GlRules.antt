@@ -6,7 +6,7 @@ use Rattle.egl_calls.specs.Calls.{CallValue}
 use Rattle.egl_calls.specs.declared.kinds.Kind.{Kind}
 use Rattle.egl_calls.specs.declared.kinds.Kind.TheVariants.{Gl, Own}
 use Rattle.egl_calls.specs.declared.kinds.GlKind.{GlKind}
-use Rattle.egl_calls.specs.declared.kinds.GlKind.TheVariants.{Flush, Finish, Clear, ReadPixels, DrawTexi, DrawTexx, GenTextures, DeleteTextures, IsTexture, BindTexture, TexParameterx, TexParameteriv, TexImage2d, TexSubImage2d, CopyTexImage2d, CopyTexSubImage2d, GenBuffers, DeleteBuffers, IsBuffer, BindBuffer, BufferData, BufferSubData, GetBufferParameteriv, GenRenderbuffers, DeleteRenderbuffers, IsRenderbuffer, BindRenderbuffer, RenderbufferStorage, GetRenderbufferParameteriv}
+use Rattle.egl_calls.specs.declared.kinds.GlKind.TheVariants.{Flush, Finish, Clear, ReadPixels, DrawTexi, DrawTexx, GenTextures, DeleteTextures, IsTexture, BindTexture, TexParameterx, TexParameteriv, TexImage2d, TexSubImage2d, CopyTexImage2d, CopyTexSubImage2d, GenBuffers, DeleteBuffers, IsBuffer, BindBuffer, BufferData, BufferSubData, GetBufferParameteriv, GenRenderbuffers, DeleteRenderbuffers, IsRenderbuffer, BindRenderbuffer, RenderbufferStorage, GetRenderbufferParameteriv, GenFramebuffers, DeleteFramebuffers, IsFramebuffer, BindFramebuffer, FramebufferTexture2d, FramebufferRenderbuffer, CheckFramebufferStatus, GetFramebufferAttachmentParameteriv, ImageTargetTexture2d, ImageTargetRenderbufferStorage}
 use Rattle.egl_calls.specs.declared.kinds.OwnKind.TheVariants.{ReadBuffer}
 use Rattle.egl_calls.specs.declared.errors.GlError.{GlError}
 use Rattle.egl_calls.specs.declared.errors.GlError.TheVariants.{InvalidEnum, InvalidValue, InvalidOperation}
@@ -15,7 +15,8 @@ use Rattle.egl_names.specs.declared.codes.TheConstants.{GL_RGB, GL_RGBA, GL_UNSI
 use Rattle.egl_calls.specs.declared.places.TheConstants.{DRAWN_HEIGHT, DRAWN_WIDTH, FORMAT, HEIGHT, MASK, TYPE, WIDTH}
 use Rattle.call_rules.specs.declared.gl_facts.GlFacts.{GlFacts}
 use Rattle.refusal_rows.specs.Rows.{Row, ◌⇒◌, first_error}
-use Rattle.call_rules.specs.Unbuilt.{unbuilt}
+use Rattle.call_rules.specs.AttachmentRules.{attachment_parameter_rows, framebuffer_renderbuffer_rows, framebuffer_target_row, framebuffer_texture_rows}
+use Rattle.call_rules.specs.ImageTargetRules.{renderbuffer_target_rows, texture_target_rows}
 use Rattle.call_rules.specs.FramebufferRules.{framebuffer_row}
 use Rattle.call_rules.specs.CopyRules.{copy_part_rows, copy_rows}
 use Rattle.call_rules.specs.TextureRules.{count_row, crop_length_row, crop_row, image_rows, name_row, parameter_row, part_rows, texture_row}
@@ -40,6 +41,10 @@ no_gl_facts = record {
   stored_base = 0;
   is_bound = false;
   bound_size = 0;
+  is_named = false;
+  is_attached = false;
+  is_image = false;
+  is_renderable = false;
 }
 
 -- the bits of the buffers that glClear clears (OpenGL ES 1.1, section 4.2.3)
@@ -81,6 +86,10 @@ draw_rows c f =
     (draws_nothing c ⇒ InvalidValue) ∷
     framebuffer_row f ∷
     []
+
+-- the rows of a call that the table hasn't: nothing can be proved of them, so no code can be proved to have them
+pub unlisted : List (Row GlError)
+unlisted = []
 
 -- the rows of each call that asks or changes more than its context's own state, in the order of the tests
 abbrev pub object_rows : GlKind → CallValue → GlFacts → List (Row GlError)
@@ -161,8 +170,25 @@ object_rows GetRenderbufferParameteriv c f =
     renderbuffer_parameter_row c ∷
     bound_row f ∷
     []
--- a call that isn't built
-object_rows k c f = unbuilt InvalidOperation
+object_rows GenFramebuffers c f =
+    count_row c ∷
+    []
+object_rows DeleteFramebuffers c f = []
+object_rows IsFramebuffer c f = []
+object_rows BindFramebuffer c f =
+    framebuffer_target_row c ∷
+    name_row c ∷
+    []
+object_rows FramebufferTexture2d c f = framebuffer_texture_rows c f
+object_rows FramebufferRenderbuffer c f = framebuffer_renderbuffer_rows c f
+object_rows CheckFramebufferStatus c f =
+    framebuffer_target_row c ∷
+    []
+object_rows GetFramebufferAttachmentParameteriv c f = attachment_parameter_rows c f
+-- OES_EGL_image
+object_rows ImageTargetTexture2d c f = texture_target_rows c f
+object_rows ImageTargetRenderbufferStorage c f = renderbuffer_target_rows c f
+object_rows k c f = unlisted
 
 -- a call that asks or sets its context's own state has its rows with that state
 abbrev pub rows_by : Option ContextCall → GlKind → CallValue → GlFacts → List (Row GlError)

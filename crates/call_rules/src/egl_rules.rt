@@ -1,19 +1,19 @@
 //! When each call of EGL is refused.
 ghost use Rattle.std.specs.Prelude.{◌≡◌, ◌+◌, nat_lt, true, not, ◌<◌};
 ghost use Rattle.egl_calls.specs.Arguments.{is_zero};
-ghost use Rattle.call_rules.specs.Kinds.{is_built};
-ghost use Rattle.egl_calls.specs.declared.kinds.EglKind.TheVariants.{CreateWindowSurface, CreatePbufferSurface, SurfaceAttrib, CreateContext, MakeCurrent, CreateSync, WaitSync};
+ghost use Rattle.egl_calls.specs.Calls.{CallValue};
+ghost use Rattle.egl_calls.specs.declared.kinds.EglKind.TheVariants.{CreateWindowSurface, CreatePbufferSurface, SurfaceAttrib, CreateContext, MakeCurrent, CreateSync, WaitSync, CreateImage};
 ghost use Rattle.egl_calls.specs.declared.errors.EglError.TheVariants.{NotInitialized, BadSurface, BadContext, BadParameter};
 ghost use Rattle.refusal_rows.specs.Rows.{first_error, ◌⇒◌};
-ghost use Rattle.call_rules.specs.EglRules.{egl_refusal, egl_rows, fact_rows, display_row, current_rows, has_attributes, has_code, is_one_alone, is_wrong, is_long, is_later_version, is_supported_version};
+ghost use Rattle.call_rules.specs.EglRules.{egl_refusal, egl_rows, display_row, current_rows, has_attributes, has_code, is_one_alone, is_wrong, is_long, is_later_version, is_supported_version};
 
 use crate::egl_facts::EglFacts;
 use egl_calls::arguments::{is_zero, number};
-use egl_calls::places::{API, ATTRIBUTE, CONTEXT, DRAW, FLAGS, READ, READDRAW, SYNC_TYPE, VALUE};
+use egl_calls::places::{API, ATTRIBUTE, CONTEXT, DRAW, FLAGS, IMAGE_SOURCE, READ, READDRAW, SYNC_TYPE, VALUE};
 use egl_calls::{Call, EglError, EglKind, Kind};
 use egl_names::codes::{
-    EGL_BUFFER_DESTROYED, EGL_BUFFER_PRESERVED, EGL_DRAW, EGL_OPENGL_ES_API, EGL_READ,
-    EGL_SWAP_BEHAVIOR, EGL_SYNC_FENCE,
+    EGL_BUFFER_DESTROYED, EGL_BUFFER_PRESERVED, EGL_DRAW, EGL_GL_RENDERBUFFER, EGL_GL_TEXTURE_2D,
+    EGL_OPENGL_ES_API, EGL_READ, EGL_SWAP_BEHAVIOR, EGL_SYNC_FENCE,
 };
 use refusal_rows::first_error;
 
@@ -99,7 +99,7 @@ fn no_sync(facts: &EglFacts) -> (bool, EglError)
 
 /// Section 3.5.1.
 fn create_window_surface(facts: &EglFacts) -> Option<EglError>
-    ensures { result ≡ first_error (fact_rows CreateWindowSurface facts.now) }
+    ensures { (c : CallValue) → result ≡ first_error (egl_rows CreateWindowSurface c facts.now) }
 {
     first_error(&[
         no_display(facts),
@@ -119,7 +119,7 @@ fn create_window_surface(facts: &EglFacts) -> Option<EglError>
 
 /// Section 3.5.2.
 fn create_pbuffer_surface(facts: &EglFacts) -> Option<EglError>
-    ensures { result ≡ first_error (fact_rows CreatePbufferSurface facts.now) }
+    ensures { (c : CallValue) → result ≡ first_error (egl_rows CreatePbufferSurface c facts.now) }
 {
     let is_long = is_long(facts.width) || is_long(facts.height);
     first_error(&[
@@ -157,7 +157,7 @@ fn surface_attrib(call: &Call, facts: &EglFacts) -> Option<EglError>
 
 /// Section 3.7.1.
 fn create_context(facts: &EglFacts) -> Option<EglError>
-    ensures { result ≡ first_error (fact_rows CreateContext facts.now) }
+    ensures { (c : CallValue) → result ≡ first_error (egl_rows CreateContext c facts.now) }
 {
     let is_later = is_later_version(facts.version, facts.minor_version);
     let is_supported = is_supported_version(facts.version, facts.minor_version);
@@ -245,10 +245,29 @@ fn wait_sync(call: &Call, facts: &EglFacts) -> Option<EglError>
     ])
 }
 
+/// Section 3.9.
+fn create_image(call: &Call, facts: &EglFacts) -> Option<EglError>
+    ensures { result ≡ first_error (egl_rows CreateImage call.now facts.now) }
+{
+    let is_kind = has_code(call, IMAGE_SOURCE, EGL_GL_TEXTURE_2D)
+        || has_code(call, IMAGE_SOURCE, EGL_GL_RENDERBUFFER);
+    first_error(&[
+        no_display(facts),
+        uninitialized(facts),
+        no_context(facts),
+        (!is_kind, EglError::BadParameter),
+        (!facts.is_list_allowed, EglError::BadParameter),
+        (!facts.is_source, EglError::BadParameter),
+        (facts.is_incomplete, EglError::BadParameter),
+        (!facts.is_level, EglError::BadMatch),
+        (facts.is_sibling, EglError::BadAccess),
+        (facts.are_handles_used_up, EglError::BadAlloc),
+    ])
+}
+
 /// The error that a call of EGL answers, and None where it isn't refused: a table of the rows of each call, in the order of the tests. A call of another interface has no row.
 #[tactic(auto, unfolding(crate::specs::EglRules::egl_refusal))]
 pub fn egl_refusal(call: &Call, facts: &EglFacts) -> Option<EglError>
-    requires { is_built call.now.kind ≡ true }
     ensures { result ≡ egl_refusal call.now facts.now }
 {
     match call.kind {
@@ -326,7 +345,12 @@ pub fn egl_refusal(call: &Call, facts: &EglFacts) -> Option<EglError>
             no_sync(facts),
             (!facts.is_attribute, EglError::BadAttribute),
         ]),
-        Kind::Egl(_) => unreachable!(),
+        Kind::Egl(EglKind::CreateImage) => create_image(call, facts),
+        Kind::Egl(EglKind::DestroyImage) => first_error(&[
+            no_display(facts),
+            uninitialized(facts),
+            (!facts.is_image, EglError::BadParameter),
+        ]),
         Kind::Gl(_) | Kind::Own(_) => None,
     }
 }

@@ -27,6 +27,14 @@ pub struct GlFacts {
     pub is_bound: bool,
     /// How many bytes a buffer has that is bound there.
     pub bound_size: u64,
+    /// The calls that attach: the name has an object of the kind.
+    pub is_named: bool,
+    /// glGetFramebufferAttachmentParameterivOES: something is attached at the point.
+    pub is_attached: bool,
+    /// The calls that take over an image's pixels: it is a valid image of the context's display.
+    pub is_image: bool,
+    /// The format of those pixels is one that a renderbuffer may have.
+    pub is_renderable: bool,
 }
 
 impl GlFacts {
@@ -46,6 +54,10 @@ impl GlFacts {
             stored_base: 0,
             is_bound: false,
             bound_size: 0,
+            is_named: false,
+            is_attached: false,
+            is_image: false,
+            is_renderable: false,
         }
     }
 }

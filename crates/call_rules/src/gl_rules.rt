@@ -1,16 +1,20 @@
 //! When each call of OpenGL ES is refused.
-ghost use Rattle.call_rules.specs.Kinds.{is_built, is_object_call};
-ghost use Rattle.std.specs.Prelude.{◌≡◌, true};
+ghost use Rattle.context_state.specs.Kinds.{context_gl_call};
+ghost use Rattle.std.specs.Prelude.{◌≡◌, None};
 ghost use Rattle.egl_calls.specs.declared.kinds.GlKind.TheVariants.{ReadPixels};
 ghost use Rattle.refusal_rows.specs.Rows.{first_error};
 ghost use Rattle.call_rules.specs.GlRules.{gl_refusal, object_rows, draw_rows, draws_nothing, is_clear_mask, is_read_format, is_read_type, is_read_pair};
 
+use crate::attachment_rules::{
+    attachment_parameter, framebuffer_renderbuffer, framebuffer_texture, wrong_framebuffer_target,
+};
 use crate::buffer_rules::{
     buffer_data, buffer_part, not_bound, wrong_buffer_parameter, wrong_buffer_target,
 };
 use crate::copy_rules::{copy_tex_image, copy_tex_sub_image};
 use crate::framebuffer_rules::incomplete;
 use crate::gl_facts::GlFacts;
+use crate::image_target_rules::{target_renderbuffer, target_texture};
 use crate::renderbuffer_rules::{
     is_no_side, renderbuffer_storage, wrong_renderbuffer_parameter, wrong_renderbuffer_target,
 };
@@ -92,7 +96,7 @@ fn read_pixels(call: &Call, facts: &GlFacts) -> Option<GlError>
 
 /// The error of a call that asks or changes more than its context's own state: a table of the rows of each, in the order of the tests.
 fn object_refusal(kind: GlKind, call: &Call, facts: &GlFacts) -> Option<GlError>
-    requires { is_object_call kind ≡ true }
+    requires { context_gl_call kind ≡ None }
     ensures { result ≡ first_error (object_rows kind call.now facts.now) }
 {
     match kind {
@@ -137,6 +141,18 @@ fn object_refusal(kind: GlKind, call: &Call, facts: &GlFacts) -> Option<GlError>
             wrong_renderbuffer_parameter(call),
             not_bound(facts),
         ]),
+        GlKind::GenFramebuffers => first_error(&[wrong_count(call)]),
+        GlKind::DeleteFramebuffers => None,
+        GlKind::IsFramebuffer => None,
+        GlKind::BindFramebuffer => {
+            first_error(&[wrong_framebuffer_target(call), wrong_name(call)])
+        }
+        GlKind::FramebufferTexture2d => framebuffer_texture(call, facts),
+        GlKind::FramebufferRenderbuffer => framebuffer_renderbuffer(call, facts),
+        GlKind::CheckFramebufferStatus => first_error(&[wrong_framebuffer_target(call)]),
+        GlKind::GetFramebufferAttachmentParameteriv => attachment_parameter(call, facts),
+        GlKind::ImageTargetTexture2d => target_texture(call, facts),
+        GlKind::ImageTargetRenderbufferStorage => target_renderbuffer(call, facts),
         _ => unreachable!(),
     }
 }
@@ -144,7 +160,6 @@ fn object_refusal(kind: GlKind, call: &Call, facts: &GlFacts) -> Option<GlError>
 /// The error that a call of OpenGL ES, or a `readBuffer`, keeps in its context and comes out with, and None where it isn't refused. Another call has no row.
 #[tactic(auto, unfolding(crate::specs::GlRules::gl_refusal))]
 pub fn gl_refusal(call: &Call, facts: &GlFacts) -> Option<GlError>
-    requires { is_built call.now.kind ≡ true }
     ensures { result ≡ gl_refusal call.now facts.now }
 {
     match call.kind {

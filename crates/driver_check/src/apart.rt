@@ -1,6 +1,5 @@
 //! A driver of two threads, of which the first has its private part beside the driver.
 ghost use Rattle.std.specs.Prelude.{◌≡◌, ◌<◌, true, false, [], ◌∷◌, slice_index_or, OnOk};
-ghost use Rattle.call_rules.specs.Kinds.{is_built};
 ghost use Rattle.egl_model.specs.State.{State, opening};
 ghost use Rattle.model_laws.specs.Sound.{IsSound};
 ghost use Rattle.model_laws.specs.Hidden.{hide};
@@ -93,7 +92,6 @@ fn uncounted<L: Ledger>(
     blank: Blank,
 ) -> Result<Reply, NoMemory>
     requires made { thread < driver.old.made }
-    requires built { is_built call.now.kind ≡ true }
     requires name { blank.name ≡ L.name }
     requires parts { blank.parts ≡ L.parts }
     requires some { 0 < blank.parts }
@@ -105,7 +103,6 @@ fn uncounted<L: Ledger>(
 /// A call that the driver plays.
 fn step(driver: &mut Driver, alloc: Global, thread: u32, call: &Call) -> Result<Reply, NoMemory>
     requires made { thread < driver.old.made }
-    requires built { is_built call.now.kind ≡ true }
     ensures outside { (s : State) → IsSound s → slice_index_or driver.old.away thread false ≡ false → driver.old.state ≡ hide (outs driver.old.away) s → OnOk result (driver.new ≡ record driver.old { state = hide (outs driver.old.away) (step s thread call.now).state }) }
 {
     uncounted::<Brand>(driver, alloc, thread, call, Blank::new(1))
@@ -114,7 +111,6 @@ fn step(driver: &mut Driver, alloc: Global, thread: u32, call: &Call) -> Result<
 /// A call of the other thread, while the part is out.
 pub fn call_of_other(alloc: Global, apart: &mut Apart, call: &Call) -> Result<Reply, NoMemory>
     requires apart { IsApart apart.old.driver apart.old.part }
-    requires built { is_built call.now.kind ≡ true }
     ensures { OnOk result (IsApart apart.new.driver apart.new.part) }
 {
     histories_are_ready();
@@ -127,7 +123,6 @@ pub fn call_of_other(alloc: Global, apart: &mut Apart, call: &Call) -> Result<Re
 pub fn local_call(alloc: Global, apart: &mut Apart, call: &Call) -> Result<Reply, NoMemory>
     requires apart { IsApart apart.old.driver apart.old.part }
     requires local { is_local apart.old.part call.now ≡ true }
-    requires built { is_built call.now.kind ≡ true }
     ensures { OnOk result (IsApart apart.new.driver apart.new.part) }
 {
     histories_are_ready();
@@ -139,7 +134,6 @@ pub fn local_call(alloc: Global, apart: &mut Apart, call: &Call) -> Result<Reply
 // A call of the first thread, with its part in.
 fn call_joined(alloc: Global, driver: &mut Driver, call: &Call) -> Result<Reply, NoMemory>
     requires joined { IsJoined driver.old }
-    requires built { is_built call.now.kind ≡ true }
     ensures { OnOk result (IsJoined driver.new) }
 {
     histories_are_ready();
@@ -150,7 +144,6 @@ fn call_joined(alloc: Global, driver: &mut Driver, call: &Call) -> Result<Reply,
 /// Another call of it: its part is in for as long as the driver plays the call.
 pub fn shared_call(rt: &impl Abort, alloc: Global, apart: Apart, call: &Call) -> (Apart, Reply)
     requires apart { IsApart apart.driver apart.part }
-    requires built { is_built call.now.kind ≡ true }
     ensures { IsApart result.0.driver result.0.part }
 {
     let mut driver = put_back(apart);

@@ -1,6 +1,5 @@
 //! The driver's calls that may run out of memory, with ample memory.
 ghost use Rattle.std.specs.Prelude.{◌≡◌, ◌<◌, true, IfOk};
-ghost use Rattle.call_rules.specs.Kinds.{is_built};
 ghost use Rattle.egl_calls.specs.declared.kinds.Kind.TheVariants.{Egl};
 
 use call_rules::is_built;
@@ -14,7 +13,6 @@ use std::test::Fail;
 /// Plays a call with one number.
 fn play(alloc: Global, driver: &mut Driver, kind: EglKind, number: u32) -> Result<Reply, NoMemory>
     requires made { 0 < driver.old.made }
-    requires built { is_built (Egl kind) ≡ true }
     ensures made { driver.new.made ≡ driver.old.made }
 {
     let call = Call {

@@ -1,6 +1,5 @@
 //! Many threads with a token each.
 ghost use Rattle.std.specs.Prelude.{All, vec_len, vec_capacity, ◌+◌, ◌<◌, ◌≤◌, ◌≡◌, true, false};
-ghost use Rattle.call_rules.specs.Kinds.{is_built};
 ghost use Rattle.egl_model.specs.Waits.{is_wait_end};
 ghost use Rattle.shared_driver.specs.Tokens.{IsOf};
 
@@ -28,7 +27,6 @@ pub fn opened<R: Abort>(rt: &R, alloc: Global, video: u64) -> Opened
 
 // The display's call, or one of any kind that is built, or of any that a thread's part may answer.
 fn call_of(alloc: Global, draws: &mut Draws, any: bool, own: bool) -> Call
-    ensures built { is_built result.kind ≡ true }
     ensures kind { is_wait_end result.kind ≡ false }
 {
     if own {
@@ -52,7 +50,6 @@ fn made<R: Abort + Wait>(
     counted: &AtomicU64,
 ) -> Reply
     requires owns { IsOf shared.now thread.old }
-    requires built { is_built call.kind ≡ true }
     requires kind { is_wait_end call.kind ≡ false }
     ensures { IsOf shared.now thread.new }
 {

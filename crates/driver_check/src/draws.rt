@@ -1,6 +1,5 @@
 //! Calls in a random order, by a fixed seed.
 ghost use Rattle.std.specs.Prelude.{◌≡◌, ◌<◌, true, false, All};
-ghost use Rattle.call_rules.specs.Kinds.{is_built};
 ghost use Rattle.egl_calls.specs.Ranges.{IsNumber};
 ghost use Rattle.egl_model.specs.Waits.{is_wait_end};
 
@@ -61,7 +60,6 @@ impl Draws {
 
 // The kinds that are built, but for the end of a wait.
 fn kind_of(place: u32) -> Kind
-    ensures built { is_built result ≡ true }
     ensures kind { is_wait_end result ≡ false }
 {
     match place {
@@ -132,7 +130,6 @@ const TERMINATE: u32 = 2;
 const FREQUENT: [u32; 12] = [1, 7, 13, 15, 15, 23, 32, 33, 42, 45, 53, 54];
 
 fn drawn_kind(draws: &mut Draws) -> Kind
-    ensures built { is_built result ≡ true }
     ensures kind { is_wait_end result ≡ false }
 {
     let any = draws.next(58);
@@ -192,7 +189,6 @@ pub fn surface_list(alloc: Global, width: u32, height: u32) -> Numbers
 
 /// eglGetDisplay of the default display.
 pub fn display_call(alloc: Global) -> Call
-    ensures built { is_built result.kind ≡ true }
     ensures kind { is_wait_end result.kind ≡ false }
 {
     Call {
@@ -321,7 +317,6 @@ const OWN: [u32; 13] = [0, 11, 12, 16, 17, 18, 28, 31, 32, 33, 47, 48, 49];
 
 /// A call that a thread's private part may answer, with numbers and sizes that are small.
 pub fn own_call(alloc: Global, draws: &mut Draws) -> Call
-    ensures built { is_built result.kind ≡ true }
     ensures kind { is_wait_end result.kind ≡ false }
 {
     let kind = kind_of(OWN[draws.next(13) as usize]);
@@ -331,7 +326,6 @@ pub fn own_call(alloc: Global, draws: &mut Draws) -> Call
 
 /// A call of a kind that the driver plays, on the first display, with numbers and sizes that are small.
 pub fn built_call(alloc: Global, draws: &mut Draws) -> Call
-    ensures built { is_built result.kind ≡ true }
     ensures kind { is_wait_end result.kind ≡ false }
 {
     let kind = drawn_kind(draws);

@@ -1,12 +1,10 @@
 //! A thread's part goes out and comes back between the calls of another thread, and leaves every reply as without it.
 ghost use Rattle.std.specs.Prelude.{◌≡◌, ◌<◌, true, All};
-ghost use Rattle.call_rules.specs.Kinds.{is_built};
 ghost use Rattle.egl_calls.specs.Ranges.{IsNumber};
 ghost use Rattle.driver_check.specs.Apart.{IsApart};
 
 use crate::apart::{APART, Apart, OTHER, call_of_other, local_call, opened, shared_call, taken};
 use crate::replays::is_same;
-use call_rules::is_built;
 use driver_core::Driver;
 use egl_calls::{Call, EglKind, GlKind, Kind, Numbers, OwnKind, Reply};
 use egl_names::codes::{
@@ -185,7 +183,6 @@ fn plain_reply(
     call: &Call,
 ) -> Reply
     requires made { thread < driver.old.made }
-    requires built { is_built call.now.kind ≡ true }
     ensures made { driver.new.made ≡ driver.old.made }
 {
     let Ok(reply) = driver.play(alloc, thread, call) else {
@@ -203,7 +200,6 @@ fn reply_apart(
     call: &Call,
 ) -> (Apart, Reply)
     requires apart { IsApart apart.driver apart.part }
-    requires built { is_built call.now.kind ≡ true }
     ensures { IsApart result.0.driver result.0.part }
 {
     if thread == OTHER {
@@ -231,7 +227,7 @@ fn both(
     ensures apart { IsApart result.0.driver result.0.part }
 {
     let (thread, kind, numbers) = *row;
-    assert!(rt; thread <= OTHER && is_built(kind), "{kind:?}");
+    assert!(rt; thread <= OTHER, "{kind:?}");
     let call = call(alloc, kind, numbers);
     let wanted = plain_reply(rt, alloc, whole, thread, &call);
     let (apart, reply) = reply_apart(rt, alloc, apart, thread, &call);

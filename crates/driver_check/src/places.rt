@@ -1,6 +1,5 @@
 //! Calls that a thread's private part answers, and the places that they take.
 ghost use Rattle.std.specs.Prelude.{◌≡◌, true, false};
-ghost use Rattle.call_rules.specs.Kinds.{is_built};
 ghost use Rattle.egl_model.specs.Waits.{is_wait_end};
 ghost use Rattle.shared_driver.specs.Tokens.{IsOf};
 
@@ -21,7 +20,6 @@ pub enum Step {
 }
 
 fn call_of(alloc: Global, step: Step) -> Call
-    ensures built { is_built result.kind ≡ true }
     ensures kind { is_wait_end result.kind ≡ false }
 {
     let kind = match step {

@@ -1,7 +1,6 @@
 //! A journal, played again by a driver of one thread.
 ghost use Rattle.std.specs.Prelude.{◌≤◌};
 
-use call_rules::is_built;
 use driver_core::Driver;
 use egl_calls::{Entry, Journal, Reply};
 use std::alloc::Global;
@@ -32,7 +31,7 @@ fn opened<R: Abort>(rt: &R, alloc: Global, threads: u32, video: u64) -> Driver
 
 /// Whether a driver answers a call as an entry says.
 fn is_answered<R: Abort>(rt: &R, alloc: Global, driver: &mut Driver, entry: &Entry) -> bool {
-    if entry.thread >= driver.threads() || !is_built(entry.call.kind) {
+    if entry.thread >= driver.threads() {
         return false;
     }
     match driver.play(alloc, entry.thread, &entry.call) {

@@ -1,6 +1,5 @@
 //! One thread waits for a fence that another thread's flush signals.
 ghost use Rattle.std.specs.Prelude.{◌≡◌, true, false, All};
-ghost use Rattle.call_rules.specs.Kinds.{is_built};
 ghost use Rattle.egl_calls.specs.declared.kinds.Kind.TheVariants.{Egl as EglCall};
 ghost use Rattle.egl_model.specs.Waits.{is_wait_end};
 ghost use Rattle.shared_driver.specs.Tokens.{IsOf};
@@ -47,7 +46,6 @@ fn played<R: Abort + Wait>(
     call: Call,
 ) -> Reply
     requires owns { IsOf shared.now thread.old }
-    requires built { is_built call.kind ≡ true }
     requires kind { is_wait_end call.kind ≡ false }
     ensures { IsOf shared.now thread.new }
 {

@@ -1,9 +1,7 @@
 //! Two threads at one driver: what a thread that waits is answered. A trace shows nothing of it, since its threads make no call while they wait.
 ghost use Rattle.std.specs.Prelude.{◌≡◌, ◌<◌, true};
-ghost use Rattle.call_rules.specs.Kinds.{is_built};
 
 use crate::apart::opened;
-use call_rules::is_built;
 use driver_core::Driver;
 use egl_calls::{Call, EglError, EglKind, GlKind, Kind, Numbers, Outcome, OwnKind};
 use egl_names::codes::{EGL_CONDITION_SATISFIED, EGL_SUCCESS, EGL_SYNC_FENCE, EGL_TIMEOUT_EXPIRED};
@@ -231,7 +229,6 @@ fn is_answered(
     value: i64,
 ) -> bool
     requires made { thread < driver.old.made }
-    requires built { is_built call.now.kind ≡ true }
     ensures made { driver.new.made ≡ driver.old.made }
 {
     match driver.play(alloc, thread, call) {
@@ -246,7 +243,7 @@ fn holds(alloc: Global, driver: &mut Driver, row: &Row) -> bool
     ensures made { driver.new.made ≡ 2 }
 {
     let (thread, kind, numbers, last, outcome, value, is_ready) = *row;
-    if thread > DRAWING || !is_built(kind) {
+    if thread > DRAWING {
         return false;
     }
     let call = call(alloc, kind, numbers, last);

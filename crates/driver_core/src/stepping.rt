@@ -5,7 +5,6 @@ ghost use Rattle.driver_core.specs.Releases.{links, releases};
 ghost use Rattle.egl_model.specs.Sweep.{sweep};
 ghost use Rattle.thread_part.specs.Memory.{clears_nothing};
 ghost use Rattle.driver_core.specs.Memory.{egl_takes_no_memory, gl_takes_no_memory, takes_no_memory, is_bare, is_bare_on};
-ghost use Rattle.call_rules.specs.Kinds.{is_built, is_object_call};
 ghost use Rattle.egl_calls.specs.declared.kinds.Kind.TheVariants.{Egl as EglCall, Gl as GlCall};
 ghost use Rattle.egl_calls.specs.Ranges.{IsNumber};
 ghost use Rattle.attrib_lists.specs.Lists.{bad_place};
@@ -66,7 +65,6 @@ impl Driver {
     ) -> Result<ReplyPair, NoMemory>
         requires made { thread < self.old.made }
         requires kind { call.now.kind ≡ EglCall kind }
-        requires built { is_built (EglCall kind) ≡ true }
         requires allowed { egl_refusal self.old.state thread kind call.now ≡ None }
         requires keeps { releases kind ≡ false }
         requires goes { (record_of self.old.state thread).wait ≡ None }
@@ -130,7 +128,6 @@ impl Driver {
     ) -> Result<ReplyPair, NoMemory>
         requires made { thread < self.old.made }
         requires kind { call.now.kind ≡ EglCall kind }
-        requires built { is_built (EglCall kind) ≡ true }
         requires allowed { egl_refusal self.old.state thread kind call.now ≡ None }
         requires goes { (record_of self.old.state thread).wait ≡ None }
         ensures reply { IfOk result (λ r. r.reply ≡ done (egl_effect self.old.state thread kind call.now)) }
@@ -183,7 +180,6 @@ impl Driver {
     ) -> Result<ReplyPair, NoMemory>
         requires made { thread < self.old.made }
         requires kind { call.now.kind ≡ EglCall kind }
-        requires built { is_built (EglCall kind) ≡ true }
         requires goes { (record_of self.old.state thread).wait ≡ None }
         ensures reply { IfOk result (λ r. r.reply ≡ (egl_step self.old.state thread kind call.now).reply) }
         ensures state { OnOk result (self.new ≡ record self.old { state = (egl_step self.old.state thread kind call.now).state }) }
@@ -216,7 +212,7 @@ impl Driver {
     ) -> Result<ReplyPair, NoMemory>
         requires made { thread < self.old.made }
         requires kind { call.now.kind ≡ GlCall kind }
-        requires object { is_object_call kind ≡ true }
+        requires object { context_gl_call kind ≡ None }
         requires allowed { gl_refusal self.old.state thread context kind call.now ≡ None }
         requires keeps { links kind ≡ false }
         ensures reply { IfOk result (λ r. r.reply ≡ done (object_effect self.old.state thread context kind call.now)) }
@@ -301,7 +297,6 @@ impl Driver {
     ) -> Result<ReplyPair, NoMemory>
         requires made { thread < self.old.made }
         requires kind { call.now.kind ≡ GlCall kind }
-        requires built { is_built (GlCall kind) ≡ true }
         requires allowed { gl_refusal self.old.state thread context kind call.now ≡ None }
         requires keeps { links kind ≡ false }
         ensures reply { IfOk result (λ r. r.reply ≡ done (gl_effect self.old.state thread context kind call.now)) }
@@ -331,7 +326,6 @@ impl Driver {
     ) -> Result<ReplyPair, NoMemory>
         requires made { thread < self.old.made }
         requires kind { call.now.kind ≡ GlCall kind }
-        requires built { is_built (GlCall kind) ≡ true }
         requires allowed { gl_refusal self.old.state thread context kind call.now ≡ None }
         ensures reply { IfOk result (λ r. r.reply ≡ done (gl_effect self.old.state thread context kind call.now)) }
         ensures state { OnOk result (self.new ≡ record self.old { state = sweep (gl_effect self.old.state thread context kind call.now).state }) }
@@ -397,7 +391,6 @@ impl Driver {
     ) -> Result<ReplyPair, NoMemory>
         requires made { thread < self.old.made }
         requires kind { call.now.kind ≡ GlCall kind }
-        requires built { is_built (GlCall kind) ≡ true }
         ensures reply { IfOk result (λ r. r.reply ≡ (gl_step self.old.state thread kind call.now).reply) }
         ensures state { OnOk result (self.new ≡ record self.old { state = (gl_step self.old.state thread kind call.now).state }) }
         ensures steps { IsCheap self.old.state self.new.state steps.old steps.new }
@@ -426,7 +419,6 @@ impl Driver {
         steps: &mut Steps<L>,
     ) -> Result<ReplyPair, NoMemory>
         requires made { thread < self.old.made }
-        requires built { is_built call.now.kind ≡ true }
         requires goes { (record_of self.old.state thread).wait ≡ None }
         ensures reply { IfOk result (λ r. r.reply ≡ (step_by self.old.state thread call.now.kind call.now).reply) }
         ensures state { OnOk result (self.new ≡ record self.old { state = (step_by self.old.state thread call.now.kind call.now).state }) }
@@ -453,7 +445,6 @@ impl Driver {
         steps: &mut Steps<L>,
     ) -> Result<ReplyPair, NoMemory>
         requires made { thread < self.old.made }
-        requires built { is_built call.now.kind ≡ true }
         ensures reply { IfOk result (λ r. r.reply ≡ (step self.old.state thread call.now).reply) }
         ensures state { OnOk result (self.new ≡ record self.old { state = (step self.old.state thread call.now).state }) }
         ensures steps { IsCheap self.old.state self.new.state steps.old steps.new }
@@ -478,7 +469,6 @@ impl Driver {
         steps: &mut Steps<L>,
     ) -> Result<Reply, NoMemory>
         requires made { thread < self.old.made }
-        requires built { is_built call.now.kind ≡ true }
         ensures reply { IfOk result (λ r. r ≡ (step self.old.state thread call.now).reply) }
         ensures state { OnOk result (self.new ≡ record self.old { state = (step self.old.state thread call.now).state }) }
         ensures outside { (s : State) → IsSound s → slice_index_or self.old.away thread false ≡ false → self.old.state ≡ hide (outs self.old.away) s → IfOk result (λ r. r ≡ (step s thread call.now).reply) × OnOk result (self.new ≡ record self.old { state = hide (outs self.old.away) (step s thread call.now).state }) }
@@ -503,7 +493,6 @@ impl Driver {
         steps: &mut Steps<L>,
     ) -> Result<ReplyPair, NoMemory>
         requires made { thread < self.old.made }
-        requires built { is_built call.now.kind ≡ true }
         ensures reply { IfOk result (λ r. r.reply ≡ (step self.old.state thread call.now).reply) }
         ensures state { OnOk result (self.new ≡ record self.old { state = (step self.old.state thread call.now).state }) }
         ensures outside { (s : State) → IsSound s → slice_index_or self.old.away thread false ≡ false → self.old.state ≡ hide (outs self.old.away) s → IfOk result (λ r. r.reply ≡ (step s thread call.now).reply) × OnOk result (self.new ≡ record self.old { state = hide (outs self.old.away) (step s thread call.now).state }) }

@@ -6,7 +6,7 @@ ghost use Rattle.driver_objects.specs.Targets.{binding_of, buffer_target, name_k
 use crate::contexts::BoundObjects;
 use egl_names::codes::{
     GL_ARRAY_BUFFER_BINDING, GL_ELEMENT_ARRAY_BUFFER, GL_ELEMENT_ARRAY_BUFFER_BINDING,
-    GL_RENDERBUFFER_BINDING_OES, GL_TEXTURE_BINDING_2D,
+    GL_FRAMEBUFFER_BINDING_OES, GL_RENDERBUFFER_BINDING_OES, GL_TEXTURE_BINDING_2D,
 };
 use share_group::NameKind;
 
@@ -17,6 +17,7 @@ pub enum BindTarget {
     ArrayBuffer,
     ElementArrayBuffer,
     Renderbuffer,
+    Framebuffer,
 }
 
 impl BindTarget {
@@ -30,6 +31,7 @@ impl BindTarget {
             BindTarget::ArrayBuffer => 3,
             BindTarget::ElementArrayBuffer => 4,
             BindTarget::Renderbuffer => 5,
+            BindTarget::Framebuffer => 6,
         }
     }
 
@@ -42,6 +44,7 @@ impl BindTarget {
             BindTarget::ArrayBuffer => GL_ARRAY_BUFFER_BINDING,
             BindTarget::ElementArrayBuffer => GL_ELEMENT_ARRAY_BUFFER_BINDING,
             BindTarget::Renderbuffer => GL_RENDERBUFFER_BINDING_OES,
+            BindTarget::Framebuffer => GL_FRAMEBUFFER_BINDING_OES,
         }
     }
 
@@ -53,6 +56,7 @@ impl BindTarget {
             BindTarget::Texture => NameKind::Texture,
             BindTarget::ArrayBuffer | BindTarget::ElementArrayBuffer => NameKind::Buffer,
             BindTarget::Renderbuffer => NameKind::Renderbuffer,
+            BindTarget::Framebuffer => NameKind::Framebuffer,
         }
     }
 
@@ -65,6 +69,7 @@ impl BindTarget {
             BindTarget::ArrayBuffer => bound.array_buffer,
             BindTarget::ElementArrayBuffer => bound.element_array_buffer,
             BindTarget::Renderbuffer => bound.renderbuffer,
+            BindTarget::Framebuffer => bound.framebuffer,
         }
     }
 }

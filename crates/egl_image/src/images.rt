@@ -2,7 +2,8 @@
 ghost use Rattle.std.specs.Prelude.{◌≡◌};
 ghost use Rattle.egl_image.specs.Images.{may_create, may_target_renderbuffer};
 
-use pixel_formats::{Base, Format, base_of};
+use framebuffer_objects::is_color_renderable;
+use pixel_formats::Format;
 
 /// An EGL image: the number of the pixel storage that its siblings share.
 #[derive(Clone, Copy, Debug, PartialEq, Eq, Drop)]
@@ -21,8 +22,5 @@ pub fn may_create(references: u64) -> bool
 pub fn may_target_renderbuffer(format: Format) -> bool
     ensures { result ≡ may_target_renderbuffer format }
 {
-    match base_of(format) {
-        Base::Rgb | Base::Rgba => true,
-        Base::Alpha | Base::Luminance | Base::LuminanceAlpha => false,
-    }
+    is_color_renderable(format)
 }

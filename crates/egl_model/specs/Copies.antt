@@ -14,7 +14,7 @@ use Rattle.texture_objects.specs.Forms.{form_of}
 use Rattle.driver_objects.specs.Storages.{StorageValue, copied_image, recopied_storage, stored}
 use Rattle.driver_objects.specs.declared.objects.Object.{Object}
 use Rattle.egl_model.specs.State.{State}
-use Rattle.egl_model.specs.Currents.{bound_framebuffer}
+use Rattle.egl_model.specs.Framebuffers.{bound_framebuffer}
 use Rattle.egl_model.specs.Objects.{change_storage, storage_in}
 use Rattle.egl_model.specs.Textures.{level_of, level_storage, specified, target_texture}
 

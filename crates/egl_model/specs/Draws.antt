@@ -18,7 +18,8 @@ use Rattle.driver_objects.specs.declared.objects.Object.{Object}
 use Rattle.driver_objects.specs.declared.textures.BackedTexture.{BackedTexture}
 use Rattle.egl_model.specs.State.{State}
 use Rattle.egl_model.specs.Objects.{change_storage, storage_in, texture_in}
-use Rattle.egl_model.specs.Currents.{bound_framebuffer, part_of_context}
+use Rattle.egl_model.specs.Currents.{part_of_context}
+use Rattle.egl_model.specs.Framebuffers.{bound_framebuffer}
 use Rattle.egl_model.specs.Textures.{storage_at, target_texture}
 
 -- a number of a draw in 16.16 fixed point: those of glDrawTexiOES are whole

@@ -82,6 +82,12 @@ specified k v (Some x) s = record s { objects = specified_in k v x s.objects }
 abbrev pub storage_at : ℕ → BackedTexture → Option ℕ
 storage_at k x = slice_index_or x.levels k None
 
+-- the same of any object that has pixels
+abbrev pub pixels_at : ℕ → Option Object → Option ℕ
+pixels_at k (Some (Texture x)) = storage_at k x
+pixels_at k (Some (Renderbuffer r)) = if k == 0 then r.storage else None
+pixels_at k o = None
+
 -- the storage of a level of the texture on which calls work
 abbrev pub level_storage : State → ℕ → ℕ → Option ℕ
 level_storage s n k = option_and_then (storage_at k) (option_and_then (texture_in s.objects) (target_texture s n))

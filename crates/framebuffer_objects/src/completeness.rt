@@ -1,8 +1,9 @@
 //! Whether a framebuffer is complete.
 ghost use Rattle.std.specs.Prelude.{◌≡◌, pos};
 ghost use Rattle.egl_calls.specs.Ranges.{IsNumber};
-ghost use Rattle.framebuffer_objects.specs.Completeness.{differ, is_incomplete, part_at, status};
+ghost use Rattle.framebuffer_objects.specs.Completeness.{color_part, differ, is_color_renderable, is_incomplete, no_part, part_at, status, unattachable};
 
+use pixel_formats::{Base, Format, base_of};
 use egl_names::codes::{
     GL_FRAMEBUFFER_COMPLETE_OES, GL_FRAMEBUFFER_INCOMPLETE_ATTACHMENT_OES,
     GL_FRAMEBUFFER_INCOMPLETE_DIMENSIONS_OES, GL_FRAMEBUFFER_INCOMPLETE_MISSING_ATTACHMENT_OES,
@@ -16,6 +17,54 @@ pub struct Part {
     pub attachable: bool,
     pub w: u32,
     pub h: u32,
+}
+
+/// Whether a colour attachment may have pixels of this format: those that have red, green and blue.
+pub fn is_color_renderable(format: Format) -> bool
+    ensures { result ≡ is_color_renderable format }
+{
+    match base_of(format) {
+        Base::Rgb | Base::Rgba => true,
+        Base::Alpha | Base::Luminance | Base::LuminanceAlpha => false,
+    }
+}
+
+impl Part {
+    /// Nothing is attached.
+    pub const fn none() -> Part
+        ensures { result ≡ no_part }
+    {
+        Part {
+            present: false,
+            attachable: false,
+            w: 0,
+            h: 0,
+        }
+    }
+
+    /// Something is attached that may not be there, such as a texture without storage.
+    pub const fn unattachable() -> Part
+        ensures { result ≡ unattachable }
+    {
+        Part {
+            present: true,
+            attachable: false,
+            w: 0,
+            h: 0,
+        }
+    }
+
+    /// Pixels of a format with these sides are attached as colour.
+    pub fn color(format: Format, w: u32, h: u32) -> Part
+        ensures { result ≡ color_part format w h }
+    {
+        Part {
+            present: true,
+            attachable: is_color_renderable(format) && w > 0 && h > 0,
+            w,
+            h,
+        }
+    }
 }
 
 fn is_incomplete(part: Part) -> bool

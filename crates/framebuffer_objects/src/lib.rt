@@ -3,13 +3,15 @@
 //! Its tests are in `pixel_check`.
 #![tactic(auto)]
 
+mod attachments;
 mod completeness;
 mod framebuffers;
 mod internal_formats;
 mod points;
 mod renderbuffers;
 
-pub use completeness::{Part, status};
+pub use attachments::{attachment_point, is_attachment};
+pub use completeness::{Part, is_color_renderable, status};
 pub use framebuffers::{Attached, Framebuffer};
 pub use internal_formats::{format_of, is_internal};
 pub use points::Point;

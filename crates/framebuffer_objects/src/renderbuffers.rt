@@ -1,10 +1,12 @@
 //! Renderbuffers.
 ghost use Rattle.std.specs.Prelude.{◌≡◌, ◌≤◌, true, Some, None, IsOk, IfOk, OnOk, OnErr};
 ghost use Rattle.egl_calls.specs.Ranges.{unsigned};
+ghost use Rattle.framebuffer_objects.specs.Completeness.{is_for, renderbuffer_part};
 ghost use Rattle.framebuffer_objects.specs.InternalFormats.{format_of, is_internal, point_of};
 ghost use Rattle.framebuffer_objects.specs.Renderbuffers.{fresh, of_kind, pixels_of};
 ghost use Rattle.framebuffer_objects.specs.declared.points.Point.TheVariants.{Color};
 
+use crate::completeness::Part;
 use crate::internal_formats::{format_of, point_of};
 use crate::points::Point;
 use egl_calls::{NoMemory, unsigned};
@@ -39,6 +41,17 @@ impl Renderbuffer {
             point: None,
             width: 0,
             height: 0,
+        }
+    }
+
+    fn is_for(&self, point: Point) -> bool
+        ensures { result ≡ is_for point self.now.point }
+    {
+        match (point, self.point) {
+            (Point::Color, Some(Point::Color))
+            | (Point::Depth, Some(Point::Depth))
+            | (Point::Stencil, Some(Point::Stencil)) => true,
+            _ => false,
         }
     }
 
@@ -79,6 +92,18 @@ impl Renderbuffer {
         ensures { self.new ≡ of_kind Color w h }
     {
         self.become_kind(Point::Color, w, h);
+    }
+
+    /// What it is at the depth or the stencil point of a framebuffer: it may be there where its storage is for that point, and has no side of 0.
+    pub fn part(&self, point: Point) -> Part
+        ensures { result ≡ renderbuffer_part point self.now }
+    {
+        Part {
+            present: true,
+            attachable: self.is_for(point) && self.width > 0 && self.height > 0,
+            w: self.width,
+            h: self.height,
+        }
     }
 
     /// The kind of its storage, and none before it has any.

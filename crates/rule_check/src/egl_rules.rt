@@ -1,5 +1,5 @@
 //! Calls of EGL: tables of conditions that hold alone or together, and the error that comes first.
-use call_rules::{EglFacts, egl_refusal, is_built};
+use call_rules::{EglFacts, egl_refusal};
 use egl_calls::{Call, EglError, EglKind, Kind, Numbers};
 use egl_names::codes::EGL_SYNC_FENCE;
 use std::alloc::Global;
@@ -409,7 +409,6 @@ pub(crate) fn egl_call(alloc: Global, kind: EglKind, args: [u32; 4]) -> Call {
 
 /// Each row's error is answered to the call.
 fn expect_egl(rt: &impl Abort, call: &Call, rows: &[EglRow]) {
-    assert!(rt; is_built(call.kind));
     for (buts, error) in rows {
         assert_eq!(rt; egl_refusal(call, &facts_but(buts)), *error);
     }
@@ -614,6 +613,5 @@ fn facts_that_are_not_asked_for_may_be_missing(rt: HostRuntime) {
         is_display: true,
         ..EglFacts::none()
     };
-    assert!(rt; is_built(call.kind));
     assert_eq!(rt; egl_refusal(&call, &facts), Some(EglError::NotInitialized));
 }

@@ -1,6 +1,6 @@
 //! Calls of OpenGL ES: tables of their numbers, and the error that comes first.
 use crate::egl_rules::egl_call;
-use call_rules::{EglFacts, GlFacts, egl_refusal, gl_refusal, is_built};
+use call_rules::{EglFacts, GlFacts, egl_refusal, gl_refusal};
 use egl_calls::{Call, EglKind, GlError, GlKind, Kind, Numbers};
 use egl_names::codes::{
     GL_ALPHA, GL_RGB, GL_RGBA, GL_TEXTURE_2D, GL_UNSIGNED_BYTE, GL_UNSIGNED_SHORT_4_4_4_4,
@@ -307,7 +307,6 @@ fn gl_call(alloc: Global, kind: GlKind, numbers: [i32; 3], codes: [u32; 2]) -> C
 fn expect_gl(rt: &impl Abort, alloc: Global, kind: GlKind, rows: &[GlRow]) {
     for (numbers, codes, is_framebuffer_complete, error) in rows {
         let call = gl_call(alloc, kind, *numbers, *codes);
-        assert!(rt; is_built(call.kind));
         let facts = GlFacts {
             is_framebuffer_complete: *is_framebuffer_complete,
             ..GlFacts::none()
@@ -351,7 +350,6 @@ fn texture_call(alloc: Global, kind: GlKind, args: [u32; 8]) -> Call {
 fn an_image_fits_up_to_the_last_byte(rt: HostRuntime) {
     let numbers = [TEXTURE, 0, RGBA, 4, 2, 0, RGBA, BYTE];
     let call = texture_call(rt.alloc(), GlKind::TexImage2d, numbers);
-    assert!(rt; is_built(call.kind));
     for (bytes, error) in &MEMORY {
         let [live_bytes, new_bytes, video_limit] = *bytes;
         let facts = GlFacts {
@@ -381,7 +379,6 @@ fn a_part_lies_inside_the_largest_level(rt: HostRuntime) {
         let [x, y, width, height] = *place;
         let numbers = [TEXTURE, 0, x, y, width, height, RGBA, BYTE];
         let call = texture_call(rt.alloc(), GlKind::TexSubImage2d, numbers);
-        assert!(rt; is_built(call.kind));
         assert_eq!(rt; gl_refusal(&call, &largest_level(*base)), *error);
     }
 }
@@ -389,10 +386,8 @@ fn a_part_lies_inside_the_largest_level(rt: HostRuntime) {
 #[test]
 fn kinds_of_the_other_interface_are_not_refused(rt: HostRuntime) {
     let call = egl_call(rt.alloc(), EglKind::Initialize, [0; 4]);
-    assert!(rt; is_built(call.kind));
     assert_eq!(rt; gl_refusal(&call, &GlFacts::none()), None);
     let call = gl_call(rt.alloc(), GlKind::Clear, [8, 0, 0], [0; 2]);
-    assert!(rt; is_built(call.kind));
     assert_eq!(rt; egl_refusal(&call, &EglFacts::none()), None);
 }
 
@@ -400,7 +395,6 @@ fn kinds_of_the_other_interface_are_not_refused(rt: HostRuntime) {
 fn a_draw_and_a_copy_want_a_framebuffer(rt: HostRuntime) {
     for (kind, numbers, is_framebuffer_complete, has_read_alpha, error) in &COPIES {
         let call = texture_call(rt.alloc(), *kind, *numbers);
-        assert!(rt; is_built(call.kind));
         let facts = GlFacts {
             is_framebuffer_complete: *is_framebuffer_complete,
             has_read_alpha: *has_read_alpha,

@@ -12,7 +12,6 @@ use Rattle.egl_calls.specs.declared.kinds.EglKind.TheVariants.{Terminate, Destro
 use Rattle.egl_calls.specs.declared.kinds.GlKind.{GlKind}
 use Rattle.egl_calls.specs.declared.kinds.GlKind.TheVariants.{Flush, Finish, DeleteTextures, DeleteBuffers, DeleteRenderbuffers, DeleteFramebuffers}
 use Rattle.egl_calls.specs.declared.kinds.OwnKind.TheVariants.{Halt}
-use Rattle.call_rules.specs.Kinds.{is_built}
 use Rattle.egl_model.specs.Currents.{current_context}
 use Rattle.egl_model.specs.Effects.{Effect}
 use Rattle.egl_model.specs.EglEffects.{egl_effect}

@@ -1,7 +1,6 @@
 -- What comes of picks.
 use Rattle.std.specs.Prelude.{◌≡◌, ℕ, Bool, true, false, List, [], ◌∷◌, ◌++◌}
 use Rattle.egl_calls.specs.Journals.{is_halt_kind}
-use Rattle.call_rules.specs.Kinds.{is_built}
 use Rattle.egl_calls.specs.declared.entries.Entry.{Entry}
 use Rattle.egl_model.specs.Step.{step}
 use Rattle.shared_driver.specs.declared.cores.Core.{Core}

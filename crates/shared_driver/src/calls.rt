@@ -1,7 +1,6 @@
 //! What a thread does with its token.
 ghost use Rattle.std.specs.Prelude.{◌≡◌, ◌==◌, ◌≤◌, ◌<◌, ◌+◌, ◌||◌, ◌⊎◌, ◌∷◌, ◌++◌, [], true, false, slice_index_or, OnErr, OnOk, IfOk, IsOk, All, List};
 ghost use Rattle.surface_store.specs.Windows.{windows_ok};
-ghost use Rattle.call_rules.specs.Kinds.{is_built};
 ghost use Rattle.egl_calls.specs.declared.entries.Entry.{Entry};
 ghost use Rattle.model_laws.specs.Hidden.{hide};
 ghost use Rattle.egl_model.specs.State.{opening};
@@ -100,7 +99,6 @@ impl Shared {
         call: Call,
     ) -> Result<Reply, NoMemory>
         requires owns { IsOf self.now thread.old }
-        requires built { is_built call.kind ≡ true }
         ensures owns { IsOf self.now thread.new }
         ensures same { IsSame (token_of thread.old) (token_of thread.new) }
         ensures sole { (token_of thread.new).sole ≡ (token_of thread.old).sole }
@@ -150,7 +148,6 @@ impl Shared {
         call: Call,
     ) -> Reply
         requires owns { IsOf self.now thread.old }
-        requires built { is_built call.kind ≡ true }
         requires kind { takes_place call.kind ≡ true }
         requires free { 0 < (token_of thread.old).places }
         ensures owns { IsOf self.now thread.new }
@@ -184,7 +181,6 @@ impl Shared {
         call: Call,
     ) -> Result<Reply, NoMemory>
         requires owns { IsOf self.now thread.old }
-        requires built { is_built call.kind ≡ true }
         requires kind { is_wait_end call.kind ≡ false }
         ensures owns { IsOf self.now thread.new }
         ensures same { IsSame (token_of thread.old) (token_of thread.new) }

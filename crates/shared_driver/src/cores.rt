@@ -1,7 +1,6 @@
 //! The value under the lock.
 ghost use Rattle.std.specs.Prelude.{◌≡◌, ◌<◌, ◌≤◌, ◌+◌, ◌-◌, [], ◌∷◌, ◌++◌, true, false, length, IfOk, IfSome, IfNone, OnSome, OnOk, OnErr, IsOk, slice_index, slice_index_or, slice_set};
 ghost use Rattle.std.specs.VecDeque.{deque_capacity};
-ghost use Rattle.call_rules.specs.Kinds.{is_built};
 ghost use Rattle.surface_store.specs.Windows.{windows_ok};
 ghost use Rattle.model_laws.specs.Frame.{IsReady};
 ghost use Rattle.model_laws.specs.Hidden.{hide};
@@ -78,7 +77,6 @@ fn uncounted<L: Ledger>(
     blank: Blank,
 ) -> Result<ReplyPair, NoMemory>
     requires made { thread < driver.old.made }
-    requires built { is_built call.now.kind ≡ true }
     requires name { blank.name ≡ L.name }
     requires parts { blank.parts ≡ L.parts }
     requires some { 0 < blank.parts }
@@ -97,7 +95,6 @@ fn stepped(
     call: &Call,
 ) -> Result<ReplyPair, NoMemory>
     requires made { thread < driver.old.made }
-    requires built { is_built call.now.kind ≡ true }
     ensures reply { IfOk result (λ r. r.reply ≡ (step driver.old.state thread call.now).reply) }
     ensures state { OnOk result (driver.new ≡ record driver.old { state = (step driver.old.state thread call.now).state }) }
     ensures err { OnErr result (driver.new ≡ driver.old) }
@@ -256,7 +253,6 @@ impl Core {
         more: u64,
     ) -> Result<Reply, NoMemory>
         requires number { (number < self.old.driver.made) × (number < length self.old.rooms.items) }
-        requires built { is_built call.kind ≡ true }
         requires room { length tail.old.items < slice_index self.old.rooms.items number }
         requires owed { self.old.promised ≡ owed self.old.rooms.items }
         requires spare { self.old.promised + more + 1 ≤ self.old.journal.spare }
@@ -296,7 +292,6 @@ impl Core {
         back: u64,
     ) -> Result<Reply, NoMemory>
         requires number { (number < self.old.driver.made) × (number < length self.old.rooms.items) }
-        requires built { is_built call.kind ≡ true }
         requires room { length tail.old.items < slice_index self.old.rooms.items number }
         requires back { back ≤ 256 }
         requires owed { self.old.promised ≡ owed self.old.rooms.items }
@@ -329,7 +324,6 @@ impl Core {
         tail: &mut VecDeque<Entry>,
     ) -> Reply
         requires number { (number < self.old.driver.made) × (number < length self.old.rooms.items) }
-        requires built { is_built call.kind ≡ true }
         requires memory { takes_no_memory call.kind ≡ true }
         requires room { length tail.old.items + 1 < slice_index self.old.rooms.items number }
         requires owed { self.old.promised ≡ owed self.old.rooms.items }

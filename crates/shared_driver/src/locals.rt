@@ -1,6 +1,5 @@
 //! Calls that a thread's private part answers, with no turn.
 ghost use Rattle.std.specs.Prelude.{◌≡◌, ◌-◌, ◌∷◌, ◌++◌, [], true, false, IfOk, IsOk, OnErr};
-ghost use Rattle.call_rules.specs.Kinds.{is_built};
 ghost use Rattle.egl_model.specs.Parts.{part_of};
 ghost use Rattle.egl_model.specs.Step.{step};
 ghost use Rattle.thread_part.specs.Memory.{is_bare, takes_pixels};
@@ -28,7 +27,6 @@ impl Thread {
     /// Its reply is the step's after all that the token has seen and its own calls. It enters the history, with this reply, directly before the thread's next shared call, or when it is handed in. Where memory runs out nothing has changed; it may for glClear and glReadPixels alone.
     pub fn local(&mut self, alloc: Global, mark: u64, call: Call) -> Result<Reply, NoMemory>
         requires local { may_be_local (token_of self.old) call ≡ true }
-        requires built { is_built call.kind ≡ true }
         ensures owns { (s : TheShared) → IsOf s self.old → IsOf s self.new }
         ensures reply { IfOk result (λ r. r ≡ (step (state_of (token_of self.old)) (token_of self.old).number call).reply) }
         ensures ok { IfOk result (λ r. token_of self.new ≡ record (token_of self.old) { tail = (token_of self.old).tail ++ entry (token_of self.old).number mark call r ∷ []; places = (token_of self.old).places - 1 }) }

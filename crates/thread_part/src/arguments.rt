@@ -2,7 +2,6 @@
 ghost use Rattle.std.specs.Prelude.{◌≡◌, ◌<◌, ◌==◌, pos, true};
 ghost use Rattle.egl_model.specs.State.{api_code};
 ghost use Rattle.egl_names.specs.declared.codes.TheConstants.{EGL_DRAW as ADraw};
-ghost use Rattle.call_rules.specs.Kinds.{is_built};
 ghost use Rattle.egl_calls.specs.Ranges.{IsNumber};
 ghost use Rattle.egl_calls.specs.Arguments.{signed};
 ghost use Rattle.egl_model.specs.Arguments.{number};
@@ -94,7 +93,6 @@ pub fn framebuffer_facts(is_complete: bool) -> GlFacts
 
 /// The error of a local call of EGL, if it is refused.
 pub fn local_refusal(call: &Call) -> Option<EglError>
-    requires { is_built call.now.kind ≡ true }
     ensures { result ≡ local_refusal call.now }
 {
     call_rules::egl_refusal(call, &EglFacts::none())

@@ -1,6 +1,5 @@
 //! The calls that are timed, and those that go before.
 ghost use Rattle.std.specs.Prelude.{◌≡◌, true, false, IfOk};
-ghost use Rattle.call_rules.specs.Kinds.{is_built};
 ghost use Rattle.egl_model.specs.Waits.{is_wait_end};
 
 use crate::calls::{CONFIG, DISPLAY, call_with, create_pbuffer, initialize};
@@ -63,7 +62,6 @@ impl Sort {
 
     /// The call at a place among those of its sort.
     pub fn call(self, alloc: Global, place: u64) -> Call
-        ensures built { is_built result.kind ≡ true }
         ensures kind { is_wait_end result.kind ≡ false }
     {
         let clear = (Kind::Gl(GlKind::Clear), GL_COLOR_BUFFER_BIT as u32);
@@ -81,7 +79,6 @@ impl Sort {
 
 /// The calls that make a surface and a context current to the thread at a place, by their order.
 pub fn before(alloc: Global, place: u16, step: u32) -> Result<Call, NoMemory>
-    ensures built { IfOk result (λ c. is_built c.kind ≡ true) }
     ensures kind { IfOk result (λ c. is_wait_end c.kind ≡ false) }
 {
     let surface = FIRST_HANDLE + 2 * u32::from(place);
