@@ -1,7 +1,6 @@
 //! When each call of EGL is refused.
 ghost use Rattle.std.specs.Prelude.{◌≡◌, ◌+◌, nat_lt, true, not, ◌<◌};
 ghost use Rattle.egl_calls.specs.Arguments.{is_zero};
-ghost use Rattle.egl_calls.specs.Calls.{CallValue};
 ghost use Rattle.egl_calls.specs.declared.kinds.EglKind.TheVariants.{CreateWindowSurface, CreatePbufferSurface, SurfaceAttrib, CreateContext, MakeCurrent, CreateSync, WaitSync, CreateImage};
 ghost use Rattle.egl_calls.specs.declared.errors.EglError.TheVariants.{NotInitialized, BadSurface, BadContext, BadParameter};
 ghost use Rattle.refusal_rows.specs.Rows.{first_error, ◌⇒◌};
@@ -98,9 +97,10 @@ fn no_sync(facts: &EglFacts) -> (bool, EglError)
 }
 
 /// Section 3.5.1.
-fn create_window_surface(facts: &EglFacts) -> Option<EglError>
-    ensures { (c : CallValue) → result ≡ first_error (egl_rows CreateWindowSurface c facts.now) }
+fn create_window_surface(call: &Call, facts: &EglFacts) -> Option<EglError>
+    ensures { result ≡ first_error (egl_rows CreateWindowSurface call.now facts.now) }
 {
+    let _ = call;
     first_error(&[
         no_display(facts),
         uninitialized(facts),
@@ -118,9 +118,10 @@ fn create_window_surface(facts: &EglFacts) -> Option<EglError>
 }
 
 /// Section 3.5.2.
-fn create_pbuffer_surface(facts: &EglFacts) -> Option<EglError>
-    ensures { (c : CallValue) → result ≡ first_error (egl_rows CreatePbufferSurface c facts.now) }
+fn create_pbuffer_surface(call: &Call, facts: &EglFacts) -> Option<EglError>
+    ensures { result ≡ first_error (egl_rows CreatePbufferSurface call.now facts.now) }
 {
+    let _ = call;
     let is_long = is_long(facts.width) || is_long(facts.height);
     first_error(&[
         no_display(facts),
@@ -156,9 +157,10 @@ fn surface_attrib(call: &Call, facts: &EglFacts) -> Option<EglError>
 }
 
 /// Section 3.7.1.
-fn create_context(facts: &EglFacts) -> Option<EglError>
-    ensures { (c : CallValue) → result ≡ first_error (egl_rows CreateContext c facts.now) }
+fn create_context(call: &Call, facts: &EglFacts) -> Option<EglError>
+    ensures { result ≡ first_error (egl_rows CreateContext call.now facts.now) }
 {
+    let _ = call;
     let is_later = is_later_version(facts.version, facts.minor_version);
     let is_supported = is_supported_version(facts.version, facts.minor_version);
     first_error(&[
@@ -289,8 +291,8 @@ pub fn egl_refusal(call: &Call, facts: &EglFacts) -> Option<EglError>
             (!facts.is_config, EglError::BadConfig),
             (!facts.is_attribute, EglError::BadAttribute),
         ]),
-        Kind::Egl(EglKind::CreateWindowSurface) => create_window_surface(facts),
-        Kind::Egl(EglKind::CreatePbufferSurface) => create_pbuffer_surface(facts),
+        Kind::Egl(EglKind::CreateWindowSurface) => create_window_surface(call, facts),
+        Kind::Egl(EglKind::CreatePbufferSurface) => create_pbuffer_surface(call, facts),
         Kind::Egl(EglKind::DestroySurface) => {
             first_error(&[no_display(facts), uninitialized(facts), no_surface(facts)])
         }
@@ -306,7 +308,7 @@ pub fn egl_refusal(call: &Call, facts: &EglFacts) -> Option<EglError>
             EglError::BadParameter,
         )]),
         Kind::Egl(EglKind::QueryApi) => None,
-        Kind::Egl(EglKind::CreateContext) => create_context(facts),
+        Kind::Egl(EglKind::CreateContext) => create_context(call, facts),
         Kind::Egl(EglKind::DestroyContext) => {
             first_error(&[no_display(facts), uninitialized(facts), no_context(facts)])
         }
