@@ -49,6 +49,7 @@ pub mod BufferCalls
 pub mod RenderbufferCalls
 pub mod DrawCalls
 pub mod CopyCalls
+pub mod ImageCalls
 pub mod EglCalls
 pub mod WindowCalls
 pub mod StepKeeps

@@ -15,9 +15,9 @@ use Rattle.egl_calls.specs.Errors.{egl_code}
 use Rattle.egl_calls.specs.declared.kinds.Kind.{Kind}
 use Rattle.egl_calls.specs.declared.kinds.Kind.TheVariants.{Egl, Gl, Own as OwnCall}
 use Rattle.egl_calls.specs.declared.kinds.EglKind.{EglKind}
-use Rattle.egl_calls.specs.declared.kinds.EglKind.TheVariants.{CreateWindowSurface, SwapBuffers, GetError as EglGetError, CreatePbufferSurface, MakeCurrent, GetCurrentContext, GetCurrentSurface, GetCurrentDisplay, QueryApi, QuerySurface, QueryContext, CreateSync, ClientWaitSync, WaitSync, GetSyncAttrib}
+use Rattle.egl_calls.specs.declared.kinds.EglKind.TheVariants.{CreateWindowSurface, SwapBuffers, GetError as EglGetError, CreatePbufferSurface, MakeCurrent, GetCurrentContext, GetCurrentSurface, GetCurrentDisplay, QueryApi, QuerySurface, QueryContext, CreateSync, ClientWaitSync, WaitSync, GetSyncAttrib, CreateImage}
 use Rattle.egl_calls.specs.declared.kinds.GlKind.{GlKind}
-use Rattle.egl_calls.specs.declared.kinds.GlKind.TheVariants.{Clear, ReadPixels, DrawTexi, DrawTexx, GenTextures, IsTexture, TexImage2d, TexSubImage2d, CopyTexImage2d, CopyTexSubImage2d, GenBuffers, IsBuffer, BufferData, BufferSubData, GetBufferParameteriv, GenRenderbuffers, IsRenderbuffer, RenderbufferStorage, GetRenderbufferParameteriv}
+use Rattle.egl_calls.specs.declared.kinds.GlKind.TheVariants.{Clear, ReadPixels, DrawTexi, DrawTexx, GenTextures, IsTexture, TexImage2d, TexSubImage2d, CopyTexImage2d, CopyTexSubImage2d, GenBuffers, IsBuffer, BufferData, BufferSubData, GetBufferParameteriv, GenRenderbuffers, IsRenderbuffer, RenderbufferStorage, GetRenderbufferParameteriv, ImageTargetTexture2d, ImageTargetRenderbufferStorage}
 use Rattle.call_rules.specs.GlRules as gl_rules
 use Rattle.context_state.specs.Kinds.{context_gl_call}
 use Rattle.context_state.specs.declared.kinds.ContextCall.{ContextCall}
@@ -64,6 +64,7 @@ use Rattle.egl_model.specs.Effects.{valued}
 use Rattle.egl_calls.specs.declared.kinds.OwnKind.{OwnKind}
 use Rattle.egl_calls.specs.declared.kinds.OwnKind.TheVariants.{ReadBuffer, Census}
 use Rattle.egl_model.specs.Syncs.{sync_facts}
+use Rattle.model_laws.proofs.ImageCalls.{blind-new_image, blind-renderbuffer_target_facts, blind-target_facts}
 use Rattle.model_laws.proofs.SyncCalls.{blind-client_wait, blind-new_sync, blind-server, blind-sync_value}
 use Rattle.model_laws.proofs.WindowCalls.{blind-swap_facts, blind-window_facts}
 use Rattle.model_laws.proofs.Blinds.{blind-complete, blind-context_elsewhere, blind-context_of, blind-current, blind-live_bytes, blind-own_part, blind-own_storage, blind-read, blind-record, blind-surface_elsewhere, blind-surface_of, read_alone, blind-signalled, blind-any, blind-context, blind-display}
@@ -119,6 +120,7 @@ blind-facts t c s QueryContext w v x ne = ap (λ y. record (context_call_facts s
 blind-facts t c s CreateSync w v x ne = blind-new_sync t c s w v x ne
 blind-facts t c s WaitSync w v x ne = blind-server t c s w v x ne
 blind-facts t c s GetSyncAttrib w v x ne = ap (λ y. record (sync_facts s c) { is_attribute = is_some y }) (blind-sync_value t c s w v x ne)
+blind-facts t c s CreateImage w v x ne = blind-new_image t c s w v x ne
 blind-facts t c s k w v x ne = refl
 
 blind-refusal : (t : ℕ) (c : CallValue) (s : State) (k : EglKind) → Blind t s (λ a. egl_refusal a t k c)
@@ -153,6 +155,8 @@ blind-gl_refusal t n c s RenderbufferStorage w v x ne =
     ap (λ b. gl_rules.gl_refusal c (record (renderbuffer_facts (put_own s v x) n) { live_bytes = b; new_bytes = renderbuffer_bytes c; video_limit = s.video })) (blind-live_bytes t s w v x ne)
     ∙ ap (λ f. gl_rules.gl_refusal c (record f { live_bytes = live_bytes s.objects; new_bytes = renderbuffer_bytes c; video_limit = s.video })) (blind-renderbuffer_facts t n s w v x ne)
 blind-gl_refusal t n c s GetRenderbufferParameteriv w v x ne = ap (gl_rules.gl_refusal c) (blind-renderbuffer_facts t n s w v x ne)
+blind-gl_refusal t n c s ImageTargetTexture2d w v x ne = ap (gl_rules.gl_refusal c) (blind-target_facts t n c s w v x ne)
+blind-gl_refusal t n c s ImageTargetRenderbufferStorage w v x ne = ap (gl_rules.gl_refusal c) (blind-renderbuffer_target_facts t n c s w v x ne)
 blind-gl_refusal t n c s k w v x ne = refl
 
 blind-buffer_refusal : (t n : ℕ) (c : CallValue) (s : State) → Blind t s (λ a. buffer_refusal a t n c)
