@@ -1,5 +1,5 @@
 -- What the calls on EGL images keep, and how they pass what is put for others.
-use Rattle.std.proofs.Common.{◌≡◌, ℕ, zero, suc, ◌+◌, ◌&&◌, ◌||◌, ◌==◌, not, true, ℤ, pos, cond, List, [], ◌∷◌, refl, sym, ap, subst, ◌∙◌, arith, inr, length, get_or, map, is_some, Option, None, Some}
+use Rattle.std.proofs.Common.{◌≡◌, ℕ, zero, suc, ◌+◌, ◌&&◌, ◌||◌, ◌==◌, not, true, false, ℤ, pos, cond, List, [], ◌∷◌, ◌++◌, refl, sym, ap, subst, ◌∙◌, arith, inr, length, get_or, map, is_some, Option, None, Some}
 use Rattle.std.specs.List.{count_by, list_any, sum_by}
 use Rattle.std.specs.Option.{option_and_then, option_map_or}
 use Rattle.std.proofs.Math.Path.{fun_ext}

@@ -91,7 +91,7 @@ suits-kind t sh s n r = record { leads = leads; pixels = λ o m h. inl (ap (is_i
     leads o l = l
 
 -- ---- glRenderbufferStorageOES.
-pub kinded : RenderbufferValue → ℕ → State → State
+unfoldable pub kinded : RenderbufferValue → ℕ → State → State
 kinded r x s = record s { objects = change_renderbuffer (with_kind r) x s.objects }
 
 pub acts-kind : (s : State) (t x : ℕ) (r : RenderbufferValue) → Acts quiet t s (kinded r x)
