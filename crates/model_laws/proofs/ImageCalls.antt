@@ -1,5 +1,5 @@
 -- What the calls on EGL images keep, and how they pass what is put for others.
-use Rattle.std.proofs.Common.{◌≡◌, ℕ, zero, suc, ◌+◌, ◌&&◌, ◌||◌, ◌==◌, not, true, false, ℤ, pos, cond, List, [], ◌∷◌, ◌++◌, refl, sym, ap, subst, ◌∙◌, arith, inr, length, get_or, map, is_some, Option, None, Some}
+use Rattle.std.proofs.Common.{◌≡◌, ℕ, zero, suc, ◌+◌, ◌&&◌, ◌||◌, ◌==◌, not, Bool, true, false, ℤ, pos, cond, List, [], ◌∷◌, ◌++◌, refl, sym, ap, subst, ◌∙◌, arith, inr, length, get_or, map, is_some, Option, None, Some}
 use Rattle.std.specs.List.{count_by, list_any, sum_by}
 use Rattle.std.specs.Option.{option_and_then, option_map_or}
 use Rattle.std.proofs.Math.Path.{fun_ext}
@@ -197,9 +197,13 @@ shareable s n k none h w = record {
 }
 
 -- ---- eglCreateImage.
+at_base : (k : ℕ) (b : Bool) (o : Option ℕ) → cond b o None ≡ Some k → o ≡ Some k
+at_base k true o h = h
+at_base k false o h = absurd (none-some k h)
+
 among_pixels : (k : ℕ) (l : ℤ) (o : Option Object) → level_pixels l o ≡ Some k → (is_in k (pixels_in o) ≡ true) × (own_in o ≡ None)
 among_pixels k (pos j) (Some (Texture y)) h = (in_levels k j y.levels h, refl)
-among_pixels k (pos zero) (Some (Renderbuffer r)) h = (in_levels k 0 (r.storage ∷ []) h, refl)
+among_pixels k (pos j) (Some (Renderbuffer r)) h = (in_levels k 0 (r.storage ∷ []) (at_base k (j == 0) r.storage h), refl)
 among_pixels k l o h = absurd (none-some k h)
 
 named_pixels : (os : List (Option Object)) (o : Option ℕ) (k : ℕ) → with_pixels_in os o ≡ Some k → o ≡ Some k

@@ -15,6 +15,7 @@ pub mod NameLaws
 pub mod DeletionLaws
 pub mod BufferLaws
 pub mod RenderbufferLaws
+pub mod SiblingLaws
 pub mod PixelLaws
 pub mod LinkLaws
 pub mod LinkedSteps
