@@ -8,8 +8,6 @@ use Rattle.std.proofs.lemmas.Option.{none-some, same_Some}
 use Rattle.egl_calls.specs.Calls.{CallValue}
 use Rattle.egl_calls.specs.declared.places.TheConstants.{CLIENT_BUFFER, DISPLAY, NAMED, TARGET_IMAGE}
 use Rattle.call_rules.specs.GlRules.{no_gl_facts}
-use Rattle.call_rules.specs.declared.egl_facts.EglFacts.{EglFacts}
-use Rattle.call_rules.specs.declared.gl_facts.GlFacts.{GlFacts}
 use Rattle.display_table.specs.declared.handles.Handle.{Handle}
 use Rattle.display_table.specs.declared.handles.HandleKind.TheVariants.{Context as a_context, Image as an_image}
 use Rattle.driver_objects.specs.declared.kinds.ObjectKind.TheVariants.{Image as an_image_kind, Storage as a_storage}
@@ -21,8 +19,7 @@ use Rattle.egl_image.specs.declared.images.EglImage.{EglImage}
 use Rattle.texture_objects.specs.Levels.{is_complete}
 use Rattle.texture_objects.specs.declared.levels.Shape.{Shape as LevelShape}
 use Rattle.egl_model.specs.Arguments.{number}
-use Rattle.egl_model.specs.Configs.{is_list_allowed}
-use Rattle.egl_model.specs.Draws.{level_shapes, shape_in}
+use Rattle.egl_model.specs.Draws.{level_shapes}
 use Rattle.egl_model.specs.GlFacts.{renderbuffer_image_facts, target_image_facts}
 use Rattle.egl_model.specs.Graph.{is_in}
 use Rattle.egl_model.specs.Handles.{handle_at, valid, with_handle}
