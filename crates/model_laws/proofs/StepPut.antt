@@ -53,7 +53,7 @@ use Rattle.egl_model.specs.GlFacts.{gl_refusal}
 use Rattle.egl_model.specs.Sweep.{live_bytes}
 use Rattle.model_laws.specs.Hidden.{hide, nothing}
 use Rattle.egl_model.specs.MakeCurrent.{config_of_context, config_of_surface, context_handle, current_facts, draw_handle, is_context_taken, is_surface_taken, read_handle}
-use Rattle.egl_model.specs.Objects.{context_in}
+use Rattle.egl_model.specs.Objects.{context_in, storage_in}
 use Rattle.egl_model.specs.Parts.{Own, Places, places, put_at, put_own}
 use Rattle.model_laws.specs.Shapes.{shapes}
 use Rattle.model_laws.specs.Sound.{IsWhole}
