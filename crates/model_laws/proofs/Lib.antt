@@ -13,6 +13,7 @@ pub mod WaitOutcomes
 pub mod TextureLaws
 pub mod NameLaws
 pub mod DeletionLaws
+pub mod DetachLaws
 pub mod BufferLaws
 pub mod RenderbufferLaws
 pub mod SiblingLaws

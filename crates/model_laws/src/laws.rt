@@ -1,7 +1,10 @@
 //! What is true of every sweep, step and history: the contracts of functions that do nothing.
 ghost use Rattle.std.specs.Prelude.{◌≡◌, ◌≢◌, ◌<◌, ◌+◌, ◌⊎◌, ◌↔◌, ℕ, ℤ, pos, ◌&&◌, ◌==◌, true, false, All, AllPairs, ◌≤◌, if◌then◌else◌, length, List, ◌++◌, None, Some, Contains, IfSome};
 ghost use Rattle.display_table.specs.declared.handles.Handle.{Handle};
-ghost use Rattle.model_laws.specs.Deleted.{HasUnbound};
+ghost use Rattle.model_laws.specs.Deleted.{HasDetached, HasUnbound, IsNamedBy, attached_at};
+ghost use Rattle.framebuffer_objects.specs.Framebuffers.{FramebufferValue as AFramebuffer, at_point, object_of as object_attached};
+ghost use Rattle.framebuffer_objects.specs.declared.points.Point.{Point as APoint};
+ghost use Rattle.egl_model.specs.Framebuffers.{target_framebuffer};
 ghost use Rattle.model_laws.specs.Destroyed.{IsRemoved, KeepsCurrents};
 ghost use Rattle.egl_calls.specs.Arguments.{is_zero};
 ghost use Rattle.egl_calls.specs.Calls.{CallValue};
@@ -10,7 +13,7 @@ ghost use Rattle.egl_calls.specs.declared.kinds.Kind.TheVariants.{Egl, Own};
 ghost use Rattle.egl_calls.specs.declared.kinds.EglKind.{EglKind};
 ghost use Rattle.egl_calls.specs.declared.kinds.EglKind.TheVariants.{Initialize, Terminate, CreatePbufferSurface, CreateContext, DestroySurface, DestroyContext, ReleaseThread, CreateWindowSurface, CreateSync, DestroySync, ClientWaitSync, CreateImage, DestroyImage};
 ghost use Rattle.egl_calls.specs.declared.kinds.GlKind.{GlKind};
-ghost use Rattle.egl_calls.specs.declared.kinds.GlKind.TheVariants.{CopyTexImage2d, DeleteTextures, TexImage2d, BufferData, DeleteBuffers, DeleteRenderbuffers, RenderbufferStorage, ImageTargetTexture2d, ImageTargetRenderbufferStorage};
+ghost use Rattle.egl_calls.specs.declared.kinds.GlKind.TheVariants.{CopyTexImage2d, DeleteTextures, TexImage2d, BufferData, DeleteBuffers, DeleteRenderbuffers, DeleteFramebuffers, RenderbufferStorage, ImageTargetTexture2d, ImageTargetRenderbufferStorage};
 ghost use Rattle.egl_calls.specs.Ranges.{unsigned};
 ghost use Rattle.egl_calls.specs.declared.kinds.OwnKind.{OwnKind};
 ghost use Rattle.egl_calls.specs.declared.kinds.OwnKind.TheVariants.{ReadBuffer, WaitEnd};
@@ -30,7 +33,7 @@ ghost use Rattle.egl_model.specs.State.{State, object_at, opening, record_of, se
 ghost use Rattle.egl_model.specs.Currents.{current_context, part_of_context};
 ghost use Rattle.egl_model.specs.Sweep.{is_reached, live_bytes, sweep};
 ghost use Rattle.egl_model.specs.Flushes.{flushed};
-ghost use Rattle.egl_model.specs.Objects.{context_in, fence_in, storage_in, texture_in};
+ghost use Rattle.egl_model.specs.Objects.{context_in, fence_in, framebuffer_in, storage_in, texture_in};
 ghost use Rattle.egl_model.specs.Names.{group_of, names_in, object_named};
 ghost use Rattle.egl_model.specs.Textures.{level_of, storage_at, target_texture};
 ghost use Rattle.egl_model.specs.Renderbuffers.{target_renderbuffer};
@@ -38,7 +41,7 @@ ghost use Rattle.driver_objects.specs.Storages.{StorageValue};
 ghost use Rattle.driver_objects.specs.declared.contexts.Context.{Context as AContext};
 ghost use Rattle.driver_objects.specs.declared.textures.BackedTexture.{BackedTexture};
 ghost use Rattle.share_group.specs.Names.{is_used};
-ghost use Rattle.share_group.specs.declared.names.NameKind.TheVariants.{Texture as a_texture_name, Buffer as a_buffer_name, Renderbuffer as a_renderbuffer_name};
+ghost use Rattle.share_group.specs.declared.names.NameKind.TheVariants.{Texture as a_texture_name, Buffer as a_buffer_name, Renderbuffer as a_renderbuffer_name, Framebuffer as a_framebuffer_name};
 ghost use Rattle.model_laws.specs.Shapes.{shapes};
 ghost use Rattle.driver_objects.specs.declared.fences.Fence.{Fence as AFence};
 ghost use Rattle.driver_objects.specs.declared.kinds.ObjectKind.TheVariants.{Context as ContextKind};
@@ -285,6 +288,7 @@ pub fn a_level_is_given_alone()
     ensures levels { (s : State) (t n : ℕ) (c : CallValue) (x j : ℕ) (y z : BackedTexture) → IsAllowedGl s t n TexImage2d c → (target_texture s n ≡ Some x → j ≢ level_of c) → texture_in s.objects x ≡ Some y → texture_in (step s t c).state.objects x ≡ Some z → storage_at j z ≡ storage_at j y }
     ensures copied_levels { (s : State) (t n : ℕ) (c : CallValue) (x j : ℕ) (y z : BackedTexture) → IsAllowedGl s t n CopyTexImage2d c → (target_texture s n ≡ Some x → j ≢ level_of c) → texture_in s.objects x ≡ Some y → texture_in (step s t c).state.objects x ≡ Some z → storage_at j z ≡ storage_at j y }
     ensures pixels { (s : State) (t n : ℕ) (c : CallValue) (x : ℕ) (v : StorageValue) → IsAllowedGl s t n TexImage2d c → storage_in s.objects x ≡ Some v → has_object (step s t c).state x ≡ true → storage_in (step s t c).state.objects x ≡ Some v }
+    ensures copied_pixels { (s : State) (t n : ℕ) (c : CallValue) (x : ℕ) (v : StorageValue) → IsAllowedGl s t n CopyTexImage2d c → storage_in s.objects x ≡ Some v → has_object (step s t c).state x ≡ true → storage_in (step s t c).state.objects x ≡ Some v }
 {}
 
 /// A call that gives a level of a texture or a renderbuffer other pixels, new ones or those of an EGL image, changes that object alone: each other object that is still there is as it was, and so is each storage. So siblings keep the pixels that they share (sections 3.7.1 and 3.7.2; OES_framebuffer_object; OES_EGL_image).
@@ -296,18 +300,28 @@ pub fn siblings_keep_their_pixels()
     ensures renderbuffer { (s : State) (t n : ℕ) (c : CallValue) → IsAllowedGl s t n ImageTargetRenderbufferStorage c → LeavesSiblings s (step s t c).state (target_renderbuffer s n) }
 {}
 
-/// A name that a glDeleteTextures, a glDeleteBuffers or a glDeleteRenderbuffersOES is given is free at once, whoever still has its object bound (sections 3.7.11 and 2.9; OES_framebuffer_object). The object is gone with the last reference to it, as each object is.
+/// A name that a glDeleteTextures, a glDeleteBuffers, a glDeleteRenderbuffersOES or a glDeleteFramebuffersOES is given is free at once, whoever still has its object bound (sections 3.7.11 and 2.9; OES_framebuffer_object). The object is gone with the last reference to it, as each object is.
 pub fn a_deleted_name_is_free()
     ensures textures { (s : State) (t n : ℕ) (c : CallValue) (x : ℤ) → IsAllowedGl s t n DeleteTextures c → Contains c.list x → is_used (unsigned x) (names_in (step s t c).state (group_of s n) a_texture_name) ≡ false }
     ensures buffers { (s : State) (t n : ℕ) (c : CallValue) (x : ℤ) → IsAllowedGl s t n DeleteBuffers c → Contains c.list x → is_used (unsigned x) (names_in (step s t c).state (group_of s n) a_buffer_name) ≡ false }
     ensures renderbuffers { (s : State) (t n : ℕ) (c : CallValue) (x : ℤ) → IsAllowedGl s t n DeleteRenderbuffers c → Contains c.list x → is_used (unsigned x) (names_in (step s t c).state (group_of s n) a_renderbuffer_name) ≡ false }
+    ensures framebuffers { (s : State) (t n : ℕ) (c : CallValue) (x : ℤ) → IsAllowedGl s t n DeleteFramebuffers c → Contains c.list x → is_used (unsigned x) (names_in (step s t c).state (group_of s n) a_framebuffer_name) ≡ false }
 {}
 
-/// The object of a name that a glDeleteTextures, a glDeleteBuffers or a glDeleteRenderbuffersOES is given isn't bound in the caller's context any more (sections 3.7.11 and 2.9; OES_framebuffer_object).
+/// The object of a name that a glDeleteTextures, a glDeleteBuffers, a glDeleteRenderbuffersOES or a glDeleteFramebuffersOES is given isn't bound in the caller's context any more (sections 3.7.11 and 2.9; OES_framebuffer_object).
 pub fn a_deleted_object_is_unbound()
     ensures textures { (s : State) (t n x : ℕ) (c : CallValue) (v : ℤ) → IsAllowedGl s t n DeleteTextures c → Contains c.list v → object_named s (group_of s n) a_texture_name (unsigned v) ≡ Some x → IfSome (context_in (step s t c).state.objects n) (HasUnbound a_texture_name x) }
     ensures buffers { (s : State) (t n x : ℕ) (c : CallValue) (v : ℤ) → IsAllowedGl s t n DeleteBuffers c → Contains c.list v → object_named s (group_of s n) a_buffer_name (unsigned v) ≡ Some x → IfSome (context_in (step s t c).state.objects n) (HasUnbound a_buffer_name x) }
     ensures renderbuffers { (s : State) (t n x : ℕ) (c : CallValue) (v : ℤ) → IsAllowedGl s t n DeleteRenderbuffers c → Contains c.list v → object_named s (group_of s n) a_renderbuffer_name (unsigned v) ≡ Some x → IfSome (context_in (step s t c).state.objects n) (HasUnbound a_renderbuffer_name x) }
+    ensures framebuffers { (s : State) (t n x : ℕ) (c : CallValue) (v : ℤ) → IsAllowedGl s t n DeleteFramebuffers c → Contains c.list v → object_named s (group_of s n) a_framebuffer_name (unsigned v) ≡ Some x → IfSome (context_in (step s t c).state.objects n) (HasUnbound a_framebuffer_name x) }
+{}
+
+/// The texture or renderbuffer of a name that a glDeleteTextures or a glDeleteRenderbuffersOES is given isn't attached any more to the framebuffer that the caller has bound (OES_framebuffer_object). Whatever else is attached there, and all that is attached to each other framebuffer, stays: that of another context too, and one that isn't bound.
+pub fn a_deleted_object_is_detached()
+    ensures textures { (s : State) (t n x b : ℕ) (c : CallValue) → IsAllowedGl s t n DeleteTextures c → IsNamedBy a_texture_name s n c x → target_framebuffer s n ≡ Some b → IfSome (framebuffer_in (step s t c).state.objects b) (HasDetached x) }
+    ensures renderbuffers { (s : State) (t n x b : ℕ) (c : CallValue) → IsAllowedGl s t n DeleteRenderbuffers c → IsNamedBy a_renderbuffer_name s n c x → target_framebuffer s n ≡ Some b → IfSome (framebuffer_in (step s t c).state.objects b) (HasDetached x) }
+    ensures others_than_textures { (s : State) (t n m : ℕ) (p : APoint) (f : AFramebuffer) (c : CallValue) → IsAllowedGl s t n DeleteTextures c → (target_framebuffer s n ≡ Some m → (x : ℕ) → IsNamedBy a_texture_name s n c x → object_attached (attached_at s.objects m p) ≢ Some x) → framebuffer_in (step s t c).state.objects m ≡ Some f → at_point p f ≡ attached_at s.objects m p }
+    ensures others_than_renderbuffers { (s : State) (t n m : ℕ) (p : APoint) (f : AFramebuffer) (c : CallValue) → IsAllowedGl s t n DeleteRenderbuffers c → (target_framebuffer s n ≡ Some m → (x : ℕ) → IsNamedBy a_renderbuffer_name s n c x → object_attached (attached_at s.objects m p) ≢ Some x) → framebuffer_in (step s t c).state.objects m ≡ Some f → at_point p f ≡ attached_at s.objects m p }
 {}
 
 /// Each other context that is still there is as it was, and so has bound what it had.
@@ -315,6 +329,7 @@ pub fn a_deletion_leaves_other_contexts()
     ensures textures { (s : State) (t n m : ℕ) (c : CallValue) (y : AContext) → IsAllowedGl s t n DeleteTextures c → m ≢ n → context_in (step s t c).state.objects m ≡ Some y → context_in s.objects m ≡ Some y }
     ensures buffers { (s : State) (t n m : ℕ) (c : CallValue) (y : AContext) → IsAllowedGl s t n DeleteBuffers c → m ≢ n → context_in (step s t c).state.objects m ≡ Some y → context_in s.objects m ≡ Some y }
     ensures renderbuffers { (s : State) (t n m : ℕ) (c : CallValue) (y : AContext) → IsAllowedGl s t n DeleteRenderbuffers c → m ≢ n → context_in (step s t c).state.objects m ≡ Some y → context_in s.objects m ≡ Some y }
+    ensures framebuffers { (s : State) (t n m : ℕ) (c : CallValue) (y : AContext) → IsAllowedGl s t n DeleteFramebuffers c → m ≢ n → context_in (step s t c).state.objects m ≡ Some y → context_in s.objects m ≡ Some y }
 {}
 
 /// eglCreateContext answers EGL_BAD_ALLOC exactly where nothing else is wrong, and no number is left for its handle (section 3.7.1).
