@@ -17,6 +17,7 @@ pub mod DetachLaws
 pub mod BufferLaws
 pub mod RenderbufferLaws
 pub mod SiblingLaws
+pub mod ImageLaws
 pub mod PixelLaws
 pub mod LinkLaws
 pub mod LinkedSteps

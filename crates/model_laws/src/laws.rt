@@ -33,7 +33,12 @@ ghost use Rattle.egl_model.specs.State.{State, object_at, opening, record_of, se
 ghost use Rattle.egl_model.specs.Currents.{current_context, part_of_context};
 ghost use Rattle.egl_model.specs.Sweep.{is_reached, live_bytes, sweep};
 ghost use Rattle.egl_model.specs.Flushes.{flushed};
-ghost use Rattle.egl_model.specs.Objects.{context_in, fence_in, framebuffer_in, storage_in, texture_in};
+ghost use Rattle.egl_model.specs.Images.{source_storage, target_image};
+ghost use Rattle.egl_image.specs.declared.images.EglImage.{EglImage as AnEglImage};
+ghost use Rattle.driver_objects.specs.declared.renderbuffers.BackedRenderbuffer.{BackedRenderbuffer};
+ghost use Rattle.framebuffer_objects.specs.Renderbuffers.{of_kind};
+ghost use Rattle.framebuffer_objects.specs.declared.points.Point.TheVariants.{Color};
+ghost use Rattle.egl_model.specs.Objects.{context_in, fence_in, renderbuffer_in, framebuffer_in, storage_in, texture_in};
 ghost use Rattle.egl_model.specs.Names.{group_of, names_in, object_named};
 ghost use Rattle.egl_model.specs.Textures.{level_of, storage_at, target_texture};
 ghost use Rattle.egl_model.specs.Renderbuffers.{target_renderbuffer};
@@ -58,7 +63,7 @@ ghost use Rattle.model_laws.specs.Named.{Exists, IsHandled, IsHeldByThread, IsUs
 ghost use Rattle.model_laws.specs.Kinds.{IsA, KindsFit};
 ghost use Rattle.model_laws.specs.DisplayCalls.{IsInitialized, IsTerminated};
 ghost use Rattle.model_laws.specs.CurrentCalls.{HasNoneCurrent, IsBoundBy, IsMadeCurrent};
-ghost use Rattle.model_laws.specs.NewHandles.{HasNewHandle};
+ghost use Rattle.model_laws.specs.NewHandles.{HasNewHandle, HasNewImage};
 ghost use Rattle.model_laws.specs.Siblings.{LeavesSiblings};
 ghost use Rattle.egl_model.specs.Displays.{is_initialized};
 ghost use Rattle.egl_model.specs.Arguments.{number};
@@ -289,6 +294,21 @@ pub fn a_level_is_given_alone()
     ensures copied_levels { (s : State) (t n : ℕ) (c : CallValue) (x j : ℕ) (y z : BackedTexture) → IsAllowedGl s t n CopyTexImage2d c → (target_texture s n ≡ Some x → j ≢ level_of c) → texture_in s.objects x ≡ Some y → texture_in (step s t c).state.objects x ≡ Some z → storage_at j z ≡ storage_at j y }
     ensures pixels { (s : State) (t n : ℕ) (c : CallValue) (x : ℕ) (v : StorageValue) → IsAllowedGl s t n TexImage2d c → storage_in s.objects x ≡ Some v → has_object (step s t c).state x ≡ true → storage_in (step s t c).state.objects x ≡ Some v }
     ensures copied_pixels { (s : State) (t n : ℕ) (c : CallValue) (x : ℕ) (v : StorageValue) → IsAllowedGl s t n CopyTexImage2d c → storage_in s.objects x ≡ Some v → has_object (step s t c).state x ≡ true → storage_in (step s t c).state.objects x ≡ Some v }
+{}
+
+/// A new image is of the storage that its call names, of a texture's level or of a renderbuffer (EGL 1.5, section 3.9). To make an image or to destroy one changes no object that is still there, and no pixel.
+pub fn a_new_image_shares_its_pixels()
+    ensures created { (s : State) (t : ℕ) (c : CallValue) (k : ℕ) → IsAllowedEgl s t CreateImage c → source_storage s c ≡ Some k → HasNewImage s (step s t c).state (number c 0) k }
+    ensures others { (s : State) (t : ℕ) (c : CallValue) → IsAllowedEgl s t CreateImage c → LeavesSiblings s (step s t c).state None }
+    ensures destroyed { (s : State) (t : ℕ) (c : CallValue) → IsAllowedEgl s t DestroyImage c → LeavesSiblings s (step s t c).state None }
+{}
+
+/// Behind a glEGLImageTargetTexture2DOES level 0 of the bound texture, one with its eleven levels, has the image's storage and no other level has any; behind a glEGLImageTargetRenderbufferStorageOES the bound renderbuffer has it, and is a colour of its sides (OES_EGL_image).
+pub fn what_gets_an_image_has_its_pixels()
+    ensures base { (s : State) (t n : ℕ) (c : CallValue) (x : ℕ) (i : AnEglImage) (y z : BackedTexture) → IsAllowedGl s t n ImageTargetTexture2d c → target_texture s n ≡ Some x → target_image s n c ≡ Some i → texture_in s.objects x ≡ Some y → length y.levels ≡ 11 → texture_in (step s t c).state.objects x ≡ Some z → storage_at 0 z ≡ Some i.storage }
+    ensures levels { (s : State) (t n : ℕ) (c : CallValue) (x j : ℕ) (i : AnEglImage) (y z : BackedTexture) → IsAllowedGl s t n ImageTargetTexture2d c → target_texture s n ≡ Some x → target_image s n c ≡ Some i → texture_in s.objects x ≡ Some y → length y.levels ≡ 11 → texture_in (step s t c).state.objects x ≡ Some z → j ≢ 0 → storage_at j z ≡ None }
+    ensures renderbuffer { (s : State) (t n : ℕ) (c : CallValue) (x : ℕ) (i : AnEglImage) (z : BackedRenderbuffer) → IsAllowedGl s t n ImageTargetRenderbufferStorage c → target_renderbuffer s n ≡ Some x → target_image s n c ≡ Some i → renderbuffer_in (step s t c).state.objects x ≡ Some z → z.storage ≡ Some i.storage }
+    ensures sides { (s : State) (t n : ℕ) (c : CallValue) (x : ℕ) (i : AnEglImage) (v : StorageValue) (z : BackedRenderbuffer) → IsAllowedGl s t n ImageTargetRenderbufferStorage c → target_renderbuffer s n ≡ Some x → target_image s n c ≡ Some i → storage_in s.objects i.storage ≡ Some v → renderbuffer_in (step s t c).state.objects x ≡ Some z → z.renderbuffer ≡ of_kind Color v.width v.height }
 {}
 
 /// A call that gives a level of a texture or a renderbuffer other pixels, new ones or those of an EGL image, changes that object alone: each other object that is still there is as it was, and so is each storage. So siblings keep the pixels that they share (sections 3.7.1 and 3.7.2; OES_framebuffer_object; OES_EGL_image).
