@@ -215,26 +215,40 @@ lacking_status os f m = by m.depth m.stencil
 bare_status : (os : List (Option Object)) (f : FramebufferValue) → IsBare f → status_in os f ≡ GL_FRAMEBUFFER_INCOMPLETE_MISSING_ATTACHMENT_OES
 bare_status os f m = status_by os f _ _ _ (empty_part os f Color (m Color)) (empty_part os f Depth (m Depth)) (empty_part os f Stencil (m Stencil))
 
-second_of : (a c : Bool) → (a || true || c) ≡ true
-second_of true c = refl
-second_of false c = refl
+first_of : (a b c : Bool) → a ≡ true → (a || b || c) ≡ true
+first_of true b c e = refl
+first_of false b c e = absurd (false≢true e)
 
-third_of : (a b : Bool) → (a || b || true) ≡ true
-third_of true b = refl
-third_of false true = refl
-third_of false false = refl
+second_of : (a b c : Bool) → b ≡ true → (a || b || c) ≡ true
+second_of true b c e = refl
+second_of false true c e = refl
+second_of false false c e = absurd (false≢true e)
+
+third_of : (a b c : Bool) → c ≡ true → (a || b || c) ≡ true
+third_of true b c e = refl
+third_of false true c e = refl
+third_of false false c e = e
 
 abbrev any : (Part → Bool) → List (Option Object) → FramebufferValue → Bool
 any p os f = p (part_at os f Color) || p (part_at os f Depth) || p (part_at os f Stencil)
 
 any_of : (p : Part → Bool) (os : List (Option Object)) (f : FramebufferValue) (point : Point) → p (part_at os f point) ≡ true → any p os f ≡ true
-any_of p os f Color e = ap (λ b. b || p (part_at os f Depth) || p (part_at os f Stencil)) e
-any_of p os f Depth e = ap (λ b. p (part_at os f Color) || b || p (part_at os f Stencil)) e ∙ second_of (p (part_at os f Color)) (p (part_at os f Stencil))
-any_of p os f Stencil e = ap (λ b. p (part_at os f Color) || p (part_at os f Depth) || b) e ∙ third_of (p (part_at os f Color)) (p (part_at os f Depth))
+any_of p os f Color e = first_of (p (part_at os f Color)) (p (part_at os f Depth)) (p (part_at os f Stencil)) e
+any_of p os f Depth e = second_of (p (part_at os f Color)) (p (part_at os f Depth)) (p (part_at os f Stencil)) e
+any_of p os f Stencil e = third_of (p (part_at os f Color)) (p (part_at os f Depth)) (p (part_at os f Stencil)) e
+
+abbrev all_absent : List (Option Object) → FramebufferValue → Bool
+all_absent os f = not (part_at os f Color).present && not (part_at os f Depth).present && not (part_at os f Stencil).present
+
+abbrev unlike_at : List (Option Object) → FramebufferValue → Point → Point → Bool
+unlike_at os f p q = differ (part_at os f p) (part_at os f q)
+
+abbrev any_differ : List (Option Object) → FramebufferValue → Bool
+any_differ os f = unlike_at os f Color Depth || unlike_at os f Color Stencil || unlike_at os f Depth Stencil
 
 wrong_status : (os : List (Option Object)) (f : FramebufferValue) (point : Point) → is_incomplete (part_at os f point) ≡ true → status_in os f ≡ GL_FRAMEBUFFER_INCOMPLETE_ATTACHMENT_OES
 unfolding part_at
-wrong_status os f point e = ap (λ b. chosen b _ _ _) (any_of is_incomplete os f point e)
+wrong_status os f point e = ap (λ b. chosen b (all_absent os f) (any_differ os f) (not (part_at os f Color).present)) (any_of is_incomplete os f point e)
 
 unfit_status : (os : List (Option Object)) (f : FramebufferValue) → HasUnfit os f → status_in os f ≡ GL_FRAMEBUFFER_INCOMPLETE_ATTACHMENT_OES
 unfit_status os f m = by (stands os f m.point)
@@ -257,9 +271,6 @@ differ_back : (w h x y : ℕ) → (w ≢ x) ⊎ (h ≢ y) → (x ≢ w) ⊎ (y �
 differ_back w h x y (inl ne) = inl (λ e. ne (sym e))
 differ_back w h x y (inr ne) = inr (λ e. ne (sym e))
 
-abbrev any_differ : List (Option Object) → FramebufferValue → Bool
-any_differ os f = differ (part_at os f Color) (part_at os f Depth) || differ (part_at os f Color) (part_at os f Stencil) || differ (part_at os f Depth) (part_at os f Stencil)
-
 differ_of : (os : List (Option Object)) (f : FramebufferValue) (p q : Point) (w h x y : ℕ) → MayBeThere os f p w h → MayBeThere os f q x y → (w ≢ x) ⊎ (h ≢ y) → differ (part_at os f p) (part_at os f q) ≡ true
 differ_of os f p q w h x y m n d = ap (λ a. differ a (part_at os f q)) (right_part os f p w h m) ∙ ap (λ a. differ (right w h) a) (right_part os f q x y n) ∙ sides_differ w h x y d
 
@@ -268,12 +279,12 @@ not_itself a b e w h x y p q (inl ne) = absurd (ne (ap (λ (z : Part). z.w) (sym
 not_itself a b e w h x y p q (inr ne) = absurd (ne (ap (λ (z : Part). z.h) (sym p ∙ e ∙ q)))
 
 two_differ : (os : List (Option Object)) (f : FramebufferValue) (p q : Point) (w h x y : ℕ) → MayBeThere os f p w h → MayBeThere os f q x y → (w ≢ x) ⊎ (h ≢ y) → any_differ os f ≡ true
-two_differ os f Color Depth w h x y m n d = ap (λ b. b || _ || _) (differ_of os f Color Depth w h x y m n d)
-two_differ os f Depth Color w h x y m n d = ap (λ b. b || _ || _) (differ_of os f Color Depth x y w h n m (differ_back w h x y d))
-two_differ os f Color Stencil w h x y m n d = ap (λ b. _ || b || _) (differ_of os f Color Stencil w h x y m n d) ∙ second_of _ _
-two_differ os f Stencil Color w h x y m n d = ap (λ b. _ || b || _) (differ_of os f Color Stencil x y w h n m (differ_back w h x y d)) ∙ second_of _ _
-two_differ os f Depth Stencil w h x y m n d = ap (λ b. _ || _ || b) (differ_of os f Depth Stencil w h x y m n d) ∙ third_of _ _
-two_differ os f Stencil Depth w h x y m n d = ap (λ b. _ || _ || b) (differ_of os f Depth Stencil x y w h n m (differ_back w h x y d)) ∙ third_of _ _
+two_differ os f Color Depth w h x y m n d = first_of (unlike_at os f Color Depth) (unlike_at os f Color Stencil) (unlike_at os f Depth Stencil) (differ_of os f Color Depth w h x y m n d)
+two_differ os f Depth Color w h x y m n d = first_of (unlike_at os f Color Depth) (unlike_at os f Color Stencil) (unlike_at os f Depth Stencil) (differ_of os f Color Depth x y w h n m (differ_back w h x y d))
+two_differ os f Color Stencil w h x y m n d = second_of (unlike_at os f Color Depth) (unlike_at os f Color Stencil) (unlike_at os f Depth Stencil) (differ_of os f Color Stencil w h x y m n d)
+two_differ os f Stencil Color w h x y m n d = second_of (unlike_at os f Color Depth) (unlike_at os f Color Stencil) (unlike_at os f Depth Stencil) (differ_of os f Color Stencil x y w h n m (differ_back w h x y d))
+two_differ os f Depth Stencil w h x y m n d = third_of (unlike_at os f Color Depth) (unlike_at os f Color Stencil) (unlike_at os f Depth Stencil) (differ_of os f Depth Stencil w h x y m n d)
+two_differ os f Stencil Depth w h x y m n d = third_of (unlike_at os f Color Depth) (unlike_at os f Color Stencil) (unlike_at os f Depth Stencil) (differ_of os f Depth Stencil x y w h n m (differ_back w h x y d))
 two_differ os f Color Color w h x y m n d = not_itself _ _ refl w h x y (right_part os f Color w h m) (right_part os f Color x y n) d
 two_differ os f Depth Depth w h x y m n d = not_itself _ _ refl w h x y (right_part os f Depth w h m) (right_part os f Depth x y n) d
 two_differ os f Stencil Stencil w h x y m n d = not_itself _ _ refl w h x y (right_part os f Stencil w h m) (right_part os f Stencil x y n) d
@@ -284,9 +295,6 @@ fit_part os f w h point (inr m) = ap is_incomplete (right_part os f point w h m)
 
 present_part : (os : List (Option Object)) (f : FramebufferValue) (w h : ℕ) (point : Point) → MayBeThere os f point w h → (part_at os f point).present ≡ true
 present_part os f w h point m = ap (λ (z : Part). z.present) (right_part os f point w h m)
-
-abbrev all_absent : List (Option Object) → FramebufferValue → Bool
-all_absent os f = not (part_at os f Color).present && not (part_at os f Depth).present && not (part_at os f Stencil).present
 
 second_none : (a c : Bool) → (a && false && c) ≡ false
 second_none true c = refl
