@@ -281,7 +281,7 @@ swept_point m p f a h = elim (swept_same (roots a) a.objects m) [
 
 kept_after : (k : NameKind) → KeepsBound k → (s : State) (n m : ℕ) (p : Point) (f : FramebufferValue) (c : CallValue) → (target_framebuffer s n ≡ Some m → (x : ℕ) → IsNamedBy k s n c x → object_of (attached_at s.objects m p) ≢ Some x) →
     framebuffer_in (sweep (deleted_names k s n c.list)).objects m ≡ Some f → at_point p f ≡ attached_at s.objects m p
-kept_after k d s n m p f c h e = swept_point m p f (deleted_names k s n c.list) e ∙ all_kept k d (group_of s n) n m p c.list s (λ j i x v l q w. h j x (v, ((i, (l, q)), w)))
+kept_after k d s n m p f c h e = swept_point m p f (deleted_names k s n c.list) e ∙ all_kept k d (group_of s n) n m p c.list s (λ j i x v l q w. h j x (v, (i, l, q), w))
 
 textures_keep : KeepsBound textures
 textures_keep = record { each = λ x c. cond_both (is_place x c.bound.texture) _ c (λ (y : ContextObject). y.bound.framebuffer ≡ c.bound.framebuffer) (λ e. refl) (λ e. refl) }

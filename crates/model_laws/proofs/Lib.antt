@@ -14,6 +14,7 @@ pub mod TextureLaws
 pub mod NameLaws
 pub mod DeletionLaws
 pub mod DetachLaws
+pub mod StatusLaws
 pub mod BufferLaws
 pub mod RenderbufferLaws
 pub mod SiblingLaws
