@@ -35,7 +35,7 @@ use Rattle.framebuffer_objects.specs.Renderbuffers.{RenderbufferValue}
 use Rattle.model_laws.specs.Extents.{making, quiet}
 use Rattle.model_laws.specs.Shapes.{HasKind, IsFree, Shape, own_at, pixels_in, shapes}
 use Rattle.model_laws.specs.Sound.{IsWhole}
-use Rattle.model_laws.proofs.Blinds.{blind-display, blind-length, blind-object, blind-of}
+use Rattle.model_laws.proofs.Blinds.{blind-display, blind-length, blind-object, blind-of, free_pixels}
 use Rattle.model_laws.proofs.DrawCalls.{blind-shape}
 use Rattle.model_laws.proofs.Keeps.{Acts, Blind, acts_of, acts_self, acts_then, acts_within, by_quiet_moves}
 use Rattle.model_laws.proofs.LinkSetters.{setter-pixels, suits-pixels}
@@ -188,9 +188,7 @@ record IsShareable (sh : List (Option Shape)) (k : ℕ) : Type 0 where
 shareable : (s : State) (n k : ℕ) → own_in (object_at s n) ≡ None → is_in k (pixels_in (object_at s n)) ≡ true → IsWhole (shapes s.objects) s → IsShareable (shapes s.objects) k
 shareable s n k none h w = record {
   storage = pixels_are_storages (shapes s.objects) (object_at s n) k (w.kinds.objects n) h;
-  free = record {
-    each = λ m e. let same : n ≡ m = w.storages.each m n k e h in none-some k (sym (own_at-shapes s.objects n ∙ none) ∙ ap (own_at (shapes s.objects)) same ∙ e);
-  };
+  free = free_pixels s n k none h w;
 }
 
 -- ---- eglCreateImage.

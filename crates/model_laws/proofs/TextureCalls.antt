@@ -34,7 +34,7 @@ use Rattle.model_laws.specs.Sound.{IsWhole}
 use Rattle.egl_model.specs.State.{State, object_at}
 use Rattle.egl_model.specs.Sweep.{live_bytes}
 use Rattle.egl_model.specs.Textures.{change_pixels, has_no_side, image_bytes, level_of, level_storage, new_level, rewritten_part, set_crop, set_parameter, specified, specified_in, storage_at, target_texture, unpack_alignment, with_crop, with_pixels, with_value}
-use Rattle.model_laws.proofs.Blinds.{blind-context, blind-length, blind-object, blind-own_part}
+use Rattle.model_laws.proofs.Blinds.{blind-context, blind-length, blind-object, blind-own_part, free_pixels}
 use Rattle.model_laws.proofs.Keeps.{Acts, Blind, acts_of, acts_self, by_moves, by_quiet_moves}
 use Rattle.model_laws.proofs.GlCalls.{acts-written}
 use Rattle.model_laws.proofs.LinkSetters.{setter-pixels, setter-texture, suits-crop, suits-pixels, suits-value}
@@ -161,11 +161,7 @@ unowned n k o h = absurd (none-some n h)
 -- what a texture has at a level is no surface's
 pub free_level : (s : State) (n k : ℕ) (o : Option ℕ) → option_and_then (storage_at k) (option_and_then (texture_in s.objects) o) ≡ Some n → IsWhole (shapes s.objects) s → IsFree (shapes s.objects) n
 free_level s n k None h w = absurd (none-some n h)
-free_level s n k (Some x) h w = record {
-  each = λ m e.
-      let same : x ≡ m = w.storages.each m x n e (in_texture n k (object_at s x) h) in
-      none-some n (sym (own_at-shapes s.objects x ∙ unowned n k (object_at s x) h) ∙ ap (own_at (shapes s.objects)) same ∙ e);
-}
+free_level s n k (Some x) h w = free_pixels s x n (unowned n k (object_at s x) h) (in_texture n k (object_at s x) h) w
 
 acts-rewritten_at : (s : State) (t : ℕ) (c : CallValue) (align : ℕ) (o : Option ℕ) → ((n : ℕ) → o ≡ Some n → IsWhole (shapes s.objects) s → IsFree (shapes s.objects) n) → Acts quiet t s (λ a. rewritten_part c align o a)
 unfolding change_storage
