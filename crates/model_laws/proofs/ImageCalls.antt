@@ -1,5 +1,5 @@
 -- What the calls on EGL images keep, and how they pass what is put for others.
-use Rattle.std.proofs.Common.{◌≡◌, ℕ, zero, suc, ◌+◌, ◌&&◌, ◌||◌, ◌==◌, not, Bool, true, false, ℤ, pos, cond, List, [], ◌∷◌, ◌++◌, refl, sym, ap, subst, ◌∙◌, arith, inr, length, get_or, map, is_some, Option, None, Some}
+use Rattle.std.proofs.Common.{◌≡◌, ℕ, zero, suc, ◌+◌, ◌&&◌, ◌||◌, ◌==◌, not, Bool, true, false, ℤ, pos, cond, List, [], ◌∷◌, ◌++◌, refl, ap, subst, ◌∙◌, arith, inr, length, get_or, map, is_some, Option, None, Some}
 use Rattle.std.specs.List.{count_by, list_any, sum_by}
 use Rattle.std.specs.Option.{option_and_then, option_map_or}
 use Rattle.std.proofs.Math.Path.{fun_ext}
@@ -33,7 +33,7 @@ use Rattle.egl_model.specs.Sweep.{edges_in, live_bytes, references, roots}
 use Rattle.egl_model.specs.Textures.{change_pixels, target_texture, with_pixels}
 use Rattle.framebuffer_objects.specs.Renderbuffers.{RenderbufferValue}
 use Rattle.model_laws.specs.Extents.{making, quiet}
-use Rattle.model_laws.specs.Shapes.{HasKind, IsFree, Shape, own_at, pixels_in, shapes}
+use Rattle.model_laws.specs.Shapes.{HasKind, IsFree, Shape, pixels_in, shapes}
 use Rattle.model_laws.specs.Sound.{IsWhole}
 use Rattle.model_laws.proofs.Blinds.{blind-display, blind-length, blind-object, blind-of, free_pixels}
 use Rattle.model_laws.proofs.DrawCalls.{blind-shape}
@@ -43,7 +43,7 @@ use Rattle.model_laws.proofs.LitterLaws.{roots-set_error}
 use Rattle.model_laws.proofs.Moves.{Add, Change, IsStored, Name, own_in}
 use Rattle.model_laws.proofs.NameCalls.{blind-group_of, blind-named}
 use Rattle.model_laws.proofs.NewObjects.{free_more}
-use Rattle.model_laws.proofs.Places.{new_kind, old_kind, own_at-shapes, same_at_set}
+use Rattle.model_laws.proofs.Places.{new_kind, old_kind, same_at_set}
 use Rattle.model_laws.proofs.RenderbufferCalls.{acts-kind, blind-target_renderbuffer, kinded}
 use Rattle.model_laws.proofs.Slots.{in_levels, no_edge, only_one, pixels_are_storages}
 use Rattle.model_laws.proofs.TextureCalls.{acts-no_level, blind-target}

@@ -1,10 +1,9 @@
 -- What the calls on textures keep.
-use Rattle.std.proofs.Common.{◌≡◌, ℕ, zero, suc, ◌+◌, ◌||◌, ◌/◌, ◌^◌, ◌≤◌, ℤ, pos, pow_pos, ltb, true, false, List, [], ◌∷◌, ◌++◌, refl, sym, ap, subst, ◌∙◌, arith, length, get_or, min, Option, None, Some}
-use Rattle.std.specs.Prelude.{int_lt, unwrap_or, option_to_list}
+use Rattle.std.proofs.Common.{◌≡◌, ℕ, ◌+◌, ◌||◌, ◌/◌, ◌^◌, ◌≤◌, ℤ, pos, pow_pos, ltb, true, false, List, [], ◌∷◌, ◌++◌, refl, ap, subst, ◌∙◌, arith, length, min, Option, None, Some}
+use Rattle.std.specs.Prelude.{int_lt, unwrap_or}
 use Rattle.std.specs.Option.{option_and_then, option_map, option_map_or}
-use Rattle.std.proofs.lemmas.Bool.{cond_both, eq-eqb, or_parts, ltb-false}
+use Rattle.std.proofs.lemmas.Bool.{cond_both, or_parts, ltb-false}
 use Rattle.std.proofs.lemmas.Option.{none-some}
-use Rattle.driver_objects.specs.Objects.{filled}
 use Rattle.std.proofs.lemmas.Nat.{div_below}
 use Rattle.egl_calls.specs.Calls.{CallValue}
 use Rattle.egl_calls.specs.Ranges.{unsigned}
@@ -29,7 +28,7 @@ use Rattle.egl_model.specs.GlFacts.{gl_refusal, image_facts, part_facts, stored_
 use Rattle.egl_model.specs.Graph.{is_in}
 use Rattle.egl_model.specs.Objects.{as_storage, as_texture, change_storage, change_texture, storage_in, texture_in, with_texture}
 use Rattle.egl_model.specs.Parts.{put_own}
-use Rattle.model_laws.specs.Shapes.{IsFree, own_at, pixels_in, shapes}
+use Rattle.model_laws.specs.Shapes.{IsFree, pixels_in, shapes}
 use Rattle.model_laws.specs.Sound.{IsWhole}
 use Rattle.egl_model.specs.State.{State, object_at}
 use Rattle.egl_model.specs.Sweep.{live_bytes}
@@ -40,7 +39,7 @@ use Rattle.model_laws.proofs.GlCalls.{acts-written}
 use Rattle.model_laws.proofs.LinkSetters.{setter-pixels, setter-texture, suits-crop, suits-pixels, suits-value}
 use Rattle.model_laws.proofs.Moves.{Add, Change, own_in}
 use Rattle.model_laws.proofs.NewObjects.{free_new, full-uploaded, without_pixels}
-use Rattle.model_laws.proofs.Places.{new_kind, own_at-shapes}
+use Rattle.model_laws.proofs.Places.{new_kind}
 use Rattle.model_laws.proofs.Setters.{form-rewritten}
 use Rattle.model_laws.proofs.Slots.{in_levels, no_edge, only_one}
 use Rattle.model_laws.proofs.Writes.{IsBlind}
