@@ -1,5 +1,5 @@
 -- What a thread looks at, and what is put for another thread doesn't change: one lemma for each way to look at a state.
-use Rattle.std.proofs.Common.{◌≡◌, ℕ, Bool, true, false, ◌||◌, List, [], ◌∷◌, zero, suc, refl, sym, ap, ◌∙◌, length, get_or, set, Option, None, Some, is_some}
+use Rattle.std.proofs.Common.{◌≡◌, ℕ, Bool, true, false, ◌||◌, List, [], ◌∷◌, zero, suc, refl, sym, ap, ◌∙◌, length, get_or, set, Option, None, Some}
 use Rattle.egl_calls.specs.declared.errors.EglError.{EglError}
 use Rattle.std.specs.List.{list_any}
 use Rattle.std.specs.Option.{option_and_then, option_map, option_map_or}

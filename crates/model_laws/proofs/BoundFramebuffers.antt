@@ -1,9 +1,8 @@
 -- The framebuffer that is bound to a thread: what is put for another thread doesn't change it, and no other thread draws to its storages, nor reads from them.
-use Rattle.std.proofs.Common.{◌≡◌, ℕ, Bool, true, false, cond, ◌==◌, [], ◌∷◌, refl, sym, ap, ◌∙◌, Option, None, Some}
+use Rattle.std.proofs.Common.{◌≡◌, ℕ, Bool, true, false, ◌==◌, [], ◌∷◌, refl, sym, ap, ◌∙◌, Option, None, Some}
 use Rattle.std.specs.Prelude.{if◌then◌else◌, unwrap_or}
 use Rattle.std.specs.Option.{option_and_then}
 use Rattle.std.proofs.lemmas.Option.{none-some}
-use Rattle.context_state.specs.Parts.{PartValue}
 use Rattle.framebuffer_objects.specs.Completeness.{status}
 use Rattle.framebuffer_objects.specs.Framebuffers.{FramebufferValue, fresh, object_of}
 use Rattle.framebuffer_objects.specs.declared.completeness.Part.{Part}
@@ -12,8 +11,8 @@ use Rattle.framebuffer_objects.specs.declared.points.Point.{Point}
 use Rattle.framebuffer_objects.specs.declared.points.Point.TheVariants.{Depth, Stencil}
 use Rattle.driver_objects.specs.declared.objects.Object.{Object}
 use Rattle.driver_objects.specs.declared.objects.Object.TheVariants.{Context, Renderbuffer, Storage, Texture}
-use Rattle.egl_model.specs.Currents.{current_context, draw_storage, part_of_context, read_storage}
-use Rattle.egl_model.specs.Framebuffers.{BoundFramebuffer, attached_storage, backed_part, bound_framebuffer, color_part_in, color_storage, current_framebuffer_name, framebuffer_name, framebuffer_of, is_complete, object_framebuffer, part_in, status_in, stored_part, target_framebuffer, window_framebuffer, window_status}
+use Rattle.egl_model.specs.Currents.{current_context, part_of_context}
+use Rattle.egl_model.specs.Framebuffers.{BoundFramebuffer, attached_storage, backed_part, bound_framebuffer, color_part_in, current_framebuffer_name, framebuffer_name, framebuffer_of, is_complete, object_framebuffer, part_in, status_in, stored_part, target_framebuffer, window_framebuffer, window_status}
 use Rattle.egl_model.specs.Graph.{is_in}
 use Rattle.egl_model.specs.Objects.{as_framebuffer, as_renderbuffer, as_storage, framebuffer_in, storage_in}
 use Rattle.egl_model.specs.Parts.{put_own}

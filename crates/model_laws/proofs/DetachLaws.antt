@@ -1,6 +1,6 @@
 -- Where the name of a texture or a renderbuffer is deleted, it is detached from the framebuffer that the caller has bound, and all else that is attached stays.
-use Rattle.std.proofs.Common.{◌≡◌, ◌≢◌, ◌⊎◌, ℕ, zero, suc, ◌<◌, ℤ, Bool, true, false, inl, inr, List, [], ◌∷◌, length, get_or, is_some, refl, sym, ap, subst, ◌∙◌, arith, Option, None, Some}
-use Rattle.std.specs.Prelude.{Contains, IfSome, if◌then◌else◌}
+use Rattle.std.proofs.Common.{◌≡◌, ◌≢◌, ◌⊎◌, ℕ, zero, suc, ◌<◌, ℤ, true, false, inl, inr, List, [], ◌∷◌, length, get_or, is_some, refl, sym, ap, subst, ◌∙◌, arith, Option, None, Some}
+use Rattle.std.specs.Prelude.{IfSome}
 use Rattle.std.specs.Option.{option_and_then}
 use Rattle.std.proofs.lemmas.Bool.{cases_eq, cond_both, eqb-true, false≢true}
 use Rattle.std.proofs.lemmas.List.{get_or-set_other}
@@ -8,11 +8,9 @@ use Rattle.std.proofs.lemmas.Option.{none-some}
 use Rattle.egl_calls.specs.Calls.{CallValue}
 use Rattle.egl_calls.specs.Ranges.{unsigned}
 use Rattle.egl_calls.specs.declared.kinds.GlKind.TheVariants.{DeleteRenderbuffers, DeleteTextures}
-use Rattle.driver_objects.specs.Targets.{binding_of, slot_of}
 use Rattle.driver_objects.specs.declared.contexts.Context.{Context as ContextObject}
 use Rattle.driver_objects.specs.declared.objects.Object.{Object}
 use Rattle.driver_objects.specs.declared.objects.Object.TheVariants.{Context, Framebuffer, Group}
-use Rattle.driver_objects.specs.declared.targets.BindTarget.{BindTarget}
 use Rattle.framebuffer_objects.specs.Framebuffers.{FramebufferValue, at_point, object_of, with_point}
 use Rattle.framebuffer_objects.specs.declared.framebuffers.Attached.{Attached}
 use Rattle.framebuffer_objects.specs.declared.points.Point.{Point}
@@ -26,7 +24,7 @@ use Rattle.share_group.specs.declared.names.NameKind.TheVariants.{Texture as tex
 use Rattle.egl_model.specs.Bindings.{bound_framebuffer_in, deleted_in, deleted_name, deleted_names, detached_at, detached_from, detached_on, freed, unbound_in, unbound_object}
 use Rattle.egl_model.specs.Framebuffers.{target_framebuffer}
 use Rattle.egl_model.specs.Names.{group_of, object_named, with_name_of}
-use Rattle.egl_model.specs.Objects.{as_context, as_framebuffer, change_context, change_framebuffer, change_group, context_in, framebuffer_in, with_context, with_framebuffer, with_group}
+use Rattle.egl_model.specs.Objects.{as_context, as_framebuffer, change_context, change_framebuffer, change_group, framebuffer_in, with_context, with_framebuffer, with_group}
 use Rattle.egl_model.specs.Parts.{is_place}
 use Rattle.egl_model.specs.State.{State, object_at}
 use Rattle.egl_model.specs.Step.{Stepped, step}

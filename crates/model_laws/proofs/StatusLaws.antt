@@ -1,5 +1,5 @@
 -- Each status of a framebuffer is answered exactly where what it tells holds.
-use Rattle.std.proofs.Common.{◌≡◌, ◌≢◌, ◌⊎◌, ◌<◌, ℕ, pos, Bool, true, false, not, ◌||◌, ◌&&◌, ◌==◌, cond, ltb, inl, inr, [], List, is_some, refl, sym, ap, subst, ◌∙◌, arith, Option, None, Some}
+use Rattle.std.proofs.Common.{◌≡◌, ◌≢◌, ◌⊎◌, ◌<◌, ℕ, pos, Bool, true, false, not, ◌||◌, ◌&&◌, ◌==◌, cond, inl, inr, [], List, is_some, refl, sym, ap, subst, ◌∙◌, arith, Option, None, Some}
 use Rattle.std.specs.Prelude.{if◌then◌else◌, nat_lt, unwrap_or}
 use Rattle.std.specs.Option.{option_and_then}
 use Rattle.std.proofs.lemmas.Bool.{and_parts, cases_eq, eq-eqb, false≢true, ne_eqb}
@@ -19,7 +19,7 @@ use Rattle.driver_objects.specs.Storages.{StorageValue}
 use Rattle.driver_objects.specs.declared.objects.Object.{Object}
 use Rattle.driver_objects.specs.declared.renderbuffers.BackedRenderbuffer.{BackedRenderbuffer}
 use Rattle.egl_model.specs.Currents.{current_context, draw_storage}
-use Rattle.egl_model.specs.Framebuffers.{BoundFramebuffer, attached_storage, backed_part, bound_framebuffer, color_part_in, current_framebuffer_name, framebuffer_of, object_framebuffer, part_in, status_in, stored_part, window_framebuffer, window_status}
+use Rattle.egl_model.specs.Framebuffers.{attached_storage, backed_part, bound_framebuffer, color_part_in, framebuffer_of, object_framebuffer, part_in, status_in, stored_part, window_framebuffer, window_status}
 use Rattle.egl_model.specs.Objects.{renderbuffer_in, storage_in}
 use Rattle.egl_model.specs.State.{State}
 use Rattle.egl_model.specs.Step.{Stepped, step}
