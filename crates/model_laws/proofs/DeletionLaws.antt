@@ -13,7 +13,7 @@ use Rattle.driver_objects.specs.declared.contexts.Context.{Context as ContextObj
 use Rattle.driver_objects.specs.declared.objects.Object.{Object}
 use Rattle.driver_objects.specs.declared.objects.Object.TheVariants.{Context, Group}
 use Rattle.driver_objects.specs.declared.targets.BindTarget.{BindTarget}
-use Rattle.driver_objects.specs.declared.targets.BindTarget.TheVariants.{Texture as TextureTarget, ArrayBuffer, ElementArrayBuffer, Renderbuffer as RenderbufferTarget}
+use Rattle.driver_objects.specs.declared.targets.BindTarget.TheVariants.{Texture as TextureTarget, ArrayBuffer, ElementArrayBuffer, Renderbuffer as RenderbufferTarget, Framebuffer as FramebufferTarget}
 use Rattle.share_group.specs.Groups.{GroupValue}
 use Rattle.share_group.specs.Names.{object_of}
 use Rattle.share_group.specs.declared.names.NameKind.{NameKind}

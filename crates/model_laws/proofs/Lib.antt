@@ -38,6 +38,7 @@ pub mod FullMoves
 pub mod PutMoves
 pub mod Keeps
 pub mod Blinds
+pub mod BoundFramebuffers
 pub mod Setters
 pub mod GlCalls
 pub mod Named
@@ -47,6 +48,7 @@ pub mod NameCalls
 pub mod TextureCalls
 pub mod BufferCalls
 pub mod RenderbufferCalls
+pub mod FramebufferCalls
 pub mod DrawCalls
 pub mod CopyCalls
 pub mod EglCalls
