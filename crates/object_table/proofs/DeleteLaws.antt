@@ -13,7 +13,7 @@ use Rattle.driver_objects.specs.declared.targets.BindTarget.TheVariants.{Texture
 use Rattle.driver_objects.specs.Objects.{edges_of, filled}
 use Rattle.driver_objects.specs.declared.contexts.Context.{Context as ContextObject}
 use Rattle.driver_objects.specs.declared.objects.Object.{Object}
-use Rattle.driver_objects.specs.declared.objects.Object.TheVariants.{Context, Group, Texture, Buffer, Renderbuffer, Surface, Storage, Sync}
+use Rattle.driver_objects.specs.declared.objects.Object.TheVariants.{Context, Group, Texture, Buffer, Renderbuffer, Framebuffer, Surface, Storage, Image, Sync}
 use Rattle.egl_model.specs.Names.{with_name_of}
 use Rattle.egl_model.specs.Objects.{as_context, as_group, change_context, change_group, with_context, with_group}
 use Rattle.egl_model.specs.Parts.{is_place}
@@ -97,6 +97,8 @@ slot_there b (Some (Renderbuffer v)) which name x h = absurd (false≢true h)
 slot_there b (Some (Surface v)) which name x h = absurd (false≢true h)
 slot_there b (Some (Storage v)) which name x h = absurd (false≢true h)
 slot_there b (Some (Sync v)) which name x h = absurd (false≢true h)
+slot_there b (Some (Framebuffer v)) which name x h = absurd (false≢true h)
+slot_there b (Some (Image v)) which name x h = absurd (false≢true h)
 
 edge_there : (b : BindTarget) (o : Option Object) (which name x : ℕ) → has_there b x o ≡ true → edge_in (with_context (named_at which name) o) (slot_of b) ≡ Some x
 edge_there b (Some (Context c)) which name x h = is_placed x (bound_in (slot_of b) c.bound) h
@@ -108,6 +110,8 @@ edge_there b (Some (Renderbuffer v)) which name x h = absurd (false≢true h)
 edge_there b (Some (Surface v)) which name x h = absurd (false≢true h)
 edge_there b (Some (Storage v)) which name x h = absurd (false≢true h)
 edge_there b (Some (Sync v)) which name x h = absurd (false≢true h)
+edge_there b (Some (Framebuffer v)) which name x h = absurd (false≢true h)
+edge_there b (Some (Image v)) which name x h = absurd (false≢true h)
 
 linked_there : (b : BindTarget) (o : Option Object) (x : ℕ) → has_there b x o ≡ true → linked_in (slot_of b) None (with_context (named_at (binding_of b) 0) o) ≡ with_context (unbound_at b x) o
 linked_there b (Some (Context c)) x h = rw h refl
@@ -119,6 +123,8 @@ linked_there b (Some (Renderbuffer v)) x h = absurd (false≢true h)
 linked_there b (Some (Surface v)) x h = absurd (false≢true h)
 linked_there b (Some (Storage v)) x h = absurd (false≢true h)
 linked_there b (Some (Sync v)) x h = absurd (false≢true h)
+linked_there b (Some (Framebuffer v)) x h = absurd (false≢true h)
+linked_there b (Some (Image v)) x h = absurd (false≢true h)
 
 not_bound : (b : BindTarget) (o : Option Object) (x : ℕ) → has_there b x o ≡ false → with_context (unbound_at b x) o ≡ o
 not_bound b (Some (Context c)) x h = rw h refl
@@ -216,6 +222,8 @@ context_group a g n (Some (Renderbuffer v)) e h down gone = refl
 context_group a g n (Some (Surface v)) e h down gone = refl
 context_group a g n (Some (Storage v)) e h down gone = refl
 context_group a g n (Some (Sync v)) e h down gone = refl
+context_group a g n (Some (Framebuffer v)) e h down gone = refl
+context_group a g n (Some (Image v)) e h down gone = refl
 
 own_left : (g : ℕ) (w a : Option Object) → (a ≡ None) ⊎ (a ≡ w) → option_map_or (λ (c : ContextObject). c.group) (as_context w) g ≡ g → option_map_or (λ (c : ContextObject). c.group) (as_context a) g ≡ g
 own_left g w a (inl e) h = rw e refl
