@@ -58,6 +58,7 @@ fn window_status(draw: Option<u64>) -> u32
 }
 
 /// The code of a status, which has 32 bits.
+#[tactic(auto, using(crate::proofs::DeleteLaws::list_fits))]
 fn status_of(parts: &[Part; 3]) -> u32
     ensures { result ≡ completeness.status (part_at parts.now 0) (part_at parts.now 1) (part_at parts.now 2) }
 {
@@ -174,6 +175,7 @@ impl Driver {
     }
 
     /// A texture or a renderbuffer, as it is attached under a name; nothing else is.
+    #[tactic(auto, using(crate::proofs::FramebufferLaws::{texture_as, renderbuffer_as, nothing_as, texture_there, renderbuffer_there}))]
     fn attached_as(&self, name: u32, object: u64) -> Option<Attached>
         ensures value { result ≡ attached_as name object (object_at self.now.state object) }
         ensures there { IfSome result (IsAttachable self.now.state.objects) }

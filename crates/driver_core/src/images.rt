@@ -91,6 +91,7 @@ impl Driver {
     }
 
     /// The storage of a level; no level has a negative number.
+    #[tactic(auto, using(crate::proofs::ImageLaws::{no_negative, some_level}))]
     fn level_pixels(&self, object: u64, level: i64) -> Option<u64>
         ensures { result ≡ level_pixels level (object_at self.now.state object) }
     {
@@ -110,8 +111,10 @@ impl Driver {
     }
 
     /// A storage with sides above 0.
+    #[tactic(auto, using(crate::proofs::ImageLaws::pixels_stored))]
     fn with_pixels(&self, storage: Option<u64>) -> Option<u64>
-        ensures { result ≡ with_pixels_in self.now.state.objects storage }
+        ensures value { result ≡ with_pixels_in self.now.state.objects storage }
+        ensures there { IfSome result (λ k. IsSome (storage_in self.now.state.objects k)) }
     {
         match storage {
             Some(storage) => {
@@ -126,8 +129,10 @@ impl Driver {
     }
 
     /// The storage of the level that an eglCreateImage names.
+    #[tactic(auto, using(crate::proofs::ImageLaws::no_source))]
     fn level_of_source(&self, source: Option<u64>, call: &Call) -> Option<u64>
-        ensures { result ≡ with_pixels_in self.now.state.objects (level_pixels (asked_level call.now) (option_and_then (object_at self.now.state) source)) }
+        ensures value { result ≡ with_pixels_in self.now.state.objects (level_pixels (asked_level call.now) (option_and_then (object_at self.now.state) source)) }
+        ensures there { IfSome result (λ k. IsSome (storage_in self.now.state.objects k)) }
     {
         match source {
             Some(object) => self.with_pixels(self.level_pixels(object, asked_level(call))),
@@ -136,6 +141,7 @@ impl Driver {
     }
 
     /// Whether something besides a texture or a renderbuffer refers to a storage.
+    #[tactic(auto, using(crate::proofs::CountLaws::references_counted))]
     fn is_sibling(&self, storage: Option<u64>) -> bool
         ensures { result ≡ is_sibling self.now.state storage }
     {
@@ -218,6 +224,7 @@ impl Driver {
     }
 
     /// That image.
+    #[tactic(auto, using(crate::proofs::ImageLaws::image_pixels))]
     fn target_image(&self, context: u64, call: &Call) -> Option<EglImage>
         ensures value { result ≡ target_image self.now.state context call.now }
         ensures there { IfSome result (λ i. IsPixels self.now.state.objects i.storage) }
