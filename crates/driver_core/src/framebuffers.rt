@@ -175,7 +175,7 @@ impl Driver {
     }
 
     /// A texture or a renderbuffer, as it is attached under a name; nothing else is.
-    #[tactic(auto, using(crate::proofs::FramebufferLaws::{texture_as, renderbuffer_as, nothing_as, texture_there, renderbuffer_there}))]
+    #[tactic(auto, using(crate::proofs::FramebufferLaws::texture_as, crate::proofs::FramebufferLaws::renderbuffer_as, crate::proofs::FramebufferLaws::nothing_as, crate::proofs::FramebufferLaws::texture_there, crate::proofs::FramebufferLaws::renderbuffer_there))]
     fn attached_as(&self, name: u32, object: u64) -> Option<Attached>
         ensures value { result ≡ attached_as name object (object_at self.now.state object) }
         ensures there { IfSome result (IsAttachable self.now.state.objects) }

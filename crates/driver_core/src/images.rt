@@ -91,7 +91,7 @@ impl Driver {
     }
 
     /// The storage of a level; no level has a negative number.
-    #[tactic(auto, using(crate::proofs::ImageLaws::{no_negative, some_level}))]
+    #[tactic(auto, using(crate::proofs::ImageLaws::no_negative, crate::proofs::ImageLaws::some_level))]
     fn level_pixels(&self, object: u64, level: i64) -> Option<u64>
         ensures { result ≡ level_pixels level (object_at self.now.state object) }
     {
