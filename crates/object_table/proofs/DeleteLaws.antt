@@ -288,8 +288,8 @@ stays : (k : NameKind) (g n name : ℕ) (o : Option ℕ) (a new : List (Option O
 stays k g n name o a new before now l e held exist = elim (l.each n) [
   | inr q ↦ ap (λ y. is_some (as_context y)) q ∙ freed_contexts k g n name o a n
   | inl q ↦ elim (cases_Bool (is_some (as_context (get_or a n None)))) [
-    | inl yes ↦ absurd (false≢true (sym (ap is_some q) ∙ exist n (subst (λ hs. 0 < get_or hs n 0) (sym e) (held n yes))))
-    | inr no ↦ ap (λ y. is_some (as_context y)) q ∙ sym no
+    | inl there ↦ absurd (false≢true (sym (ap is_some q) ∙ exist n (subst (λ hs. 0 < get_or hs n 0) (sym e) (held n there))))
+    | inr gone ↦ ap (λ y. is_some (as_context y)) q ∙ sym gone
   ]
 ]
 

@@ -78,8 +78,8 @@ attach_left p a os mid new n h l e =
     let o = get_or os n None in let f = linked_in (point_slot p) (Some a.object) in let g = with_framebuffer (renamed p a) in
     let m : List (Option Object) = set os n (f o) in
     let w = framebuffer_there o h in
-    let as : g (f o) ≡ with_framebuffer (with_point p (Some a)) o = subst (λ y. g (f y) ≡ with_framebuffer (with_point p (Some a)) y) (sym w.1) (attached_as p a w.0) in
-    let b : set m n (g (get_or m n None)) ≡ set os n (with_framebuffer (with_point p (Some a)) o) = ap (λ y. set m n (g y)) (changed_at f refl n os) ∙ set-set os n (f o) (g (f o)) ∙ ap (set os n) as in
+    let same : g (f o) ≡ with_framebuffer (with_point p (Some a)) o = subst (λ y. g (f y) ≡ with_framebuffer (with_point p (Some a)) y) (sym w.1) (attached_as p a w.0) in
+    let b : set m n (g (get_or m n None)) ≡ set os n (with_framebuffer (with_point p (Some a)) o) = ap (λ y. set m n (g y)) (changed_at f refl n os) ∙ set-set os n (f o) (g (f o)) ∙ ap (set os n) same in
     subst (λ ys. IsLeft ys new) b (subst (λ ys. IsLeft (set m n (g (get_or m n None))) ys) (sym e) (left_change g refl n m mid l))
 
 pub detach_left : (p : Point) (os new : List (Option Object)) (n : ℕ) → is_some (as_framebuffer (get_or os n None)) ≡ true → IsLeft (set os n (linked_in (point_slot p) None (get_or os n None))) new → IsLeft (change_framebuffer (with_point p None) n os) new

@@ -124,7 +124,7 @@ pub more_emptied : (os mid new : List (Option Object)) (n k : ℕ) → IsLeft (c
 more_emptied os mid new n k a b = texture_then (emptied k) (with_level (suc k) None) os mid new n a b
 
 -- ---- The pixels of an image.
-dropped : ℕ → Option Object → Option Object
+abbrev dropped : ℕ → Option Object → Option Object
 dropped zero o = o
 dropped (suc k) o = with_pixels (suc k) None (dropped k o)
 
