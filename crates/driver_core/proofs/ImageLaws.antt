@@ -1,6 +1,7 @@
 -- EGL images and the storages that they share.
 use Rattle.std.proofs.Common.{◌≡◌, ◌≢◌, ℕ, ◌<◌, ℤ, pos, negsuc, Bool, true, false, cond, List, [], ◌∷◌, get_or, refl, sym, ap, ◌∙◌, subst, inl, inr, arith, Option, None, Some}
 use Rattle.std.proofs.lemmas.Bool.{and_parts, cases_eq, false≢true, leb-false, not-false}
+use Rattle.std.proofs.lemmas.Int.{ints}
 use Rattle.std.specs.Prelude.{IfSome, IsSome, int_lt, is_some}
 use Rattle.call_rules.proofs.EglLaws.{image_allowed}
 use Rattle.call_rules.proofs.GlLaws.{rows_off}
@@ -32,8 +33,11 @@ use Rattle.object_table.specs.Tables.{LeadsDown}
 use Rattle.driver_core.proofs.RootLaws.{times_one}
 
 -- ---- The level of which there is to be an image.
+not_below_zero : (n : ℕ) → int_lt (pos n) (pos 0) ≡ false
+not_below_zero n = grind (arith, ints)
+
 pub no_negative : (z : ℤ) (o : Option Object) → int_lt z (pos 0) ≡ true → None ≡ level_pixels z o
-no_negative (pos n) o h = absurd (let e : false ≡ true = h in cc)
+no_negative (pos n) o h = absurd (false≢true (sym (not_below_zero n) ∙ h))
 no_negative (negsuc n) o h = refl
 
 pub some_level : (z : ℤ) (o : Option Object) → int_lt z (pos 0) ≡ false → pixels_at (unsigned z) o ≡ level_pixels z o
