@@ -4,7 +4,8 @@ ghost use Rattle.std.specs.List.{list_any};
 ghost use Rattle.std.specs.Option.{option_map};
 ghost use Rattle.egl_model.specs.Draws.{level_shapes};
 ghost use Rattle.egl_model.specs.Images.{above_base, is_incomplete_in, is_source_in, levels_dropped};
-ghost use Rattle.egl_model.specs.Objects.{as_egl_image, as_texture, change_texture, egl_image_in, storage_in, texture_in};
+ghost use Rattle.egl_model.specs.Links.{rank_in};
+ghost use Rattle.egl_model.specs.Objects.{as_egl_image, as_texture, change_texture, egl_image_in, texture_in};
 ghost use Rattle.egl_model.specs.Textures.{change_pixels, pixels_at, with_level};
 ghost use Rattle.texture_objects.specs.Levels.{is_complete};
 ghost use Rattle.ref_store.specs.Kept.{at, AllIn};
@@ -175,7 +176,7 @@ impl ObjectTable {
 
     /// Gives a texture the pixels of a storage at level 0 and none at the others, or gives them to a renderbuffer. What nothing reaches any more from what is held is gone then. It takes no memory.
     pub fn link_image<L: Ledger>(&mut self, n: u64, storage: u64, steps: &mut Steps<L>)
-        requires { IsSome (storage_in self.old.objects storage) }
+        requires { IsSome (slice_index_or self.old.objects storage None) × (rank_in (slice_index_or self.old.objects storage None) < 1) }
         ensures objects { IsLeft (change_pixels 0 (Some storage) n (levels_dropped 10 n self.old.objects)) self.new.objects }
         ensures holds { self.new.holds ≡ self.old.holds }
         ensures steps { steps.new + weight_of self.new.objects ≤ steps.old + 2 + weight_of self.old.objects }
