@@ -28,8 +28,8 @@ use Rattle.egl_model.specs.Textures.{pixels_at}
 use Rattle.model_laws.proofs.Places.{same_at_set}
 use Rattle.ref_store.proofs.CountLaws.{times_none, times_other}
 use Rattle.ref_store.specs.Counts.{times}
-use Rattle.object_table.specs.Links.{IsPixels}
 use Rattle.object_table.specs.Tables.{LeadsDown}
+use Rattle.driver_core.specs.Groups.{IsPixels}
 use Rattle.driver_core.proofs.RootLaws.{times_one}
 
 -- ---- The level of which there is to be an image.

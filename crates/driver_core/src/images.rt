@@ -17,7 +17,7 @@ ghost use Rattle.egl_model.specs.State.{object_at};
 ghost use Rattle.egl_model.specs.Sweep.{sweep};
 ghost use Rattle.egl_model.specs.Textures.{target_texture};
 ghost use Rattle.driver_core.specs.Costs.{IsCheap};
-ghost use Rattle.object_table.specs.Links.{IsPixels};
+ghost use Rattle.driver_core.specs.Groups.{IsPixels};
 
 use crate::configs::is_list_allowed;
 use crate::handles::new_handle;

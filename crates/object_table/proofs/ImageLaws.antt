@@ -120,8 +120,11 @@ pub none_emptied : (os : List (Option Object)) (n : ℕ) → IsLeft (change_text
 unfolding change_texture
 none_emptied os n = left_self _ os (sym (ap (set os n) (same_texture (get_or os n None)) ∙ set-get_or os n None))
 
-pub more_emptied : (os mid new : List (Option Object)) (n k : ℕ) → IsLeft (change_texture (emptied k) n os) mid → IsLeft (change_texture (with_level (suc k) None) n mid) new → IsLeft (change_texture (emptied (suc k)) n os) new
-more_emptied os mid new n k a b = texture_then (emptied k) (with_level (suc k) None) os mid new n a b
+pub more_emptied : (os mid new : List (Option Object)) (n k : ℕ) → IsLeft (change_texture (emptied k) n os) mid → IsLeft (change_texture (with_level (k + 1) None) n mid) new → IsLeft (change_texture (emptied (k + 1)) n os) new
+more_emptied os mid new n k a b =
+    let e : k + 1 ≡ suc k = omega arith in
+    subst (λ j. IsLeft (change_texture (emptied j) n os) new) (sym e)
+    (texture_then (emptied k) (with_level (suc k) None) os mid new n a (subst (λ j. IsLeft (change_texture (with_level j None) n mid) new) e b))
 
 -- ---- The pixels of an image.
 abbrev dropped : ℕ → Option Object → Option Object

@@ -1,14 +1,15 @@
 //! EGL images, and the pixels of which they are made (EGL 1.5, section 3.9; OES_EGL_image).
-ghost use Rattle.std.specs.Prelude.{◌≡◌, ◌+◌, ◌<◌, ◌≤◌, Some, None, not, ◌&&◌, is_some, slice_index_or};
+ghost use Rattle.std.specs.Prelude.{◌≡◌, ◌+◌, ◌<◌, ◌≤◌, Some, None, not, ◌&&◌, IsSome, is_some, slice_index_or};
 ghost use Rattle.std.specs.List.{list_any};
 ghost use Rattle.std.specs.Option.{option_map};
 ghost use Rattle.egl_model.specs.Draws.{level_shapes};
 ghost use Rattle.egl_model.specs.Images.{above_base, is_incomplete_in, is_source_in, levels_dropped};
+ghost use Rattle.egl_model.specs.Links.{rank_in};
 ghost use Rattle.egl_model.specs.Objects.{as_egl_image, as_texture, change_texture, egl_image_in, texture_in};
 ghost use Rattle.egl_model.specs.Textures.{change_pixels, pixels_at, with_level};
 ghost use Rattle.texture_objects.specs.Levels.{is_complete};
 ghost use Rattle.ref_store.specs.Kept.{at, AllIn};
-ghost use Rattle.object_table.specs.Links.{IsLeft, IsPixels};
+ghost use Rattle.object_table.specs.Links.{IsLeft};
 ghost use Rattle.object_table.specs.Nodes.{object_in};
 ghost use Rattle.object_table.specs.Samples.{shapes_by, stored_in};
 ghost use Rattle.object_table.specs.Sources.{emptied, has_pixels_by, is_incomplete_by, is_source_by};
@@ -175,7 +176,7 @@ impl ObjectTable {
 
     /// Gives a texture the pixels of a storage at level 0 and none at the others, or gives them to a renderbuffer. What nothing reaches any more from what is held is gone then. It takes no memory.
     pub fn link_image<L: Ledger>(&mut self, n: u64, storage: u64, steps: &mut Steps<L>)
-        requires { IsPixels self.old.objects storage }
+        requires { IsSome (slice_index_or self.old.objects storage None) × (rank_in (slice_index_or self.old.objects storage None) < 1) }
         ensures objects { IsLeft (change_pixels 0 (Some storage) n (levels_dropped 10 n self.old.objects)) self.new.objects }
         ensures holds { self.new.holds ≡ self.old.holds }
         ensures steps { steps.new + weight_of self.new.objects ≤ steps.old + 2 + weight_of self.old.objects }
