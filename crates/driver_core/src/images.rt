@@ -171,7 +171,7 @@ impl Driver {
     }
 
     /// What an eglDestroyImage is judged by.
-    pub(crate) fn image_facts(&self, call: &Call) -> EglFacts
+    pub(crate) fn image_call_facts(&self, call: &Call) -> EglFacts
         ensures { result ≡ image_facts self.now.state call.now }
     {
         EglFacts {
