@@ -1,7 +1,8 @@
 -- What holds of the slots of each kind of object, and of slots that lead.
-use Rattle.std.proofs.Common.{◌≡◌, ℕ, ◌+◌, ◌<◌, ◌⊎◌, inl, inr, Bool, true, false, List, [], ◌∷◌, ◌++◌, refl, sym, ap, ◌∙◌, arith, Option, None, Some}
-use Rattle.std.specs.Prelude.{◌==◌, if◌then◌else◌, option_to_list}
-use Rattle.std.proofs.lemmas.Bool.{eqb-true, or_cases}
+use Rattle.std.proofs.Common.{◌≡◌, ℕ, zero, suc, ◌+◌, ◌<◌, ◌⊎◌, inl, inr, Bool, true, false, List, [], ◌∷◌, ◌++◌, refl, sym, ap, ◌∙◌, arith, get_or, Option, None, Some}
+use Rattle.std.specs.Prelude.{◌==◌, ◌||◌, if◌then◌else◌, option_to_list}
+use Rattle.std.proofs.lemmas.Bool.{eq-eqb, eqb-true, or_cases}
+use Rattle.std.proofs.lemmas.Option.{none-some}
 use Rattle.std.proofs.lemmas.List.Folds.{list_any-append}
 use Rattle.driver_objects.specs.declared.kinds.ObjectKind.{ObjectKind}
 use Rattle.driver_objects.specs.declared.kinds.ObjectKind.TheVariants.{Texture as a_texture, Buffer as a_buffer, Renderbuffer as a_renderbuffer, Framebuffer as a_framebuffer, Storage as a_storage}
@@ -37,6 +38,12 @@ only_one n x h = elim (or_cases (x == n) false h) [
   | inl e ↦ eqb-true x n e
   | inr e ↦ absurd (let f : false ≡ true = e in cc)
 ]
+
+-- what a level has is among what all have
+pub in_levels : (n k : ℕ) (xs : List (Option ℕ)) → get_or xs k None ≡ Some n → is_in n (filled xs) ≡ true
+in_levels n k [] h = absurd (none-some n h)
+in_levels n zero (x ∷ xs) h = in_left n (option_to_list x) (filled xs) (ap (λ o. is_in n (option_to_list o)) h ∙ ap (λ b. b || false) (eq-eqb n n refl))
+in_levels n (suc k) (x ∷ xs) h = in_right n (option_to_list x) (filled xs) (in_levels n k xs h)
 
 -- ---- Ranks fall along each slot.
 Falls : ℕ → List Slot → Type 0
