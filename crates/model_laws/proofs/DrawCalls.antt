@@ -36,7 +36,7 @@ shape-blind (Some (Context c)) = refl
 shape-blind (Some (Storage v)) = refl
 shape-blind o = refl
 
-blind-shape : (t : ℕ) (o : Option ℕ) (s : State) → Blind t s (λ a. shape_in a.objects o)
+pub blind-shape : (t : ℕ) (o : Option ℕ) (s : State) → Blind t s (λ a. shape_in a.objects o)
 blind-shape t None s w v x ne = refl
 blind-shape t (Some n) s w v x ne = blind-object (λ o. option_map shape_of (as_storage o)) shape-blind t n s w v x ne
 

@@ -15,6 +15,7 @@ pub mod NameLaws
 pub mod DeletionLaws
 pub mod BufferLaws
 pub mod RenderbufferLaws
+pub mod SiblingLaws
 pub mod PixelLaws
 pub mod LinkLaws
 pub mod LinkedSteps
@@ -51,6 +52,7 @@ pub mod RenderbufferCalls
 pub mod FramebufferCalls
 pub mod DrawCalls
 pub mod CopyCalls
+pub mod ImageCalls
 pub mod EglCalls
 pub mod WindowCalls
 pub mod StepKeeps

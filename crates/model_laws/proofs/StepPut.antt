@@ -15,9 +15,9 @@ use Rattle.egl_calls.specs.Errors.{egl_code}
 use Rattle.egl_calls.specs.declared.kinds.Kind.{Kind}
 use Rattle.egl_calls.specs.declared.kinds.Kind.TheVariants.{Egl, Gl, Own as OwnCall}
 use Rattle.egl_calls.specs.declared.kinds.EglKind.{EglKind}
-use Rattle.egl_calls.specs.declared.kinds.EglKind.TheVariants.{CreateWindowSurface, SwapBuffers, GetError as EglGetError, CreatePbufferSurface, MakeCurrent, GetCurrentContext, GetCurrentSurface, GetCurrentDisplay, QueryApi, QuerySurface, QueryContext, CreateSync, ClientWaitSync, WaitSync, GetSyncAttrib}
+use Rattle.egl_calls.specs.declared.kinds.EglKind.TheVariants.{CreateWindowSurface, SwapBuffers, GetError as EglGetError, CreatePbufferSurface, MakeCurrent, GetCurrentContext, GetCurrentSurface, GetCurrentDisplay, QueryApi, QuerySurface, QueryContext, CreateSync, ClientWaitSync, WaitSync, GetSyncAttrib, CreateImage}
 use Rattle.egl_calls.specs.declared.kinds.GlKind.{GlKind}
-use Rattle.egl_calls.specs.declared.kinds.GlKind.TheVariants.{Clear, ReadPixels, DrawTexi, DrawTexx, GenTextures, IsTexture, TexImage2d, TexSubImage2d, CopyTexImage2d, CopyTexSubImage2d, GenBuffers, IsBuffer, BufferData, BufferSubData, GetBufferParameteriv, GenRenderbuffers, IsRenderbuffer, RenderbufferStorage, GetRenderbufferParameteriv, GenFramebuffers, IsFramebuffer, FramebufferTexture2d, FramebufferRenderbuffer, CheckFramebufferStatus, GetFramebufferAttachmentParameteriv}
+use Rattle.egl_calls.specs.declared.kinds.GlKind.TheVariants.{Clear, ReadPixels, DrawTexi, DrawTexx, GenTextures, IsTexture, TexImage2d, TexSubImage2d, CopyTexImage2d, CopyTexSubImage2d, GenBuffers, IsBuffer, BufferData, BufferSubData, GetBufferParameteriv, GenRenderbuffers, IsRenderbuffer, RenderbufferStorage, GetRenderbufferParameteriv, GenFramebuffers, IsFramebuffer, FramebufferTexture2d, FramebufferRenderbuffer, CheckFramebufferStatus, GetFramebufferAttachmentParameteriv, ImageTargetTexture2d, ImageTargetRenderbufferStorage}
 use Rattle.call_rules.specs.GlRules as gl_rules
 use Rattle.context_state.specs.Kinds.{context_gl_call}
 use Rattle.context_state.specs.declared.kinds.ContextCall.{ContextCall}
@@ -53,7 +53,7 @@ use Rattle.egl_model.specs.GlFacts.{gl_refusal}
 use Rattle.egl_model.specs.Sweep.{live_bytes}
 use Rattle.model_laws.specs.Hidden.{hide, nothing}
 use Rattle.egl_model.specs.MakeCurrent.{config_of_context, config_of_surface, context_handle, current_facts, draw_handle, is_context_taken, is_surface_taken, read_handle}
-use Rattle.egl_model.specs.Objects.{context_in}
+use Rattle.egl_model.specs.Objects.{context_in, storage_in}
 use Rattle.egl_model.specs.Parts.{Own, Places, places, put_at, put_own}
 use Rattle.model_laws.specs.Shapes.{shapes}
 use Rattle.model_laws.specs.Sound.{IsWhole}
@@ -65,6 +65,7 @@ use Rattle.egl_model.specs.Effects.{valued}
 use Rattle.egl_calls.specs.declared.kinds.OwnKind.{OwnKind}
 use Rattle.egl_calls.specs.declared.kinds.OwnKind.TheVariants.{ReadBuffer, Census}
 use Rattle.egl_model.specs.Syncs.{sync_facts}
+use Rattle.model_laws.proofs.ImageCalls.{blind-new_image, blind-renderbuffer_target_facts, blind-target_facts}
 use Rattle.model_laws.proofs.SyncCalls.{blind-client_wait, blind-new_sync, blind-server, blind-sync_value}
 use Rattle.model_laws.proofs.WindowCalls.{blind-swap_facts, blind-window_facts}
 use Rattle.model_laws.proofs.Blinds.{blind-context_elsewhere, blind-context_of, blind-current, blind-live_bytes, blind-own_part, blind-record, blind-surface_elsewhere, blind-surface_of, blind-signalled, blind-any, blind-context, blind-display}
@@ -122,6 +123,7 @@ blind-facts t c s QueryContext w v x ne = ap (λ y. record (context_call_facts s
 blind-facts t c s CreateSync w v x ne = blind-new_sync t c s w v x ne
 blind-facts t c s WaitSync w v x ne = blind-server t c s w v x ne
 blind-facts t c s GetSyncAttrib w v x ne = ap (λ y. record (sync_facts s c) { is_attribute = is_some y }) (blind-sync_value t c s w v x ne)
+blind-facts t c s CreateImage w v x ne = blind-new_image t c s w v x ne
 blind-facts t c s k w v x ne = refl
 
 blind-refusal : (t : ℕ) (c : CallValue) (s : State) (k : EglKind) → Blind t s (λ a. egl_refusal a t k c)
@@ -170,6 +172,8 @@ blind-gl_refusal t n c s GetRenderbufferParameteriv w v x ne = ap (gl_rules.gl_r
 blind-gl_refusal t n c s FramebufferTexture2d w v x ne = ap (gl_rules.gl_refusal c) (blind-attach_facts t n textures c s w v x ne)
 blind-gl_refusal t n c s FramebufferRenderbuffer w v x ne = ap (gl_rules.gl_refusal c) (blind-attach_facts t n renderbuffers c s w v x ne)
 blind-gl_refusal t n c s GetFramebufferAttachmentParameteriv w v x ne = ap (gl_rules.gl_refusal c) (blind-attachment_facts t n c s w v x ne)
+blind-gl_refusal t n c s ImageTargetTexture2d w v x ne = ap (gl_rules.gl_refusal c) (blind-target_facts t n c s w v x ne)
+blind-gl_refusal t n c s ImageTargetRenderbufferStorage w v x ne = ap (gl_rules.gl_refusal c) (blind-renderbuffer_target_facts t n c s w v x ne)
 blind-gl_refusal t n c s k w v x ne = refl
 
 blind-buffer_refusal : (t n : ℕ) (c : CallValue) (s : State) → Blind t s (λ a. buffer_refusal a t n c)

@@ -5,7 +5,7 @@ use Rattle.std.proofs.lemmas.List.{set-get_or, set-set, set_past}
 use Rattle.std.proofs.lemmas.List.Sums.{sum_by-set}
 use Rattle.std.specs.List.{sum_by}
 use Rattle.std.specs.Option.{option_map_or}
-use Rattle.std.specs.Prelude.{IfSome, IsSome, is_some, not}
+use Rattle.std.specs.Prelude.{IfSome, IsSome, is_some}
 use Rattle.driver_objects.specs.Links.{point_slot}
 use Rattle.driver_objects.specs.Objects.{edges_of, filled, framebuffer_slots}
 use Rattle.driver_objects.specs.declared.objects.Object.{Object}
@@ -22,14 +22,6 @@ use Rattle.object_table.specs.Links.{IsLeft, edge_in, has_slot_in, is_fixed_in, 
 use Rattle.object_table.specs.Tables.{weight_of}
 use Rattle.object_table.proofs.DeleteLaws.{changed_at, is_placed, left_change}
 use Rattle.object_table.proofs.LeftLaws.{left_self, left_then}
-
-pub is_false : (b : Bool) → not b ≡ true → b ≡ false
-is_false true h = absurd (false≢true h)
-is_false false h = refl
-
-pub is_true : (b : Bool) → not b ≡ false → b ≡ true
-is_true true h = refl
-is_true false h = absurd (false≢true (sym h))
 
 framebuffer_there : (o : Option Object) → is_some (as_framebuffer o) ≡ true → (f : FramebufferValue) × (o ≡ Some (Framebuffer f))
 framebuffer_there (Some (Framebuffer f)) h = (f, refl)
