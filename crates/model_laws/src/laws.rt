@@ -42,6 +42,7 @@ ghost use Rattle.framebuffer_objects.specs.Renderbuffers.{of_kind};
 ghost use Rattle.framebuffer_objects.specs.declared.points.Point.TheVariants.{Color};
 ghost use Rattle.egl_model.specs.Objects.{context_in, fence_in, renderbuffer_in, framebuffer_in, storage_in, texture_in};
 ghost use Rattle.egl_model.specs.Names.{group_of, names_in, object_named};
+ghost use Rattle.texture_objects.specs.declared.levels.TheConstants.{LEVELS};
 ghost use Rattle.egl_model.specs.Textures.{level_of, storage_at, target_texture};
 ghost use Rattle.egl_model.specs.Renderbuffers.{target_renderbuffer};
 ghost use Rattle.driver_objects.specs.Storages.{StorageValue};
@@ -307,8 +308,8 @@ pub fn a_new_image_shares_its_pixels()
 
 /// Behind a glEGLImageTargetTexture2DOES level 0 of the bound texture, one with its eleven levels, has the image's storage and no other level has any; behind a glEGLImageTargetRenderbufferStorageOES the bound renderbuffer has it, and is a colour of its sides (OES_EGL_image).
 pub fn what_gets_an_image_has_its_pixels()
-    ensures base { (s : State) (t n : ℕ) (c : CallValue) (x : ℕ) (i : AnEglImage) (y z : BackedTexture) → IsAllowedGl s t n ImageTargetTexture2d c → target_texture s n ≡ Some x → target_image s n c ≡ Some i → texture_in s.objects x ≡ Some y → length y.levels ≡ 11 → texture_in (step s t c).state.objects x ≡ Some z → storage_at 0 z ≡ Some i.storage }
-    ensures levels { (s : State) (t n : ℕ) (c : CallValue) (x j : ℕ) (i : AnEglImage) (y z : BackedTexture) → IsAllowedGl s t n ImageTargetTexture2d c → target_texture s n ≡ Some x → target_image s n c ≡ Some i → texture_in s.objects x ≡ Some y → length y.levels ≡ 11 → texture_in (step s t c).state.objects x ≡ Some z → j ≢ 0 → storage_at j z ≡ None }
+    ensures base { (s : State) (t n : ℕ) (c : CallValue) (x : ℕ) (i : AnEglImage) (y z : BackedTexture) → IsAllowedGl s t n ImageTargetTexture2d c → target_texture s n ≡ Some x → target_image s n c ≡ Some i → texture_in s.objects x ≡ Some y → length y.levels ≡ LEVELS → texture_in (step s t c).state.objects x ≡ Some z → storage_at 0 z ≡ Some i.storage }
+    ensures levels { (s : State) (t n : ℕ) (c : CallValue) (x j : ℕ) (i : AnEglImage) (y z : BackedTexture) → IsAllowedGl s t n ImageTargetTexture2d c → target_texture s n ≡ Some x → target_image s n c ≡ Some i → texture_in s.objects x ≡ Some y → length y.levels ≡ LEVELS → texture_in (step s t c).state.objects x ≡ Some z → j ≢ 0 → storage_at j z ≡ None }
     ensures renderbuffer { (s : State) (t n : ℕ) (c : CallValue) (x : ℕ) (i : AnEglImage) (z : BackedRenderbuffer) → IsAllowedGl s t n ImageTargetRenderbufferStorage c → target_renderbuffer s n ≡ Some x → target_image s n c ≡ Some i → renderbuffer_in (step s t c).state.objects x ≡ Some z → z.storage ≡ Some i.storage }
     ensures sides { (s : State) (t n : ℕ) (c : CallValue) (x : ℕ) (i : AnEglImage) (v : StorageValue) (z : BackedRenderbuffer) → IsAllowedGl s t n ImageTargetRenderbufferStorage c → target_renderbuffer s n ≡ Some x → target_image s n c ≡ Some i → storage_in s.objects i.storage ≡ Some v → renderbuffer_in (step s t c).state.objects x ≡ Some z → z.renderbuffer ≡ of_kind Color v.width v.height }
 {}
