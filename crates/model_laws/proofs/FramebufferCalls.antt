@@ -1,5 +1,5 @@
 -- What the calls that attach to framebuffers keep, and how what calls on framebuffers look at passes what is put for others.
-use Rattle.std.proofs.Common.{◌≡◌, ℕ, [], ◌∷◌, List, refl, sym, ap, subst, ◌∙◌, Option, None, Some}
+use Rattle.std.proofs.Common.{◌≡◌, ℕ, [], ◌∷◌, List, refl, ap, ◌∙◌, Option, None, Some}
 use Rattle.std.specs.Option.{option_and_then, option_map}
 use Rattle.egl_calls.specs.Calls.{CallValue}
 use Rattle.framebuffer_objects.specs.Framebuffers.{at_point, object_of, with_point}
