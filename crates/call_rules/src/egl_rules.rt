@@ -8,7 +8,9 @@ ghost use Rattle.call_rules.specs.EglRules.{egl_refusal, egl_rows, display_row, 
 
 use crate::egl_facts::EglFacts;
 use egl_calls::arguments::{is_zero, number};
-use egl_calls::places::{API, ATTRIBUTE, CONTEXT, DRAW, FLAGS, IMAGE_SOURCE, READ, READDRAW, SYNC_TYPE, VALUE};
+use egl_calls::places::{
+    API, ATTRIBUTE, CONTEXT, DRAW, FLAGS, IMAGE_SOURCE, READ, READDRAW, SYNC_TYPE, VALUE,
+};
 use egl_calls::{Call, EglError, EglKind, Kind};
 use egl_names::codes::{
     EGL_BUFFER_DESTROYED, EGL_BUFFER_PRESERVED, EGL_DRAW, EGL_GL_RENDERBUFFER, EGL_GL_TEXTURE_2D,
