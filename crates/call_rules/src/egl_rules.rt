@@ -1,5 +1,5 @@
 //! When each call of EGL is refused.
-ghost use Rattle.std.specs.Prelude.{◌≡◌, ◌+◌, nat_lt, true, not, ◌<◌};
+ghost use Rattle.std.specs.Prelude.{◌≡◌, ◌+◌, nat_lt, not, ◌<◌};
 ghost use Rattle.egl_calls.specs.Arguments.{is_zero};
 ghost use Rattle.egl_calls.specs.declared.kinds.EglKind.TheVariants.{CreateWindowSurface, CreatePbufferSurface, SurfaceAttrib, CreateContext, MakeCurrent, CreateSync, WaitSync, CreateImage};
 ghost use Rattle.egl_calls.specs.declared.errors.EglError.TheVariants.{NotInitialized, BadSurface, BadContext, BadParameter};
