@@ -97,12 +97,12 @@ target_objects s n = with_color s (target_framebuffer s n)
 abbrev pub pixels_read : State → ℕ → ℕ → List ℤ
 pixels_read s t n = object (bound_framebuffer s t).read ++ target_objects s n
 
--- pixels that a thread draws, and what leads to them
-abbrev pub drawing : List ℤ → State → ℕ → ℕ → Touches
-drawing sources s t n = record { reads = sources ++ target_objects s n; writes = object (bound_framebuffer s t).draw }
+-- these objects are read, and a storage is drawn to
+abbrev pub drawing : List ℤ → Option ℕ → Touches
+drawing xs o = record { reads = xs; writes = object o }
 
 abbrev pub draw_touches : State → ℕ → ℕ → Touches
-draw_touches s t n = drawing (sampled_by (part_of_context s n) s (target_texture s n)) s t n
+draw_touches s t n = drawing (sampled_by (part_of_context s n) s (target_texture s n) ++ target_objects s n) (bound_framebuffer s t).draw
 
 -- the objects that names of a kind have
 abbrev pub objects_named : State → ℕ → NameKind → List ℤ → List ℤ
@@ -126,7 +126,7 @@ deletion_touches s n k xs = writing (objects_named s n k xs ++ object (detached_
 
 abbrev pub object_touches : State → ℕ → ℕ → GlKind → CallValue → Touches
 -- pixels of the surfaces, or of what is attached in their place
-object_touches s t n Clear c = if clears_colour c then drawing [] s t n else nothing
+object_touches s t n Clear c = if clears_colour c then drawing (target_objects s n) (bound_framebuffer s t).draw else nothing
 object_touches s t n ReadPixels c = reading (pixels_read s t n)
 object_touches s t n DrawTexi c = draw_touches s t n
 object_touches s t n DrawTexx c = draw_touches s t n
