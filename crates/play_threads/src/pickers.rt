@@ -123,7 +123,6 @@ impl<'a> LinePicker<'a> {
         ensures pick { (es : List AnEntry) → Knows es self.now.session → self.now.halted ≡ have_others_halted self.now.thread es → IfOk result (IsPickOf self.now.session.trace es driver.now.state self.now.thread) }
         ensures rests { (es : List AnEntry) → Knows es self.now.session → IfOk result (MayRest self.now.session.trace es driver.now) }
     {
-        self.session.facts();
         if self.halted {
             return Ok(Pick::Stop);
         }
