@@ -1,5 +1,5 @@
 -- What a deletion detaches was attached, when it began, to the framebuffer that the context has bound.
-use Rattle.std.proofs.Common.{◌≡◌, ℕ, ◌⊎◌, inl, inr, ℤ, pos, Bool, true, false, List, [], ◌∷◌, ◌++◌, get_or, set, refl, sym, ap, ◌∙◌, subst, Option, None, Some}
+use Rattle.std.proofs.Common.{◌≡◌, ℕ, ◌⊎◌, inl, inr, ℤ, pos, Bool, true, false, List, [], ◌∷◌, ◌++◌, get_or, refl, sym, ap, ◌∙◌, subst, Option, None, Some}
 use Rattle.std.specs.Prelude.{if◌then◌else◌, ◌||◌, is_some}
 use Rattle.std.specs.List.{Contains}
 use Rattle.std.specs.Option.{option_and_then}
@@ -115,7 +115,7 @@ before_unbound k n None b p os h = h
 before_unbound k n (Some x) b p os h =
     let ps : List (Option Object) = detached_on (bound_framebuffer_in n os) x os in
     before_detached (bound_framebuffer_in n os) x b p os
-      (ap (λ f. is_attached f p) (sym (same_at_set as_framebuffer ps n (with_context (unbound_object k x) (get_or ps n None)) None (framebuffer_of_context (unbound_object k x) (get_or ps n None)) b)) ∙ h)
+    (ap (λ f. is_attached f p) (sym (same_at_set as_framebuffer ps n (with_context (unbound_object k x) (get_or ps n None)) None (framebuffer_of_context (unbound_object k x) (get_or ps n None)) b)) ∙ h)
 
 before_name : (k : NameKind) (g n name b : ℕ) (p : Option ℕ) (s : State) → is_attached (framebuffer_in (deleted_name k g n name s).objects b) p ≡ true → is_attached (framebuffer_in s.objects b) p ≡ true
 unfolding change_group
@@ -123,7 +123,7 @@ before_name k g n name b p s h =
     let o : Option ℕ = object_named s g k name in
     let ps : List (Option Object) = unbound_in k n o s.objects in
     before_unbound k n o b p s.objects
-      (ap (λ f. is_attached f p) (sym (same_at_set as_framebuffer ps g (with_group (with_name_of k name None) (get_or ps g None)) None (framebuffer_of_group (with_name_of k name None) (get_or ps g None)) b)) ∙ h)
+    (ap (λ f. is_attached f p) (sym (same_at_set as_framebuffer ps g (with_group (with_name_of k name None) (get_or ps g None)) None (framebuffer_of_group (with_name_of k name None) (get_or ps g None)) b)) ∙ h)
 
 -- ---- What the context has bound after a deletion it had bound before.
 bound_before_target : (t : BindTarget) (w : Bool) (b : ℕ) (c : ContextObject) → (if w then bound_at (slot_of t) None (named_at (binding_of t) 0 c) else c).bound.framebuffer ≡ Some b → c.bound.framebuffer ≡ Some b
@@ -173,7 +173,7 @@ bound_before_name k g n name b s h =
     let o : Option ℕ = object_named s g k name in
     let ps : List (Option Object) = unbound_in k n o s.objects in
     bound_before_unbound k n o b s.objects
-      (sym (ap (option_and_then (λ c. c.bound.framebuffer)) (same_at_set as_context ps g (with_group (with_name_of k name None) (get_or ps g None)) None (context_of_group (with_name_of k name None) (get_or ps g None)) n)) ∙ h)
+    (sym (ap (option_and_then (λ c. c.bound.framebuffer)) (same_at_set as_context ps g (with_group (with_name_of k name None) (get_or ps g None)) None (context_of_group (with_name_of k name None) (get_or ps g None)) n)) ∙ h)
 
 -- ---- A name has the object that it had, or none.
 none_used : (o : Option Name) → is_some o ≡ false → names.object_in o ≡ None
@@ -216,9 +216,10 @@ counts_later ws k g n name (x ∷ xs) s c = (λ b t h. c.0 b (bound_before_name 
 
 counts_each : (ws : List ℤ) (k : NameKind) (n : ℕ) (xs : List ℤ) (s : State) → ((b : ℕ) → target_framebuffer s n ≡ Some b → is_one_attached s n k xs b ≡ true → Contains ws (pos b)) → CountsDetached ws k (group_of s n) n xs s
 counts_each ws k n [] s c = tt
-counts_each ws k n (x ∷ xs) s c =
-    (λ b t h. c b t (or_first (is_attached (framebuffer_in s.objects b) (object_named s (group_of s n) k (unsigned x))) (is_one_attached s n k xs b) h),
-     counts_each ws k n xs s (λ b t h. c b t (or_second (is_attached (framebuffer_in s.objects b) (object_named s (group_of s n) k (unsigned x))) (is_one_attached s n k xs b) h)))
+counts_each ws k n (x ∷ xs) s c = (
+  λ b t h. c b t (or_first (is_attached (framebuffer_in s.objects b) (object_named s (group_of s n) k (unsigned x))) (is_one_attached s n k xs b) h),
+  counts_each ws k n xs s (λ b t h. c b t (or_second (is_attached (framebuffer_in s.objects b) (object_named s (group_of s n) k (unsigned x))) (is_one_attached s n k xs b) h)),
+)
 
 detached_is : (k : NameKind) (s : State) (n : ℕ) (xs : List ℤ) (b : ℕ) → target_framebuffer s n ≡ Some b → is_one_attached s n k xs b ≡ true → detached_framebuffer s n k xs ≡ Some b
 detached_is k s n xs b t h = ap (option_and_then (λ (i : ℕ). if is_one_attached s n k xs i then Some i else None)) t ∙ ap (λ (w : Bool). if w then Some b else None) h

@@ -101,11 +101,12 @@ one_then x y z f g = elim g [
 
 was_then : (o p q : Option Object) → IsAsItWas o p → IsAsItWas p q → IsAsItWas o q
 was_then o p q f g = (
-    one_then (as_texture o) (as_texture p) (as_texture q) f.0 g.0,
-    one_then (as_storage o) (as_storage p) (as_storage q) f.1 g.1,
-    one_then (as_buffer o) (as_buffer p) (as_buffer q) f.2 g.2,
-    one_then (as_renderbuffer o) (as_renderbuffer p) (as_renderbuffer q) f.3 g.3,
-    one_then (as_framebuffer o) (as_framebuffer p) (as_framebuffer q) f.4 g.4)
+  one_then (as_texture o) (as_texture p) (as_texture q) f.0 g.0,
+  one_then (as_storage o) (as_storage p) (as_storage q) f.1 g.1,
+  one_then (as_buffer o) (as_buffer p) (as_buffer q) f.2 g.2,
+  one_then (as_renderbuffer o) (as_renderbuffer p) (as_renderbuffer q) f.3 g.3,
+  one_then (as_framebuffer o) (as_framebuffer p) (as_framebuffer q) f.4 g.4,
+)
 
 gone_or_not : (b : Bool) (o : Option Object) → IsAsItWas o (if b then o else None)
 gone_or_not true o = as_it_was o
