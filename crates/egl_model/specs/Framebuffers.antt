@@ -13,11 +13,11 @@ use Rattle.framebuffer_objects.specs.declared.framebuffers.Attached.{Attached}
 use Rattle.framebuffer_objects.specs.declared.points.Point.{Point}
 use Rattle.framebuffer_objects.specs.declared.points.Point.TheVariants.{Depth, Stencil}
 use Rattle.share_group.specs.declared.names.NameKind.{NameKind}
-use Rattle.share_group.specs.declared.names.NameKind.TheVariants.{Texture}
 use Rattle.driver_objects.specs.Storages.{StorageValue}
 use Rattle.driver_objects.specs.declared.objects.Object.{Object}
+use Rattle.driver_objects.specs.declared.objects.Object.TheVariants.{Renderbuffer, Texture}
 use Rattle.driver_objects.specs.declared.renderbuffers.BackedRenderbuffer.{BackedRenderbuffer}
-use Rattle.egl_model.specs.State.{State}
+use Rattle.egl_model.specs.State.{State, object_at}
 use Rattle.egl_model.specs.Arguments.{number}
 use Rattle.egl_model.specs.Currents.{current_context, draw_storage, part_of_context, read_storage}
 use Rattle.egl_model.specs.Names.{group_of, object_named}
@@ -97,13 +97,15 @@ is_complete b = b.status == GL_FRAMEBUFFER_COMPLETE_OES
 abbrev pub called_point : CallValue → Point
 called_point c = attachment_point (number c ATTACHMENT)
 
-abbrev pub is_texture_name : NameKind → Bool
-is_texture_name Texture = true
-is_texture_name k = false
+-- a texture or a renderbuffer, as it is attached under a name; nothing else is
+abbrev pub attached_as : ℕ → ℕ → Option Object → Option Attached
+attached_as name x (Some (Texture t)) = Some (record { texture = true; name = name; object = x })
+attached_as name x (Some (Renderbuffer r)) = Some (record { texture = false; name = name; object = x })
+attached_as name x o = None
 
 -- what has the name is attached under it; 0 has no object, and detaches
 abbrev pub given_attachment : NameKind → State → ℕ → CallValue → Option Attached
-given_attachment k s n c = option_map (λ x. record { texture = is_texture_name k; name = number c ATTACHED_NAME; object = x }) (object_named s (group_of s n) k (number c ATTACHED_NAME))
+given_attachment k s n c = option_and_then (λ x. attached_as (number c ATTACHED_NAME) x (object_at s x)) (object_named s (group_of s n) k (number c ATTACHED_NAME))
 
 abbrev pub attached : Point → Option Attached → Option ℕ → State → State
 attached point a None s = s

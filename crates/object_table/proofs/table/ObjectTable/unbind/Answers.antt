@@ -1,4 +1,4 @@
-use Rattle.object_table.proofs.DeleteLaws.{unbind_both, unbind_none}
+use Rattle.object_table.proofs.DeleteLaws.{unbind_both}
 use Rattle.object_table.proofs.table.ObjectTable.unbind.Goals as goal
 
 pub returns-in-Texture-clause-objects : goal.returns-in-Texture-clause-objects
@@ -11,4 +11,4 @@ pub returns-in-Renderbuffer-clause-objects : goal.returns-in-Renderbuffer-clause
 returns-in-Renderbuffer-clause-objects g c = rw c.in-Renderbuffer.is c.unbind_at-in-Renderbuffer.ensures.objects
 
 pub returns-in-Framebuffer-clause-objects : goal.returns-in-Framebuffer-clause-objects
-returns-in-Framebuffer-clause-objects g c = rw c.in-Framebuffer.is (unbind_none c.args.self.now.objects c.args.n)
+returns-in-Framebuffer-clause-objects g c = rw c.in-Framebuffer.is c.unbind_at-in-Framebuffer.ensures.objects

@@ -1,0 +1,5 @@
+use Rattle.object_table.proofs.StoreLaws.{object_at}
+use Rattle.object_table.proofs.table.ObjectTable.is_framebuffer.Goals as goal
+
+pub returns : goal.returns
+returns c = rw (← c.self.view_is) (rw (object_at c.self.inside.next c.self.inside.store.nodes c.self.invariant.below c.args.n) c.is_framebuffer_at.ensures)
