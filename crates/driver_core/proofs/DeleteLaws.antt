@@ -10,21 +10,22 @@ use Rattle.egl_calls.specs.Ranges.{IsNumber, unsigned}
 use Rattle.driver_objects.specs.Links.{bound_in}
 use Rattle.driver_objects.specs.Targets.{binding_of, name_kind, slot_of}
 use Rattle.driver_objects.specs.declared.targets.BindTarget.{BindTarget}
-use Rattle.driver_objects.specs.declared.targets.BindTarget.TheVariants.{Texture as TextureTarget, ArrayBuffer, ElementArrayBuffer, Renderbuffer as RenderbufferTarget}
+use Rattle.driver_objects.specs.declared.targets.BindTarget.TheVariants.{Texture as TextureTarget, ArrayBuffer, ElementArrayBuffer, Renderbuffer as RenderbufferTarget, Framebuffer as FramebufferTarget}
 use Rattle.driver_objects.specs.declared.contexts.Context.{Context as ContextObject}
 use Rattle.driver_objects.specs.declared.objects.Object.{Object}
-use Rattle.driver_objects.specs.declared.objects.Object.TheVariants.{Context, Group}
+use Rattle.driver_objects.specs.declared.objects.Object.TheVariants.{Context, Framebuffer, Group}
 use Rattle.egl_model.specs.Links.{rank_in}
 use Rattle.egl_model.specs.Names.{group_of, object_named, with_name_of}
-use Rattle.egl_model.specs.Objects.{as_context, change_context, change_group, context_in, with_context, with_group}
+use Rattle.egl_model.specs.Objects.{as_context, change_context, change_framebuffer, change_group, context_in, with_context, with_framebuffer, with_group}
 use Rattle.egl_model.specs.State.{State}
 use Rattle.egl_model.specs.Parts.{is_place}
 use Rattle.egl_model.specs.Sweep.{roots_of, sweep, swept}
-use Rattle.egl_model.specs.Bindings.{bound_anew, bound_at, deleted_in, deleted_name, deleted_names, freed, named_at, new_object, unbound_at, unbound_in, unbound_object}
+use Rattle.egl_model.specs.Bindings.{bound_anew, bound_at, bound_framebuffer_in, deleted_in, deleted_name, deleted_names, detached_from, detached_on, freed, named_at, new_object, unbound_at, unbound_in, unbound_object}
+use Rattle.framebuffer_objects.specs.Framebuffers.{FramebufferValue}
 use Rattle.share_group.specs.Groups.{GroupValue}
 use Rattle.share_group.specs.declared.names.NameKind.{NameKind}
 use Rattle.share_group.specs.declared.names.NameKind.TheVariants.{Texture as textures, Buffer as buffers, Renderbuffer as renderbuffers, Framebuffer as framebuffers}
-use Rattle.object_table.specs.Links.{IsLeft}
+use Rattle.object_table.specs.Links.{IsLeft, IsLeftWith}
 use Rattle.object_table.specs.Tables.{weight_of}
 use Rattle.object_table.proofs.DeleteLaws.{left_change}
 use Rattle.object_table.proofs.LeftLaws.{left_then}
@@ -55,7 +56,7 @@ still_group : (k : NameKind) (x : ℕ) (c : ContextObject) → (unbound_object k
 still_group textures x c = same_group TextureTarget x c
 still_group buffers x c = same_group ElementArrayBuffer x (unbound_at ArrayBuffer x c) ∙ same_group ArrayBuffer x c
 still_group renderbuffers x c = same_group RenderbufferTarget x c
-still_group framebuffers x c = refl
+still_group framebuffers x c = same_group FramebufferTarget x c
 
 unbound_own : (k : NameKind) (g x : ℕ) (o : Option Object) → own_at g (with_context (unbound_object k x) o) ≡ own_at g o
 unbound_own k g x (Some (Context c)) = still_group k x c
@@ -64,6 +65,10 @@ unbound_own k g x o = refl
 group_own : (g : ℕ) (f : GroupValue → GroupValue) (o : Option Object) → own_at g (with_group f o) ≡ own_at g o
 group_own g f (Some (Group v)) = refl
 group_own g f o = refl
+
+framebuffer_own : (g : ℕ) (f : FramebufferValue → FramebufferValue) (o : Option Object) → own_at g (with_framebuffer f o) ≡ own_at g o
+framebuffer_own g f (Some (Framebuffer v)) = refl
+framebuffer_own g f o = refl
 
 own_set : (g n m : ℕ) (y : Option Object) (os : List (Option Object)) → own_at g y ≡ own_at g (get_or os m None) → own_at g (get_or (set os m y) n None) ≡ own_at g (get_or os n None)
 own_set g n m y os h = elim (cases_eq n m) [
@@ -74,10 +79,17 @@ own_set g n m y os h = elim (cases_eq n m) [
   | inr ne ↦ ap (own_at g) (get_or-set_other os m n y None ne)
 ]
 
+own_detached : (g n x : ℕ) (b : Option ℕ) (os : List (Option Object)) → own_at g (get_or (detached_on b x os) n None) ≡ own_at g (get_or os n None)
+unfolding change_framebuffer
+own_detached g n x None os = refl
+own_detached g n x (Some b) os = own_set g n b (with_framebuffer (detached_from x) (get_or os b None)) os (framebuffer_own g (detached_from x) (get_or os b None))
+
 own_unbound : (k : NameKind) (g n : ℕ) (o : Option ℕ) (os : List (Option Object)) → own_at g (get_or (unbound_in k n o os) n None) ≡ own_at g (get_or os n None)
 unfolding change_context
 own_unbound k g n None os = refl
-own_unbound k g n (Some x) os = own_set g n n (with_context (unbound_object k x) (get_or os n None)) os (unbound_own k g x (get_or os n None))
+own_unbound k g n (Some x) os =
+    let mid = detached_on (bound_framebuffer_in n os) x os in
+    own_set g n n (with_context (unbound_object k x) (get_or mid n None)) mid (unbound_own k g x (get_or mid n None)) ∙ own_detached g n x (bound_framebuffer_in n os) os
 
 pub own_freed : (k : NameKind) (g n name : ℕ) (o : Option ℕ) (os : List (Option Object)) → option_map_or (λ (c : ContextObject). c.group) (context_in (freed k g n name o os) n) g ≡ option_map_or (λ (c : ContextObject). c.group) (context_in os n) g
 unfolding change_group
@@ -104,11 +116,12 @@ rank_set m g y os h = elim (cases_eq m g) [
   | inr ne ↦ ap rank_in (get_or-set_other os g m y None ne)
 ]
 
-rank_new : (b : BindTarget) → rank_in (Some (new_object b)) ≤ 1
+rank_new : (b : BindTarget) → rank_in (Some (new_object b)) ≤ 2
 rank_new TextureTarget = omega arith
 rank_new ArrayBuffer = omega arith
 rank_new ElementArrayBuffer = omega arith
 rank_new RenderbufferTarget = omega arith
+rank_new FramebufferTarget = omega arith
 
 pub anew_there : (b : BindTarget) (os mid : List (Option Object)) (g n : ℕ) (f : GroupValue → GroupValue) → n ≡ length os → IsLeft (change_group f g (os ++ Some (new_object b) ∷ [])) mid → IsSome (get_or mid n None) → IfSome (Some n) (λ m. IsSome (get_or mid m None) × (rank_in (get_or mid m None) < 4))
 unfolding change_group
@@ -137,7 +150,7 @@ pub cheap_freed : (s new : State) (a b : ℕ) → new.handles ≡ s.handles → 
 cheap_freed s new a b h l = inr (omega (arith, ap length h, l))
 
 -- ---- One name after another.
-pub delete_step : (k : NameKind) (g n i : ℕ) (xs : List ℤ) (s w : State) (m : ℕ) → m ≡ unsigned (get_or xs i (pos 0)) → i < length xs → deleted_in k g n (drop i xs) w ≡ deleted_in k g n xs s → (new : List (Option Object)) → IsLeft (deleted_name k g n m w).objects new → option_map_or (λ (c : ContextObject). c.group) (context_in w.objects n) g ≡ g → (v : State) × ((deleted_in k g n (drop (i + 1) xs) v ≡ deleted_in k g n xs s) × (IsLeft v.objects new × (option_map_or (λ (c : ContextObject). c.group) (context_in v.objects n) g ≡ g)))
+pub delete_step : (k : NameKind) (g n i : ℕ) (xs : List ℤ) (s w : State) (m : ℕ) → m ≡ unsigned (get_or xs i (pos 0)) → i < length xs → deleted_in k g n (drop i xs) w ≡ deleted_in k g n xs s → (new : List (Option Object)) → IsLeftWith n (deleted_name k g n m w).objects new → option_map_or (λ (c : ContextObject). c.group) (context_in w.objects n) g ≡ g → (v : State) × ((deleted_in k g n (drop (i + 1) xs) v ≡ deleted_in k g n xs s) × (IsLeftWith n v.objects new × (option_map_or (λ (c : ContextObject). c.group) (context_in v.objects n) g ≡ g)))
 delete_step k g n i xs s w m e l h new is own =
     let d : drop i xs ≡ get_or xs i (pos 0) ∷ drop (i + 1) xs = drop-cons xs i (pos 0) l ∙ ap (λ j. get_or xs i (pos 0) ∷ drop j xs) (let q : suc i ≡ i + 1 = omega arith in q) in
     let first : deleted_in k g n (drop i xs) w ≡ deleted_in k g n (drop (i + 1) xs) (deleted_name k g n (unsigned (get_or xs i (pos 0))) w) = ap (λ ys. deleted_in k g n ys w) d in

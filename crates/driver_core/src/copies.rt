@@ -106,7 +106,7 @@ impl Driver {
             live_bytes: self.objects.live_bytes(),
             new_bytes: copied_bytes(call),
             video_limit: self.video,
-            ..framebuffer_facts(self.bound_framebuffer(thread).is_complete)
+            ..framebuffer_facts(self.has_complete_framebuffer(thread))
         }
     }
 
@@ -116,7 +116,7 @@ impl Driver {
         ensures { result ≡ copy_part_facts self.now.state thread context call.now }
     {
         GlFacts {
-            is_framebuffer_complete: self.bound_framebuffer(thread).is_complete,
+            is_framebuffer_complete: self.has_complete_framebuffer(thread),
             has_read_alpha: self.has_read_alpha(thread),
             ..self.part_facts(context, call)
         }

@@ -24,7 +24,7 @@ use buffer_objects::Buffer;
 use driver_objects::{BackedRenderbuffer, BindTarget, Object};
 use egl_calls::places::{BOUND_NAME, COUNT};
 use egl_calls::{Call, NoMemory, Numbers, ReplyPair, unsigned};
-use framebuffer_objects::Renderbuffer;
+use framebuffer_objects::{Framebuffer, Renderbuffer};
 use object_table::ObjectTable;
 use ref_store::Steps;
 use share_group::{Group, NameKind};
@@ -51,7 +51,7 @@ fn room_for(alloc: Global, count: u32) -> Result<Vec<i64>, NoMemory>
     }
 }
 
-/// What a name gets that has no object: a texture or a renderbuffer without storage, a buffer without bytes.
+/// What a name gets that has no object: a texture or a renderbuffer without storage, a buffer without bytes, a framebuffer with nothing attached.
 fn new_object(alloc: Global, target: BindTarget) -> Object
     ensures value { result ≡ new_object target }
     ensures plain { edges_of result ≡ [] }
@@ -66,6 +66,7 @@ fn new_object(alloc: Global, target: BindTarget) -> Object
             renderbuffer: Renderbuffer::new(),
             storage: None,
         }),
+        BindTarget::Framebuffer => Object::Framebuffer(Framebuffer::new()),
     }
 }
 
@@ -77,7 +78,7 @@ fn listed_name(call: &Call, k: usize) -> u32
     unsigned(call.list.as_slice()[k]) as u32
 }
 
-/// Frees the names of a list, one after another, and unbinds what has them.
+/// Frees the names of a list, one after another, and detaches and unbinds what has them.
 fn delete_all<L: Ledger>(
     objects: &mut ObjectTable,
     group: u64,
@@ -217,7 +218,7 @@ impl Driver {
         }
     }
 
-    /// Binds what has a name to a target; with 0 the context's own texture, or nothing.
+    /// Binds what has a name to a target; with 0 the context's own texture, the framebuffer of the window system, or nothing.
     pub(crate) fn bind_name<L: Ledger>(
         &mut self,
         alloc: Global,
@@ -245,7 +246,7 @@ impl Driver {
         }
     }
 
-    /// Frees names of a kind, and unbinds what has them.
+    /// Frees names of a kind, and detaches and unbinds what has them.
     pub(crate) fn delete_names<L: Ledger>(
         &mut self,
         context: u64,

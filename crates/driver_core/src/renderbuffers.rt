@@ -87,7 +87,7 @@ fn side_of(renderbuffer: &Renderbuffer, pname: u64) -> u32
 
 impl Driver {
     /// The number of the renderbuffer on which calls work: of what the context has bound.
-    fn target_renderbuffer(&self, context: u64) -> Option<u64>
+    pub(crate) fn target_renderbuffer(&self, context: u64) -> Option<u64>
         ensures { result ≡ target_renderbuffer self.now.state context }
     {
         match self.objects.context(context) {

@@ -113,7 +113,10 @@ impl Driver {
                 Ok(valued(alloc, 1))
             }
             EglKind::GetSyncAttrib => Ok(valued(alloc, self.sync_value(call).unwrap_or(0))),
-            _ => unreachable!(),
+            EglKind::CreateImage => Ok(valued(alloc, self.create_image(call)?)),
+            EglKind::Terminate | EglKind::MakeCurrent | EglKind::ReleaseThread => unreachable!(),
+            EglKind::DestroySurface | EglKind::DestroyContext => unreachable!(),
+            EglKind::DestroySync | EglKind::DestroyImage => unreachable!(),
         }
     }
 
@@ -155,6 +158,10 @@ impl Driver {
             }
             EglKind::DestroySync => {
                 self.destroy(call, HandleKind::Sync, steps);
+                Ok(valued(alloc, 1))
+            }
+            EglKind::DestroyImage => {
+                self.destroy(call, HandleKind::Image, steps);
                 Ok(valued(alloc, 1))
             }
             EglKind::ReleaseThread => {
@@ -282,6 +289,15 @@ impl Driver {
             GlKind::GetRenderbufferParameteriv => {
                 Ok(valued(alloc, self.renderbuffer_parameter(context, call)))
             }
+            GlKind::GenFramebuffers => self.generate(alloc, context, NameKind::Framebuffer, call),
+            GlKind::IsFramebuffer => {
+                let name = name_of(call, ASKED_NAME);
+                Ok(valued(alloc, self.is_name(context, NameKind::Framebuffer, name)))
+            }
+            GlKind::CheckFramebufferStatus => Ok(valued(alloc, self.framebuffer_status(thread))),
+            GlKind::GetFramebufferAttachmentParameteriv => {
+                Ok(valued(alloc, self.attachment_parameter(context, call)))
+            }
             _ => unreachable!(),
         }
     }
@@ -362,6 +378,30 @@ impl Driver {
             }
             GlKind::RenderbufferStorage => {
                 self.set_storage(alloc, thread, context, call, steps)?;
+                Ok(valued(alloc, 0))
+            }
+            GlKind::BindFramebuffer => {
+                self.bind_name(alloc, context, BindTarget::Framebuffer, call, steps)?;
+                Ok(valued(alloc, 0))
+            }
+            GlKind::DeleteFramebuffers => {
+                self.delete_names(context, NameKind::Framebuffer, call, steps);
+                Ok(valued(alloc, 0))
+            }
+            GlKind::FramebufferTexture2d => {
+                self.attach(context, NameKind::Texture, call, steps);
+                Ok(valued(alloc, 0))
+            }
+            GlKind::FramebufferRenderbuffer => {
+                self.attach(context, NameKind::Renderbuffer, call, steps);
+                Ok(valued(alloc, 0))
+            }
+            GlKind::ImageTargetTexture2d => {
+                self.target_texture_image(context, call, steps);
+                Ok(valued(alloc, 0))
+            }
+            GlKind::ImageTargetRenderbufferStorage => {
+                self.target_renderbuffer_image(thread, context, call, steps);
                 Ok(valued(alloc, 0))
             }
             GlKind::TexImage2d => {

@@ -1,4 +1,5 @@
 use Rattle.driver_core.proofs.Allowed.{sync_current, sync_display, sync_numbers, window_display, window_numbers, window_range, window_place, initialize_display, choice_list, pbuffer_display, pbuffer_numbers, pbuffer_range, context_display, context_numbers, context_range}
+use Rattle.driver_core.proofs.ImageLaws.{image_display, image_numbers, image_source}
 use Rattle.driver_core.proofs.machine.Driver.egl_effect_keeping_holds.Goals as goal
 
 pub initialize-requires : goal.initialize-requires
@@ -45,3 +46,12 @@ create_sync-requires-clause-current c = sync_current c.args.self.now.state c.arg
 
 pub create_sync-requires-clause-numbers : goal.create_sync-requires-clause-numbers
 create_sync-requires-clause-numbers c = sync_numbers c.args.self.now.state c.args.thread c.args.call.now (rw c.in-CreateSync.is at c.requires.kind) (rw c.in-CreateSync.is at c.requires.allowed)
+
+pub create_image-requires-clause-display : goal.create_image-requires-clause-display
+create_image-requires-clause-display c = image_display c.args.self.now.state c.args.thread c.args.call.now (rw c.in-CreateImage.is at c.requires.kind) (rw c.in-CreateImage.is at c.requires.allowed)
+
+pub create_image-requires-clause-source : goal.create_image-requires-clause-source
+create_image-requires-clause-source c = image_source c.args.self.now.state c.args.thread c.args.call.now (rw c.in-CreateImage.is at c.requires.kind) (rw c.in-CreateImage.is at c.requires.allowed)
+
+pub create_image-requires-clause-numbers : goal.create_image-requires-clause-numbers
+create_image-requires-clause-numbers c = image_numbers c.args.self.now.state c.args.thread c.args.call.now (rw c.in-CreateImage.is at c.requires.kind) (rw c.in-CreateImage.is at c.requires.allowed)
