@@ -16,7 +16,7 @@ use Rattle.egl_model.specs.declared.records.Bound.{Bound}
 use Rattle.egl_model.specs.declared.records.ThreadRecord.{ThreadRecord}
 use Rattle.egl_model.specs.State.{State, initial, object_at, record_of}
 use Rattle.egl_model.specs.Objects.{as_context, as_fence, as_storage, as_surface, context_in, fence_in, storage_in, surface_in}
-use Rattle.egl_model.specs.Currents.{current_context, draw_storage, has_context, has_surface, is_bound, bound_framebuffer, is_context_elsewhere, is_surface_elsewhere, part_of_context, read_storage, display_at}
+use Rattle.egl_model.specs.Currents.{current_context, draw_storage, has_context, has_surface, is_bound, is_context_elsewhere, is_surface_elsewhere, part_of_context, read_storage, display_at}
 use Rattle.egl_model.specs.Graph.{is_in}
 use Rattle.egl_model.specs.Waits.{has_flushed, is_signalled, signals}
 use Rattle.egl_model.specs.Parts.{Own, Places, is_place, places, put_at, set_image, set_part, write, written}
@@ -95,9 +95,6 @@ blind-draw t s w v x ne = same_draw s (places s v) v t x
 
 pub blind-read : (t : ℕ) (s : State) → Blind t s (λ a. read_storage a t)
 blind-read t s w v x ne = same_read s (places s v) v t x
-
-pub blind-complete : (t : ℕ) (s : State) → Blind t s (λ a. (bound_framebuffer a t).is_complete)
-blind-complete t s w v x ne = ap (λ (o : Option ℕ). is_some o) (blind-draw t s w v x ne)
 
 any-set : (q : ThreadRecord → Bool) (rs : List ThreadRecord) (i : ℕ) (y d : ThreadRecord) → q y ≡ q (get_or rs i d) → list_any q (set rs i y) ≡ list_any q rs
 any-set q [] i y d e = refl

@@ -15,8 +15,8 @@ use Rattle.rect_pipeline.specs.Copying.{copied_into}
 use Rattle.driver_objects.specs.Storages.{recopied_by, storage_bytes}
 use Rattle.driver_objects.specs.declared.objects.Object.TheVariants.{Context, Storage}
 use Rattle.egl_model.specs.State.{State}
-use Rattle.egl_model.specs.Currents.{bound_framebuffer, read_storage}
-use Rattle.egl_model.specs.Copies.{copied, copied_bytes, copied_format, copied_from, copied_level, copied_part, copied_part_from, copied_part_rect, copied_rect, copies_nothing, pixels_of, read_image}
+use Rattle.egl_model.specs.Copies.{copied, copied_bytes, copied_format, copied_from, copied_level, copied_part, copied_part_from, copied_part_rect, copied_rect, copies_nothing, read_image}
+use Rattle.egl_model.specs.Framebuffers.{BoundFramebuffer, bound_framebuffer, is_complete}
 use Rattle.egl_model.specs.GlFacts.{copy_facts, copy_part_facts, gl_refusal, has_read_alpha, has_stored_alpha, part_facts}
 use Rattle.egl_model.specs.Objects.{as_storage, change_storage, storage_in}
 use Rattle.egl_model.specs.Parts.{put_own}
@@ -24,7 +24,8 @@ use Rattle.egl_model.specs.Textures.{level_of, level_storage, specified, target_
 use Rattle.model_laws.specs.Extents.{quiet}
 use Rattle.model_laws.specs.Shapes.{IsFree, shapes}
 use Rattle.model_laws.specs.Sound.{IsWhole}
-use Rattle.model_laws.proofs.Blinds.{blind-complete, blind-live_bytes, blind-object, blind-own_storage, blind-read, read_alone}
+use Rattle.model_laws.proofs.Blinds.{blind-live_bytes, blind-object}
+use Rattle.model_laws.proofs.BoundFramebuffers.{blind-bound_framebuffer, blind-complete, blind-read_from}
 use Rattle.model_laws.proofs.GlCalls.{acts-written}
 use Rattle.model_laws.proofs.Keeps.{Acts, Blind, acts_cond, acts_of, acts_self}
 use Rattle.model_laws.proofs.NewObjects.{full-copied}
@@ -34,9 +35,7 @@ use Rattle.model_laws.proofs.Writes.{IsBlind}
 
 -- ---- What a thread reads, which no other thread has to itself.
 blind-read_image : (t : ℕ) (s : State) → Blind t s (λ a. read_image a t)
-blind-read_image t s w v x ne =
-    ap (λ o. pixels_of (put_own s v x).objects o) (blind-read t s w v x ne)
-    ∙ ap (λ o. option_and_then (λ y. y.image) o) (blind-own_storage t (read_storage s t) s (λ n e. read_alone s t n e) w v x ne)
+blind-read_image t s w v x ne = ap (λ o. option_and_then (λ y. y.image) o) (blind-read_from t s w v x ne)
 
 alpha-blind : IsBlind (λ o. has_stored_alpha (as_storage o))
 alpha-blind (Some (Context c)) = refl
@@ -49,20 +48,20 @@ blind-stored_alpha t (Some n) s w v x ne = blind-object (λ o. has_stored_alpha 
 
 blind-read_alpha : (t : ℕ) (s : State) → Blind t s (λ a. has_read_alpha a t)
 blind-read_alpha t s w v x ne =
-    ap (λ o. has_stored_alpha (option_and_then (storage_in (put_own s v x).objects) o)) (blind-read t s w v x ne)
-    ∙ blind-stored_alpha t (read_storage s t) s w v x ne
+    ap (λ (b : BoundFramebuffer). has_stored_alpha (option_and_then (storage_in (put_own s v x).objects) b.read)) (blind-bound_framebuffer t s w v x ne)
+    ∙ blind-stored_alpha t (bound_framebuffer s t).read s w v x ne
 
 pub blind-copy_facts : (t : ℕ) (c : CallValue) (s : State) → Blind t s (λ a. copy_facts a t c)
 blind-copy_facts t c s w v x ne =
     ap (λ b. record (copy_facts (put_own s v x) t c) { is_framebuffer_complete = b }) (blind-complete t s w v x ne)
-    ∙ ap (λ b. record (copy_facts (put_own s v x) t c) { is_framebuffer_complete = (bound_framebuffer s t).is_complete; has_read_alpha = b }) (blind-read_alpha t s w v x ne)
+    ∙ ap (λ b. record (copy_facts (put_own s v x) t c) { is_framebuffer_complete = is_complete (bound_framebuffer s t); has_read_alpha = b }) (blind-read_alpha t s w v x ne)
     ∙ ap (λ b. record (copy_facts s t c) { live_bytes = b }) (blind-live_bytes t s w v x ne)
 
 pub blind-copy_part_facts : (t n : ℕ) (c : CallValue) (s : State) → Blind t s (λ a. copy_part_facts a t n c)
 blind-copy_part_facts t n c s w v x ne =
-    ap (λ (f : GlFacts). record f { is_framebuffer_complete = (bound_framebuffer (put_own s v x) t).is_complete; has_read_alpha = has_read_alpha (put_own s v x) t }) (blind-part_facts t n c s w v x ne)
+    ap (λ (f : GlFacts). record f { is_framebuffer_complete = is_complete (bound_framebuffer (put_own s v x) t); has_read_alpha = has_read_alpha (put_own s v x) t }) (blind-part_facts t n c s w v x ne)
     ∙ ap (λ b. record (part_facts s n c) { is_framebuffer_complete = b; has_read_alpha = has_read_alpha (put_own s v x) t }) (blind-complete t s w v x ne)
-    ∙ ap (λ b. record (part_facts s n c) { is_framebuffer_complete = (bound_framebuffer s t).is_complete; has_read_alpha = b }) (blind-read_alpha t s w v x ne)
+    ∙ ap (λ b. record (part_facts s n c) { is_framebuffer_complete = is_complete (bound_framebuffer s t); has_read_alpha = b }) (blind-read_alpha t s w v x ne)
 
 -- ---- glCopyTexImage2D.
 pub copy_passed : (s : State) (t n : ℕ) (c : CallValue) → c.kind ≡ Gl CopyTexImage2d → gl_refusal s t n CopyTexImage2d c ≡ None → CopyAllowed c (copy_facts s t c)

@@ -1,19 +1,20 @@
 -- Where a name is deleted, its object is unbound from the caller's context, and other contexts keep what they have.
-use Rattle.std.proofs.Common.{◌≡◌, ◌≢◌, ℕ, zero, suc, ◌<◌, arith, ℤ, false, inl, inr, List, [], ◌∷◌, length, get_or, refl, sym, ap, subst, ◌∙◌, Option, None, Some}
-use Rattle.std.specs.Prelude.{Contains, IfSome}
+use Rattle.std.proofs.Common.{◌≡◌, ◌≢◌, ℕ, zero, suc, ◌<◌, ◌==◌, arith, ℤ, Bool, true, false, inl, inr, List, [], ◌∷◌, length, get_or, refl, sym, ap, subst, ◌∙◌, Option, None, Some}
+use Rattle.std.specs.Prelude.{Contains, IfSome, if◌then◌else◌}
 use Rattle.std.proofs.lemmas.Bool.{cases_eq, cond_both, eq-eqb, false≢true}
 use Rattle.std.proofs.lemmas.List.{get_or-set_other}
 use Rattle.std.proofs.lemmas.Option.{none-some}
 use Rattle.egl_calls.specs.Calls.{CallValue}
 use Rattle.egl_calls.specs.Ranges.{unsigned}
-use Rattle.egl_calls.specs.declared.kinds.GlKind.TheVariants.{DeleteBuffers, DeleteRenderbuffers, DeleteTextures}
+use Rattle.egl_calls.specs.declared.kinds.GlKind.TheVariants.{DeleteBuffers, DeleteFramebuffers, DeleteRenderbuffers, DeleteTextures}
 use Rattle.driver_objects.specs.Links.{bound_in}
 use Rattle.driver_objects.specs.Targets.{binding_of, slot_of}
 use Rattle.driver_objects.specs.declared.contexts.Context.{Context as ContextObject}
 use Rattle.driver_objects.specs.declared.objects.Object.{Object}
-use Rattle.driver_objects.specs.declared.objects.Object.TheVariants.{Context, Group}
+use Rattle.driver_objects.specs.declared.objects.Object.TheVariants.{Context, Framebuffer, Group}
 use Rattle.driver_objects.specs.declared.targets.BindTarget.{BindTarget}
-use Rattle.driver_objects.specs.declared.targets.BindTarget.TheVariants.{Texture as TextureTarget, ArrayBuffer, ElementArrayBuffer, Renderbuffer as RenderbufferTarget}
+use Rattle.driver_objects.specs.declared.targets.BindTarget.TheVariants.{Texture as TextureTarget, ArrayBuffer, ElementArrayBuffer, Renderbuffer as RenderbufferTarget, Framebuffer as FramebufferTarget}
+use Rattle.framebuffer_objects.specs.Framebuffers.{FramebufferValue}
 use Rattle.share_group.specs.Groups.{GroupValue}
 use Rattle.share_group.specs.Names.{object_of}
 use Rattle.share_group.specs.declared.names.NameKind.{NameKind}
@@ -21,9 +22,9 @@ use Rattle.share_group.specs.declared.names.NameKind.TheVariants.{Texture as tex
 use Rattle.share_group.proofs.FreeLaws.{frees_one}
 use Rattle.model_laws.specs.Deleted.{HasUnbound}
 use Rattle.model_laws.specs.Laws.{IsAllowedGl}
-use Rattle.egl_model.specs.Bindings.{bound_at, deleted_in, deleted_name, deleted_names, named_at, unbound_at, unbound_in, unbound_object}
+use Rattle.egl_model.specs.Bindings.{bound_at, bound_framebuffer_in, deleted_in, deleted_name, deleted_names, detached_from, detached_on, named_at, unbound_at, unbound_in, unbound_object}
 use Rattle.egl_model.specs.Names.{group_of, object_named, with_name_of}
-use Rattle.egl_model.specs.Objects.{as_context, change_context, change_group, context_in, with_context, with_group}
+use Rattle.egl_model.specs.Objects.{as_context, change_context, change_framebuffer, change_group, context_in, with_context, with_framebuffer, with_group}
 use Rattle.egl_model.specs.Parts.{is_place}
 use Rattle.egl_model.specs.State.{State, object_at}
 use Rattle.egl_model.specs.Step.{Stepped, step}
@@ -41,10 +42,21 @@ freed_context : (k : NameKind) (g m name : ℕ) (os : List (Option Object)) → 
 unfolding change_group
 freed_context k g m name os = same_at_set as_context os g (with_group (with_name_of k name None) (get_or os g None)) None (group_context (with_name_of k name None) (get_or os g None)) m
 
+framebuffer_context : (f : FramebufferValue → FramebufferValue) (o : Option Object) → as_context (with_framebuffer f o) ≡ as_context o
+framebuffer_context f (Some (Framebuffer x)) = refl
+framebuffer_context f o = refl
+
+detached_context : (b : Option ℕ) (x m : ℕ) (os : List (Option Object)) → context_in (detached_on b x os) m ≡ context_in os m
+unfolding change_framebuffer
+detached_context None x m os = refl
+detached_context (Some b) x m os = same_at_set as_context os b (with_framebuffer (detached_from x) (get_or os b None)) None (framebuffer_context (detached_from x) (get_or os b None)) m
+
 unbound_elsewhere : (k : NameKind) (n m : ℕ) (o : Option ℕ) (os : List (Option Object)) → m ≢ n → context_in (unbound_in k n o os) m ≡ context_in os m
 unfolding change_context
 unbound_elsewhere k n m None os ne = refl
-unbound_elsewhere k n m (Some x) os ne = ap as_context (get_or-set_other os n m (with_context (unbound_object k x) (get_or os n None)) None ne)
+unbound_elsewhere k n m (Some x) os ne =
+    let ps = detached_on (bound_framebuffer_in n os) x os in
+    ap as_context (get_or-set_other ps n m (with_context (unbound_object k x) (get_or ps n None)) None ne) ∙ detached_context (bound_framebuffer_in n os) x m os
 
 kept_elsewhere : (k : NameKind) (g n m : ℕ) (xs : List ℤ) (s : State) → m ≢ n → context_in (deleted_in k g n xs s).objects m ≡ context_in s.objects m
 kept_elsewhere k g n m [] s ne = refl
@@ -70,6 +82,9 @@ buffers_stay_elsewhere s t n m c y a ne h = elsewhere buffers s n m c.list y ne 
 pub renderbuffers_stay_elsewhere : (s : State) (t n m : ℕ) (c : CallValue) (y : ContextObject) → IsAllowedGl s t n DeleteRenderbuffers c → m ≢ n → context_in (step s t c).state.objects m ≡ Some y → context_in s.objects m ≡ Some y
 renderbuffers_stay_elsewhere s t n m c y a ne h = elsewhere renderbuffers s n m c.list y ne (subst (λ (z : Stepped). context_in z.state.objects m ≡ Some y) (allowed_gl s t n DeleteRenderbuffers c a) h)
 
+pub framebuffers_stay_elsewhere : (s : State) (t n m : ℕ) (c : CallValue) (y : ContextObject) → IsAllowedGl s t n DeleteFramebuffers c → m ≢ n → context_in (step s t c).state.objects m ≡ Some y → context_in s.objects m ≡ Some y
+framebuffers_stay_elsewhere s t n m c y a ne h = elsewhere framebuffers s n m c.list y ne (subst (λ (z : Stepped). context_in z.state.objects m ≡ Some y) (allowed_gl s t n DeleteFramebuffers c a) h)
+
 -- ---- The caller's context.
 NotAt : BindTarget → ℕ → ContextObject → Type 0
 NotAt b x c = bound_in (slot_of b) c.bound ≢ Some x
@@ -80,6 +95,7 @@ none_at TextureTarget x c h = none-some x h
 none_at ArrayBuffer x c h = none-some x h
 none_at ElementArrayBuffer x c h = none-some x h
 none_at RenderbufferTarget x c h = none-some x h
+none_at FramebufferTarget x c h = none-some x h
 
 no_place : (x : ℕ) (o : Option ℕ) → is_place x o ≡ false → o ≢ Some x
 no_place x o e h = false≢true (sym e ∙ ap (is_place x) h ∙ eq-eqb x x refl)
@@ -89,24 +105,18 @@ unfolding NotAt
 unbound_here b x c = cond_both (is_place x (bound_in (slot_of b) c.bound)) (bound_at (slot_of b) None (named_at (binding_of b) 0 c)) c (λ (d : ContextObject). NotAt b x d)
     (λ e. none_at b x (named_at (binding_of b) 0 c)) (λ e. no_place x (bound_in (slot_of b) c.bound) e)
 
+-- a slot that is emptied, if it is this one, has nothing that it hadn't
+emptied : (b : Bool) (o : Option ℕ) (x : ℕ) → o ≢ Some x → (if b then None else o) ≢ Some x
+emptied true o x h e = none-some x e
+emptied false o x h e = h e
+
 less_at : (a b : BindTarget) (x : ℕ) (c : ContextObject) → NotAt b x c → NotAt b x (bound_at (slot_of a) None c)
 unfolding NotAt
-less_at TextureTarget TextureTarget x c h e = none-some x e
-less_at TextureTarget ArrayBuffer x c h e = h e
-less_at TextureTarget ElementArrayBuffer x c h e = h e
-less_at ArrayBuffer TextureTarget x c h e = h e
-less_at ArrayBuffer ArrayBuffer x c h e = none-some x e
-less_at ArrayBuffer ElementArrayBuffer x c h e = h e
-less_at ElementArrayBuffer TextureTarget x c h e = h e
-less_at ElementArrayBuffer ArrayBuffer x c h e = h e
-less_at ElementArrayBuffer ElementArrayBuffer x c h e = none-some x e
-less_at TextureTarget RenderbufferTarget x c h e = h e
-less_at ArrayBuffer RenderbufferTarget x c h e = h e
-less_at ElementArrayBuffer RenderbufferTarget x c h e = h e
-less_at RenderbufferTarget TextureTarget x c h e = h e
-less_at RenderbufferTarget ArrayBuffer x c h e = h e
-less_at RenderbufferTarget ElementArrayBuffer x c h e = h e
-less_at RenderbufferTarget RenderbufferTarget x c h e = none-some x e
+less_at a TextureTarget x c h = emptied (slot_of a == 2) c.bound.texture x h
+less_at a ArrayBuffer x c h = emptied (slot_of a == 3) c.bound.array_buffer x h
+less_at a ElementArrayBuffer x c h = emptied (slot_of a == 4) c.bound.element_array_buffer x h
+less_at a RenderbufferTarget x c h = emptied (slot_of a == 5) c.bound.renderbuffer x h
+less_at a FramebufferTarget x c h = emptied (slot_of a == 6) c.bound.framebuffer x h
 
 still_not : (a b : BindTarget) (z x : ℕ) (c : ContextObject) → NotAt b x c → NotAt b x (unbound_at a z c)
 unfolding NotAt
@@ -118,7 +128,7 @@ unfolding NotAt
 unbound_of textures x c = unbound_here TextureTarget x c
 unbound_of buffers x c = (still_not ElementArrayBuffer ArrayBuffer x x (unbound_at ArrayBuffer x c) (unbound_here ArrayBuffer x c), unbound_here ElementArrayBuffer x (unbound_at ArrayBuffer x c))
 unbound_of renderbuffers x c = unbound_here RenderbufferTarget x c
-unbound_of framebuffers x c = tt
+unbound_of framebuffers x c = unbound_here FramebufferTarget x c
 
 still_of : (k : NameKind) (z x : ℕ) (c : ContextObject) → HasUnbound k x c → HasUnbound k x (unbound_object k z c)
 unfolding NotAt
@@ -126,7 +136,7 @@ still_of textures z x c h = still_not TextureTarget TextureTarget z x c h
 still_of buffers z x c h = let d = unbound_at ArrayBuffer z c in
     (still_not ElementArrayBuffer ArrayBuffer z x d (still_not ArrayBuffer ArrayBuffer z x c h.0), still_not ElementArrayBuffer ElementArrayBuffer z x d (still_not ArrayBuffer ElementArrayBuffer z x c h.1))
 still_of renderbuffers z x c h = still_not RenderbufferTarget RenderbufferTarget z x c h
-still_of framebuffers z x c h = h
+still_of framebuffers z x c h = still_not FramebufferTarget FramebufferTarget z x c h
 
 -- a context, if it is one, has the object unbound
 abbrev IsUnbound : NameKind → ℕ → Option Object → Type 0
@@ -142,12 +152,16 @@ kept_unbound k z x o h = tt
 
 first_unbound : (k : NameKind) (n x : ℕ) (os : List (Option Object)) → IfSome (context_in (unbound_in k n (Some x) os) n) (HasUnbound k x)
 unfolding change_context
-first_unbound k n x os = subst (IsUnbound k x) (sym (changed_at (with_context (unbound_object k x)) refl n os)) (made_unbound k x (get_or os n None))
+first_unbound k n x os =
+    let ps = detached_on (bound_framebuffer_in n os) x os in
+    subst (IsUnbound k x) (sym (changed_at (with_context (unbound_object k x)) refl n ps)) (made_unbound k x (get_or ps n None))
 
 later_unbound : (k : NameKind) (n x : ℕ) (o : Option ℕ) (os : List (Option Object)) → IfSome (context_in os n) (HasUnbound k x) → IfSome (context_in (unbound_in k n o os) n) (HasUnbound k x)
 unfolding change_context
 later_unbound k n x None os h = h
-later_unbound k n x (Some z) os h = subst (IsUnbound k x) (sym (changed_at (with_context (unbound_object k z)) refl n os)) (kept_unbound k z x (get_or os n None) h)
+later_unbound k n x (Some z) os h =
+    let ps = detached_on (bound_framebuffer_in n os) z os in
+    subst (IsUnbound k x) (sym (changed_at (with_context (unbound_object k z)) refl n ps)) (kept_unbound k z x (get_or ps n None) (subst (λ c. IfSome c (HasUnbound k x)) (sym (detached_context (bound_framebuffer_in n os) z n os)) h))
 
 name_later : (k : NameKind) (g n name x : ℕ) (s : State) → IfSome (context_in s.objects n) (HasUnbound k x) → IfSome (context_in (deleted_name k g n name s).objects n) (HasUnbound k x)
 name_later k g n name x s h =
@@ -190,3 +204,6 @@ buffer_is_unbound s t n x c v a i e = subst (λ (z : Stepped). IfSome (context_i
 
 pub renderbuffer_is_unbound : (s : State) (t n x : ℕ) (c : CallValue) (v : ℤ) → IsAllowedGl s t n DeleteRenderbuffers c → Contains c.list v → object_named s (group_of s n) renderbuffers (unsigned v) ≡ Some x → IfSome (context_in (step s t c).state.objects n) (HasUnbound renderbuffers x)
 renderbuffer_is_unbound s t n x c v a i e = subst (λ (z : Stepped). IfSome (context_in z.state.objects n) (HasUnbound renderbuffers x)) (sym (allowed_gl s t n DeleteRenderbuffers c a)) (swept_unbound renderbuffers n x (deleted_names renderbuffers s n c.list) (each_unbound renderbuffers (group_of s n) n i.0 x v c.list s i.1 i.2 e))
+
+pub framebuffer_is_unbound : (s : State) (t n x : ℕ) (c : CallValue) (v : ℤ) → IsAllowedGl s t n DeleteFramebuffers c → Contains c.list v → object_named s (group_of s n) framebuffers (unsigned v) ≡ Some x → IfSome (context_in (step s t c).state.objects n) (HasUnbound framebuffers x)
+framebuffer_is_unbound s t n x c v a i e = subst (λ (z : Stepped). IfSome (context_in z.state.objects n) (HasUnbound framebuffers x)) (sym (allowed_gl s t n DeleteFramebuffers c a)) (swept_unbound framebuffers n x (deleted_names framebuffers s n c.list) (each_unbound framebuffers (group_of s n) n i.0 x v c.list s i.1 i.2 e))

@@ -7,13 +7,13 @@ use Rattle.std.proofs.Math.ListN.{get_or-map}
 use Rattle.std.proofs.lemmas.Bool.{not-false}
 use Rattle.std.proofs.lemmas.List.Elements.{filter_passes}
 use Rattle.egl_calls.specs.Calls.{CallValue}
-use Rattle.egl_calls.specs.declared.kinds.EglKind.TheVariants.{DestroySurface, DestroyContext, DestroySync, ReleaseThread}
+use Rattle.egl_calls.specs.declared.kinds.EglKind.TheVariants.{DestroySurface, DestroyContext, DestroySync, DestroyImage, ReleaseThread}
 use Rattle.egl_calls.specs.declared.errors.EglError.TheVariants.{Success}
 use Rattle.call_rules.proofs.EglLaws.{rows_off}
 use Rattle.display_table.specs.Handles.{without, without_found}
 use Rattle.display_table.specs.declared.handles.Handle.{Handle}
 use Rattle.display_table.specs.declared.handles.HandleKind.{HandleKind}
-use Rattle.display_table.specs.declared.handles.HandleKind.TheVariants.{Context as a_context, Surface as a_surface, Sync as a_sync}
+use Rattle.display_table.specs.declared.handles.HandleKind.TheVariants.{Context as a_context, Surface as a_surface, Image as an_image, Sync as a_sync}
 use Rattle.egl_model.specs.declared.records.ClientApi.{ClientApi}
 use Rattle.egl_model.specs.declared.records.ClientApi.TheVariants.{OpenGlEs}
 use Rattle.egl_model.specs.declared.records.ThreadRecord.{ThreadRecord}
@@ -86,6 +86,12 @@ unfolding egl_refusal
 sync_removed s t c h =
     let off = rows_off c (egl_facts s t DestroySync c) DestroySync h.call.kind h.allowed in
     removes s (step s t c).state (number c 1) (ap (λ (a : State). a.handles) (allowed_egl_state s t DestroySync c h) ∙ without_named s c a_sync (not-false _ off.1.1.0))
+
+pub image_removed : (s : State) (t : ℕ) (c : CallValue) → IsAllowedEgl s t DestroyImage c → IsRemoved s (step s t c).state (number c 1)
+unfolding egl_refusal
+image_removed s t c h =
+    let off = rows_off c (egl_facts s t DestroyImage c) DestroyImage h.call.kind h.allowed in
+    removes s (step s t c).state (number c 1) (ap (λ (a : State). a.handles) (allowed_egl_state s t DestroyImage c h) ∙ without_named s c an_image (not-false _ off.1.1.0))
 
 -- a record changes its error alone
 but_error : {A : Type 0} (f : ThreadRecord → A) (ts : List ThreadRecord) (t u : ℕ) → ((r : ThreadRecord) → f (record r { error = Success }) ≡ f r) → f (get_or (set ts t (record (get_or ts t initial) { error = Success })) u initial) ≡ f (get_or ts u initial)

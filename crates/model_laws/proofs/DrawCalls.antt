@@ -15,13 +15,15 @@ use Rattle.driver_objects.specs.declared.objects.Object.TheVariants.{Context, St
 use Rattle.driver_objects.specs.declared.textures.BackedTexture.{BackedTexture}
 use Rattle.egl_model.specs.State.{State}
 use Rattle.egl_model.specs.Objects.{as_storage, change_storage, storage_in, texture_in, with_image}
-use Rattle.egl_model.specs.Currents.{current_context, draw_storage, part_of_context}
+use Rattle.egl_model.specs.Currents.{current_context, part_of_context}
 use Rattle.egl_model.specs.Draws.{draw_into, drawn, drawn_rect, sampler, sampler_by, sampler_in, sampler_over, shape_in, shape_of}
+use Rattle.egl_model.specs.Framebuffers.{BoundFramebuffer, bound_framebuffer}
 use Rattle.egl_model.specs.Parts.{put_own}
 use Rattle.egl_model.specs.Textures.{storage_at, target_texture}
 use Rattle.model_laws.specs.Extents.{quiet}
 use Rattle.model_laws.specs.Shapes.{shapes}
-use Rattle.model_laws.proofs.Blinds.{blind-draw, blind-object, blind-own_part, blind-own_storage, draw_alone, free_undrawn}
+use Rattle.model_laws.proofs.Blinds.{blind-object, blind-own_part, blind-own_storage, free_undrawn}
+use Rattle.model_laws.proofs.BoundFramebuffers.{blind-bound_framebuffer, bound_draw_alone}
 use Rattle.model_laws.proofs.Keeps.{Acts, Blind, acts_of, acts_self, by_quiet_moves}
 use Rattle.model_laws.proofs.Moves.{Change}
 use Rattle.model_laws.proofs.Setters.{form-drawn, setter-image, suits-image}
@@ -34,7 +36,7 @@ shape-blind (Some (Context c)) = refl
 shape-blind (Some (Storage v)) = refl
 shape-blind o = refl
 
-blind-shape : (t : ℕ) (o : Option ℕ) (s : State) → Blind t s (λ a. shape_in a.objects o)
+pub blind-shape : (t : ℕ) (o : Option ℕ) (s : State) → Blind t s (λ a. shape_in a.objects o)
 blind-shape t None s w v x ne = refl
 blind-shape t (Some n) s w v x ne = blind-object (λ o. option_map shape_of (as_storage o)) shape-blind t n s w v x ne
 
@@ -61,20 +63,20 @@ blind-sampler t n r s w v x ne =
     ∙ blind-sampler_of t n r (option_and_then (texture_in s.objects) (target_texture s n)) s refl w v x ne
 
 -- ---- glDrawTexiOES and glDrawTexxOES.
-acts-draw_into : (t : ℕ) (s : State) (p : Option PartValue) (o : Option ℕ) (from : Option SamplerValue) (r : Rect) → draw_storage s t ≡ o → Acts quiet t s (draw_into p o from r)
+acts-draw_into : (t : ℕ) (s : State) (p : Option PartValue) (o : Option ℕ) (from : Option SamplerValue) (r : Rect) → (bound_framebuffer s t).draw ≡ o → Acts quiet t s (draw_into p o from r)
 unfolding change_storage
 acts-draw_into t s (Some p) (Some m) from r e =
     let f : Option SamplerValue = cond p.is_texture_enabled from None in
-    by_quiet_moves t s (Change m (with_image (drawn_image p f r)) ∷ []) refl (setter-image (drawn_image p f r) (form-drawn p f r), tt) (λ w. (suits-image t (shapes s.objects) s m (drawn_image p f r) (draw_alone s t m e w), tt))
+    by_quiet_moves t s (Change m (with_image (drawn_image p f r)) ∷ []) refl (setter-image (drawn_image p f r) (form-drawn p f r), tt) (λ w. (suits-image t (shapes s.objects) s m (drawn_image p f r) (bound_draw_alone s t m e w), tt))
 acts-draw_into t s (Some p) None from r e = acts_self t s
 acts-draw_into t s None o from r e = acts_self t s
 
 pub acts-drawn : (s : State) (t n : ℕ) (k : GlKind) (c : CallValue) → current_context s t ≡ Some n → Acts quiet t s (λ a. drawn a t n k c)
 acts-drawn s t n k c e =
     let r : Rect = drawn_rect k c in
-    acts_of {A = Option PartValue × (Option ℕ × Option SamplerValue)} quiet t s (λ a. (part_of_context a n, (draw_storage a t, sampler a n r))) (λ y. draw_into y.0 y.1.0 y.1.1 r)
+    acts_of {A = Option PartValue × (Option ℕ × Option SamplerValue)} quiet t s (λ a. (part_of_context a n, ((bound_framebuffer a t).draw, sampler a n r))) (λ y. draw_into y.0 y.1.0 y.1.1 r)
     (λ w v x ne.
-    ap (λ p. (p, (draw_storage (put_own s v x) t, sampler (put_own s v x) n r))) (blind-own_part t n s e w v x ne)
-    ∙ ap (λ d. (part_of_context s n, (d, sampler (put_own s v x) n r))) (blind-draw t s w v x ne)
-    ∙ ap (λ z. (part_of_context s n, (draw_storage s t, z))) (blind-sampler t n r s w v x ne))
-    (acts-draw_into t s (part_of_context s n) (draw_storage s t) (sampler s n r) r refl)
+    ap (λ p. (p, ((bound_framebuffer (put_own s v x) t).draw, sampler (put_own s v x) n r))) (blind-own_part t n s e w v x ne)
+    ∙ ap (λ (b : BoundFramebuffer). (part_of_context s n, (b.draw, sampler (put_own s v x) n r))) (blind-bound_framebuffer t s w v x ne)
+    ∙ ap (λ z. (part_of_context s n, ((bound_framebuffer s t).draw, z))) (blind-sampler t n r s w v x ne))
+    (acts-draw_into t s (part_of_context s n) (bound_framebuffer s t).draw (sampler s n r) r refl)

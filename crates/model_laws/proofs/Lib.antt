@@ -15,6 +15,7 @@ pub mod NameLaws
 pub mod DeletionLaws
 pub mod BufferLaws
 pub mod RenderbufferLaws
+pub mod SiblingLaws
 pub mod PixelLaws
 pub mod LinkLaws
 pub mod LinkedSteps
@@ -38,6 +39,7 @@ pub mod FullMoves
 pub mod PutMoves
 pub mod Keeps
 pub mod Blinds
+pub mod BoundFramebuffers
 pub mod Setters
 pub mod GlCalls
 pub mod Named
@@ -47,8 +49,10 @@ pub mod NameCalls
 pub mod TextureCalls
 pub mod BufferCalls
 pub mod RenderbufferCalls
+pub mod FramebufferCalls
 pub mod DrawCalls
 pub mod CopyCalls
+pub mod ImageCalls
 pub mod EglCalls
 pub mod WindowCalls
 pub mod StepKeeps

@@ -5,7 +5,7 @@ use Rattle.std.proofs.lemmas.List.Folds.{list_any-append}
 use Rattle.std.specs.Prelude.{◌==◌}
 use Rattle.std.specs.List.{flat_map}
 use Rattle.driver_objects.specs.declared.objects.Object.{Object}
-use Rattle.driver_objects.specs.declared.objects.Object.TheVariants.{Context, Group, Texture, Buffer, Renderbuffer, Surface, Storage, Sync}
+use Rattle.driver_objects.specs.declared.objects.Object.TheVariants.{Context, Group, Texture, Buffer, Renderbuffer, Framebuffer, Surface, Storage, Image, Sync}
 use Rattle.egl_model.specs.Graph.{is_in, marked}
 use Rattle.egl_model.specs.State.{State, object_at, has_object}
 use Rattle.egl_model.specs.Sweep.{edges_at, is_reached, roots, sweep}
@@ -21,8 +21,10 @@ rank_top (Some (Group a)) = omega arith
 rank_top (Some (Texture a)) = omega arith
 rank_top (Some (Buffer x)) = omega arith
 rank_top (Some (Renderbuffer x)) = omega arith
+rank_top (Some (Framebuffer x)) = omega arith
 rank_top (Some (Surface x)) = omega arith
 rank_top (Some (Storage x)) = omega arith
+rank_top (Some (Image x)) = omega arith
 rank_top (Some (Sync x)) = omega arith
 
 pub root_marked : (rs : List ℕ) (edges : ℕ → List ℕ) (k n : ℕ) → is_in n rs ≡ true → is_in n (marked rs edges k) ≡ true

@@ -9,14 +9,19 @@ use Rattle.pixel_rows.specs.Images.{ImageValue}
 use Rattle.driver_objects.specs.Links.{bound_in, linked_names}
 use Rattle.driver_objects.specs.Targets.{binding_of, name_kind, slot_of}
 use Rattle.driver_objects.specs.declared.targets.BindTarget.{BindTarget}
-use Rattle.driver_objects.specs.declared.targets.BindTarget.TheVariants.{Texture as TextureTarget, ArrayBuffer, ElementArrayBuffer, Renderbuffer as RenderbufferTarget}
+use Rattle.driver_objects.specs.declared.targets.BindTarget.TheVariants.{Texture as TextureTarget, ArrayBuffer, ElementArrayBuffer, Renderbuffer as RenderbufferTarget, Framebuffer as FramebufferTarget}
 use Rattle.driver_objects.specs.Objects.{filled}
 use Rattle.driver_objects.specs.declared.contexts.Context.{Context as ContextObject}
 use Rattle.driver_objects.specs.declared.kinds.ObjectKind.{ObjectKind}
 use Rattle.driver_objects.specs.declared.kinds.ObjectKind.TheVariants.{Storage as a_storage}
 use Rattle.driver_objects.specs.declared.objects.Object.{Object}
-use Rattle.driver_objects.specs.declared.objects.Object.TheVariants.{Context, Group, Texture, Renderbuffer, Storage}
+use Rattle.driver_objects.specs.declared.objects.Object.TheVariants.{Context, Group, Texture, Renderbuffer, Framebuffer, Storage}
 use Rattle.driver_objects.specs.declared.textures.BackedTexture.{BackedTexture}
+use Rattle.framebuffer_objects.specs.Framebuffers as framebuffers_of
+use Rattle.framebuffer_objects.specs.Framebuffers.{FramebufferValue, at_point, with_point}
+use Rattle.framebuffer_objects.specs.declared.framebuffers.Attached.{Attached}
+use Rattle.framebuffer_objects.specs.declared.points.Point.{Point}
+use Rattle.framebuffer_objects.specs.declared.points.Point.TheVariants.{Color, Depth, Stencil}
 use Rattle.share_group.specs.Groups.{GroupValue, names_of, with_names}
 use Rattle.share_group.specs.Names.{after, fresh, is_of, object_in, object_of, put, unused_from, without}
 use Rattle.share_group.specs.declared.names.Name.{Name}
@@ -26,12 +31,12 @@ use Rattle.egl_model.specs.Currents.{has_context}
 use Rattle.model_laws.specs.Full.{Full}
 use Rattle.egl_model.specs.Graph.{is_in}
 use Rattle.egl_model.specs.Names.{kind_named, with_more, with_name_of}
-use Rattle.egl_model.specs.Objects.{as_group, with_context, with_group, with_texture}
+use Rattle.egl_model.specs.Objects.{as_group, with_context, with_framebuffer, with_group, with_texture}
 use Rattle.egl_model.specs.Parts.{is_place, set_image, set_part}
 use Rattle.model_laws.specs.Shapes.{Goes, IsFree, Leads, Shape, pixels_in, slots_in}
-use Rattle.model_laws.specs.Slots.{level_slots, name_slots, slots_of}
+use Rattle.model_laws.specs.Slots.{attached_kind, level_slots, name_slots, slots_of}
 use Rattle.egl_model.specs.State.{State}
-use Rattle.egl_model.specs.Bindings.{bound_at, name_in_part, named_at, unbound_object, unbound_at}
+use Rattle.egl_model.specs.Bindings.{bound_at, detached_at, detached_from, name_in_part, named_at, unbound_object, unbound_at}
 use Rattle.egl_model.specs.Textures.{with_crop, with_pixels, with_value}
 use Rattle.model_laws.proofs.Moves.{NoneElse, Setter, Suits, body_in}
 use Rattle.model_laws.proofs.Slots.{group_parts, group_whole, in_cases, in_left, in_right}
@@ -134,6 +139,7 @@ leads-bound sh TextureTarget o g c l = (l.0, (l.1.0, (g, l.1.1.1)))
 leads-bound sh ArrayBuffer o g c l = (l.0, (l.1.0, (l.1.1.0, (g, l.1.1.1.1))))
 leads-bound sh ElementArrayBuffer o g c l = (l.0, (l.1.0, (l.1.1.0, (l.1.1.1.0, (g, l.1.1.1.1.1)))))
 leads-bound sh RenderbufferTarget o g c l = (l.0, (l.1.0, (l.1.1.0, (l.1.1.1.0, (l.1.1.1.1.0, (g, l.1.1.1.1.1.1))))))
+leads-bound sh FramebufferTarget o g c l = (l.0, (l.1.0, (l.1.1.0, (l.1.1.1.0, (l.1.1.1.1.0, (l.1.1.1.1.1.0, (g, l.1.1.1.1.1.1.1)))))))
 
 pub suits-bound : (t : ℕ) (sh : List (Option Shape)) (s : State) (n : ℕ) (target : BindTarget) (b : Option ℕ) → Goes sh (kind_named (name_kind target)) b → Suits t sh s n (with_context (bound_at (slot_of target) b))
 suits-bound t sh s n target b g = record { leads = leads; pixels = λ o k i. inl (ap (is_in k) (sym (looks o)) ∙ i); part = inl past_part; image = inl past_image }
@@ -208,14 +214,11 @@ renames-at b x = record {
 renames-then : (f g : ContextObject → ContextObject) → Renames f → Renames g → Renames (λ c. g (f c))
 renames-then f g a b = record { home = λ c. b.home (f c) ∙ a.home c; part = λ c h. b.part (f c) (a.part c h) }
 
-renames-self : Renames (λ c. c)
-renames-self = record { home = λ c. refl; part = λ c h. h }
-
 renames-unbound : (k : NameKind) (x : ℕ) → Renames (unbound_object k x)
 renames-unbound textures x = renames-at TextureTarget x
 renames-unbound buffers x = renames-then (unbound_at ArrayBuffer x) (unbound_at ElementArrayBuffer x) (renames-at ArrayBuffer x) (renames-at ElementArrayBuffer x)
 renames-unbound renderbuffers x = renames-at RenderbufferTarget x
-renames-unbound framebuffers x = renames-self
+renames-unbound framebuffers x = renames-at FramebufferTarget x
 
 pub setter-unbound : (k : NameKind) (x : ℕ) → Setter (with_context (unbound_object k x))
 setter-unbound k x = setter-renamed (unbound_object k x) (renames-unbound k x)
@@ -228,10 +231,68 @@ leads-unbound : (sh : List (Option Shape)) (k : NameKind) (x : ℕ) (c : Context
 leads-unbound sh textures x c l = leads-at sh TextureTarget x c l
 leads-unbound sh buffers x c l = leads-at sh ElementArrayBuffer x (unbound_at ArrayBuffer x c) (leads-at sh ArrayBuffer x c l)
 leads-unbound sh renderbuffers x c l = leads-at sh RenderbufferTarget x c l
-leads-unbound sh framebuffers x c l = l
+leads-unbound sh framebuffers x c l = leads-at sh FramebufferTarget x c l
 
 pub suits-unbound : (t : ℕ) (sh : List (Option Shape)) (s : State) (n : ℕ) (k : NameKind) (x : ℕ) → NoneElse (has_context n) s.threads t → Suits t sh s n (with_context (unbound_object k x))
 suits-unbound t sh s n k x mine = suits-own t sh s n (unbound_object k x) (leads-unbound sh k x) mine
+
+-- ---- A framebuffer.
+pub setter-framebuffer : (h : FramebufferValue → FramebufferValue) → Setter (with_framebuffer h)
+setter-framebuffer h = record { body = body; full = full }
+  where
+    body : (o : Option Object) → body_in (with_framebuffer h o) ≡ body_in o
+    body (Some (Framebuffer x)) = refl
+    body o = refl
+
+    full : (o : Option Object) → Full o → Full (with_framebuffer h o)
+    full (Some (Framebuffer x)) f = tt
+    full o f = f
+
+suits-framebuffer : (t : ℕ) (sh : List (Option Shape)) (s : State) (n : ℕ) (h : FramebufferValue → FramebufferValue) → ((x : FramebufferValue) → Leads sh (slots_of (Framebuffer x)) → Leads sh (slots_of (Framebuffer (h x)))) → Suits t sh s n (with_framebuffer h)
+suits-framebuffer t sh s n h l = record { leads = leads; pixels = λ o k i. inl (ap (is_in k) (sym (looks o)) ∙ i); part = inl past_part; image = inl past_image }
+  where
+    past_part : (x : Option PartValue) (o : Option Object) → set_part x (with_framebuffer h o) ≡ with_framebuffer h (set_part x o)
+    past_part x (Some (Context c)) = refl
+    past_part x (Some (Framebuffer g)) = refl
+    past_part x o = refl
+
+    past_image : (y : Option ImageValue) (o : Option Object) → set_image y (with_framebuffer h o) ≡ with_framebuffer h (set_image y o)
+    past_image y (Some (Storage v)) = refl
+    past_image y (Some (Framebuffer g)) = refl
+    past_image y o = refl
+
+    looks : (o : Option Object) → pixels_in (with_framebuffer h o) ≡ pixels_in o
+    looks (Some (Framebuffer x)) = refl
+    looks o = refl
+
+    leads : (o : Option Object) → Leads sh (slots_in o) → Leads sh (slots_in (with_framebuffer h o))
+    leads (Some (Framebuffer x)) i = l x i
+    leads o i = i
+
+-- what is attached is of the kind that its attachment tells
+GoesAttached : List (Option Shape) → Option Attached → Type 0
+GoesAttached sh a = Goes sh (attached_kind a) (framebuffers_of.object_of a)
+
+leads-point : (sh : List (Option Shape)) (point : Point) (a : Option Attached) → GoesAttached sh a → (x : FramebufferValue) → Leads sh (slots_of (Framebuffer x)) → Leads sh (slots_of (Framebuffer (with_point point a x)))
+unfolding GoesAttached
+leads-point sh Color a g x l = (g, l.1)
+leads-point sh Depth a g x l = (l.0, (g, l.1.1))
+leads-point sh Stencil a g x l = (l.0, (l.1.0, (g, tt)))
+
+leads-detached_at : (sh : List (Option Shape)) (point : Point) (n : ℕ) (x : FramebufferValue) → Leads sh (slots_of (Framebuffer x)) → Leads sh (slots_of (Framebuffer (detached_at point n x)))
+unfolding GoesAttached
+leads-detached_at sh point n x l = cond_both (is_place n (framebuffers_of.object_of (at_point point x))) (with_point point None x) x (λ (y : FramebufferValue). Leads sh (slots_of (Framebuffer y)))
+    (λ e. leads-point sh point None tt x l) (λ e. l)
+
+leads-detached : (sh : List (Option Shape)) (n : ℕ) (x : FramebufferValue) → Leads sh (slots_of (Framebuffer x)) → Leads sh (slots_of (Framebuffer (detached_from n x)))
+leads-detached sh n x l = leads-detached_at sh Stencil n _ (leads-detached_at sh Depth n _ (leads-detached_at sh Color n x l))
+
+pub suits-detached : (t : ℕ) (sh : List (Option Shape)) (s : State) (b n : ℕ) → Suits t sh s b (with_framebuffer (detached_from n))
+suits-detached t sh s b n = suits-framebuffer t sh s b (detached_from n) (leads-detached sh n)
+
+pub suits-point : (t : ℕ) (sh : List (Option Shape)) (s : State) (b : ℕ) (point : Point) (a : Option Attached) → Goes sh (attached_kind a) (framebuffers_of.object_of a) → Suits t sh s b (with_framebuffer (with_point point a))
+unfolding GoesAttached
+suits-point t sh s b point a g = suits-framebuffer t sh s b (with_point point a) (leads-point sh point a g)
 
 -- ---- A texture.
 pub setter-texture : (h : BackedTexture → BackedTexture) → Setter (with_texture h)

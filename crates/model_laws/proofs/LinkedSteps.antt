@@ -10,7 +10,7 @@ use Rattle.context_state.specs.Parts.{PartValue}
 use Rattle.driver_objects.specs.Storages.{StorageValue}
 use Rattle.driver_objects.specs.declared.contexts.Context.{Context as ContextObject}
 use Rattle.driver_objects.specs.declared.objects.Object.{Object}
-use Rattle.driver_objects.specs.declared.objects.Object.TheVariants.{Context, Group, Texture, Buffer, Renderbuffer, Surface, Storage, Sync}
+use Rattle.driver_objects.specs.declared.objects.Object.TheVariants.{Context, Group, Texture, Buffer, Renderbuffer, Framebuffer, Surface, Storage, Image, Sync}
 use Rattle.display_table.specs.declared.handles.Handle.{Handle}
 use Rattle.egl_model.specs.declared.records.ThreadRecord.{ThreadRecord}
 use Rattle.egl_model.specs.Graph.{is_in}
@@ -49,29 +49,31 @@ same_links-set f k n os = record {
 
 -- g tells no kind of object from what f makes of it
 pub by_kinds : {A : Type 0} (g : Option Object → A) (f : Option Object → Option Object) → g (f None) ≡ g None → ((c : ContextObject) → g (f (Some (Context c))) ≡ g (Some (Context c))) →
-    ((x : _) → g (f (Some (Group x))) ≡ g (Some (Group x))) → ((x : _) → g (f (Some (Texture x))) ≡ g (Some (Texture x))) → ((x : _) → g (f (Some (Buffer x))) ≡ g (Some (Buffer x))) → ((x : _) → g (f (Some (Renderbuffer x))) ≡ g (Some (Renderbuffer x))) → ((x : _) → g (f (Some (Surface x))) ≡ g (Some (Surface x))) → ((x : _) → g (f (Some (Storage x))) ≡ g (Some (Storage x))) → ((x : _) → g (f (Some (Sync x))) ≡ g (Some (Sync x))) → (o : Option Object) → g (f o) ≡ g o
-by_kinds g f a b c d m r e h i None = a
-by_kinds g f a b c d m r e h i (Some (Context x)) = b x
-by_kinds g f a b c d m r e h i (Some (Group x)) = c x
-by_kinds g f a b c d m r e h i (Some (Texture x)) = d x
-by_kinds g f a b c d m r e h i (Some (Buffer x)) = m x
-by_kinds g f a b c d m r e h i (Some (Renderbuffer x)) = r x
-by_kinds g f a b c d m r e h i (Some (Surface x)) = e x
-by_kinds g f a b c d m r e h i (Some (Storage x)) = h x
-by_kinds g f a b c d m r e h i (Some (Sync x)) = i x
+    ((x : _) → g (f (Some (Group x))) ≡ g (Some (Group x))) → ((x : _) → g (f (Some (Texture x))) ≡ g (Some (Texture x))) → ((x : _) → g (f (Some (Buffer x))) ≡ g (Some (Buffer x))) → ((x : _) → g (f (Some (Renderbuffer x))) ≡ g (Some (Renderbuffer x))) → ((x : _) → g (f (Some (Framebuffer x))) ≡ g (Some (Framebuffer x))) → ((x : _) → g (f (Some (Surface x))) ≡ g (Some (Surface x))) → ((x : _) → g (f (Some (Storage x))) ≡ g (Some (Storage x))) → ((x : _) → g (f (Some (Image x))) ≡ g (Some (Image x))) → ((x : _) → g (f (Some (Sync x))) ≡ g (Some (Sync x))) → (o : Option Object) → g (f o) ≡ g o
+by_kinds g f a b c d m r p e h q i None = a
+by_kinds g f a b c d m r p e h q i (Some (Context x)) = b x
+by_kinds g f a b c d m r p e h q i (Some (Group x)) = c x
+by_kinds g f a b c d m r p e h q i (Some (Texture x)) = d x
+by_kinds g f a b c d m r p e h q i (Some (Buffer x)) = m x
+by_kinds g f a b c d m r p e h q i (Some (Renderbuffer x)) = r x
+by_kinds g f a b c d m r p e h q i (Some (Framebuffer x)) = p x
+by_kinds g f a b c d m r p e h q i (Some (Surface x)) = e x
+by_kinds g f a b c d m r p e h q i (Some (Storage x)) = h x
+by_kinds g f a b c d m r p e h q i (Some (Image x)) = q x
+by_kinds g f a b c d m r p e h q i (Some (Sync x)) = i x
 
 keeps-with_part : (f : PartValue → PartValue) → Keeps (with_part f)
 keeps-with_part f = record {
-  exist = by_kinds is_some (with_part f) refl (λ c. refl) (λ g. refl) (λ y. refl) (λ b. refl) (λ r. refl) (λ x. refl) (λ x. refl) (λ x. refl);
-  edges = by_kinds edges_in (with_part f) refl (λ c. refl) (λ g. refl) (λ y. refl) (λ b. refl) (λ r. refl) (λ x. refl) (λ x. refl) (λ x. refl);
-  ranks = by_kinds rank_in (with_part f) refl (λ c. refl) (λ g. refl) (λ y. refl) (λ b. refl) (λ r. refl) (λ x. refl) (λ x. refl) (λ x. refl);
+  exist = by_kinds is_some (with_part f) refl (λ c. refl) (λ g. refl) (λ y. refl) (λ b. refl) (λ r. refl) (λ x. refl) (λ x. refl) (λ x. refl) (λ x. refl) (λ x. refl);
+  edges = by_kinds edges_in (with_part f) refl (λ c. refl) (λ g. refl) (λ y. refl) (λ b. refl) (λ r. refl) (λ x. refl) (λ x. refl) (λ x. refl) (λ x. refl) (λ x. refl);
+  ranks = by_kinds rank_in (with_part f) refl (λ c. refl) (λ g. refl) (λ y. refl) (λ b. refl) (λ r. refl) (λ x. refl) (λ x. refl) (λ x. refl) (λ x. refl) (λ x. refl);
 }
 
 keeps-with_storage : (f : StorageValue → StorageValue) → Keeps (with_storage f)
 keeps-with_storage f = record {
-  exist = by_kinds is_some (with_storage f) refl (λ c. refl) (λ g. refl) (λ y. refl) (λ b. refl) (λ r. refl) (λ x. refl) (λ x. refl) (λ x. refl);
-  edges = by_kinds edges_in (with_storage f) refl (λ c. refl) (λ g. refl) (λ y. refl) (λ b. refl) (λ r. refl) (λ x. refl) (λ x. refl) (λ x. refl);
-  ranks = by_kinds rank_in (with_storage f) refl (λ c. refl) (λ g. refl) (λ y. refl) (λ b. refl) (λ r. refl) (λ x. refl) (λ x. refl) (λ x. refl);
+  exist = by_kinds is_some (with_storage f) refl (λ c. refl) (λ g. refl) (λ y. refl) (λ b. refl) (λ r. refl) (λ x. refl) (λ x. refl) (λ x. refl) (λ x. refl) (λ x. refl);
+  edges = by_kinds edges_in (with_storage f) refl (λ c. refl) (λ g. refl) (λ y. refl) (λ b. refl) (λ r. refl) (λ x. refl) (λ x. refl) (λ x. refl) (λ x. refl) (λ x. refl);
+  ranks = by_kinds rank_in (with_storage f) refl (λ c. refl) (λ g. refl) (λ y. refl) (λ b. refl) (λ r. refl) (λ x. refl) (λ x. refl) (λ x. refl) (λ x. refl) (λ x. refl);
 }
 
 pub same_links-part : (f : PartValue → PartValue) (n : ℕ) (os : List (Option Object)) → SameLinks os (change_part f n os)

@@ -1,5 +1,6 @@
 -- A local call changes the thread's own alone, and its reply is told by the part.
 use Rattle.std.proofs.Common.{◌≡◌, ℕ, ℤ, pos, Bool, true, false, cond, ◌||◌, ◌&&◌, List, [], refl, sym, ap, ◌∙◌, get_or, set, Option, None, Some, is_some}
+use Rattle.std.specs.Prelude.{◌==◌, not, unwrap_or}
 use Rattle.std.specs.Option.{option_and_then, option_map, option_map_or}
 use Rattle.std.proofs.lemmas.Bool.{eqb-true}
 use Rattle.std.proofs.lemmas.List.{ext_get_or, set-get_or}
@@ -9,7 +10,7 @@ use Rattle.egl_calls.specs.declared.kinds.Kind.TheVariants.{Egl, Gl, Own as OwnC
 use Rattle.egl_calls.specs.declared.kinds.EglKind.{EglKind}
 use Rattle.egl_calls.specs.declared.kinds.EglKind.TheVariants.{GetError as EglGetError, GetDisplay, GetCurrentContext, BindApi, QueryApi, GetCurrentSurface, GetCurrentDisplay}
 use Rattle.egl_calls.specs.declared.kinds.GlKind.{GlKind}
-use Rattle.egl_calls.specs.declared.kinds.GlKind.TheVariants.{Clear, ReadPixels, DrawTexi, DrawTexx, TexImage2d, TexSubImage2d, CopyTexImage2d, CopyTexSubImage2d, BufferData, BufferSubData, GetBufferParameteriv, RenderbufferStorage, GetRenderbufferParameteriv}
+use Rattle.egl_calls.specs.declared.kinds.GlKind.TheVariants.{Clear, ReadPixels, DrawTexi, DrawTexx, TexImage2d, TexSubImage2d, CopyTexImage2d, CopyTexSubImage2d, BufferData, BufferSubData, GetBufferParameteriv, RenderbufferStorage, GetRenderbufferParameteriv, FramebufferTexture2d, FramebufferRenderbuffer, GetFramebufferAttachmentParameteriv, ImageTargetTexture2d, ImageTargetRenderbufferStorage}
 use Rattle.egl_calls.specs.declared.errors.EglError.{EglError}
 use Rattle.egl_calls.specs.declared.errors.EglError.TheVariants.{Success}
 use Rattle.egl_calls.specs.declared.errors.GlError.{GlError}
@@ -27,6 +28,9 @@ use Rattle.driver_objects.specs.declared.objects.Object.TheVariants.{Context, St
 use Rattle.egl_model.specs.State.{State, initial, object_at, record_of, set_error}
 use Rattle.egl_model.specs.Objects.{as_storage, change_part, change_storage, storage_in, with_part, with_storage}
 use Rattle.egl_model.specs.Currents.{current_context, draw_storage, part_of_context, read_storage}
+use Rattle.egl_model.specs.Framebuffers.{BoundFramebuffer, bound_framebuffer, framebuffer_name, framebuffer_of, is_complete, object_framebuffer, window_framebuffer, window_status}
+use Rattle.framebuffer_objects.specs.Framebuffers.{fresh}
+use Rattle.egl_names.specs.declared.codes.TheConstants.{GL_FRAMEBUFFER_COMPLETE_OES}
 use Rattle.egl_model.specs.Drawing.{clear_storage, clears_colour, read_form, read_pixels, read_rect, rows_of}
 use Rattle.egl_model.specs.Sweep.{is_reached, roots, swept, sweep}
 use Rattle.model_laws.specs.Laws.{HasNoLitter}
@@ -197,28 +201,48 @@ image_read : (os : List (Option Object)) (a b : Option ℕ) (same : Bool) → ar
 image_read os a b true h = ap (λ (p : Option ℕ). at_place image_in p os) (same_place a b h)
 image_read os a b false h = refl
 
-read_pixels-local : (s : State) (t n : ℕ) (q : PartValue) (c : CallValue) → part_of_context s n ≡ Some q → read_pixels s t n c ≡ read_locally (part_of s t) q c
-read_pixels-local s t n q c e =
-    ap (λ (p : Option PartValue). rows_of c (option_map_or (λ y. y.pack_alignment) p 4) (option_and_then (storage_in s.objects) (read_storage s t))) e
+-- ---- What is bound is the framebuffer of the window system.
+unbound_name : (q : PartValue) → is_unbound (Some q) ≡ true → (q.bound.framebuffer == 0) ≡ true
+unbound_name q h = by (q.bound.framebuffer == 0) h
+  where
+    by : (b : Bool) → cond (not b) false true ≡ true → b ≡ true
+    by true h = refl
+    by false h = not_local h
+
+bound-local : (s : State) (t n : ℕ) (q : PartValue) → current_context s t ≡ Some n → part_of_context s n ≡ Some q → is_unbound (Some q) ≡ true → bound_framebuffer s t ≡ window_framebuffer s t
+bound-local s t n q h e u =
+    ap (λ (m : ℕ). cond (m == 0) (window_framebuffer s t) (object_framebuffer s.objects (unwrap_or (option_and_then (framebuffer_of s) (current_context s t)) fresh)))
+    (ap (λ o. framebuffer_name (option_and_then (part_of_context s) o)) h ∙ ap framebuffer_name e)
+    ∙ ap (λ b. cond b (window_framebuffer s t) (object_framebuffer s.objects (unwrap_or (option_and_then (framebuffer_of s) (current_context s t)) fresh))) (unbound_name q u)
+
+window_complete : (o : Option ℕ) → (window_status o == GL_FRAMEBUFFER_COMPLETE_OES) ≡ is_some o
+window_complete None = refl
+window_complete (Some k) = refl
+
+read_pixels-local : (s : State) (t n : ℕ) (q : PartValue) (c : CallValue) → current_context s t ≡ Some n → part_of_context s n ≡ Some q → is_unbound (Some q) ≡ true → read_pixels s t n c ≡ read_locally (part_of s t) q c
+read_pixels-local s t n q c h e u =
+    ap (λ (b : BoundFramebuffer). rows_of c (option_map_or (λ y. y.pack_alignment) (part_of_context s n) 4) (option_and_then (storage_in s.objects) b.read)) (bound-local s t n q h e u)
+    ∙ ap (λ (p : Option PartValue). rows_of c (option_map_or (λ y. y.pack_alignment) p 4) (option_and_then (storage_in s.objects) (read_storage s t))) e
     ∙ rows_there s.objects c q.pack_alignment (read_storage s t)
     ∙ ap (λ i. option_map_or (λ i. row_bytes i (read_rect c) (read_form c) q.pack_alignment) i []) (image_read s.objects (draw_storage s t) (read_storage s t) (are_same (draw_storage s t) (read_storage s t)) refl)
 
 -- a case for each other local call of OpenGL ES
-object_effect-local : (s : State) (t n : ℕ) (q : PartValue) (c : CallValue) (k : GlKind) → part_of_context s n ≡ Some q → (is_local_unbound k && is_unbound (Some q)) ≡ true →
+object_effect-local : (s : State) (t n : ℕ) (q : PartValue) (c : CallValue) (k : GlKind) → current_context s t ≡ Some n → part_of_context s n ≡ Some q → (is_local_unbound k && is_unbound (Some q)) ≡ true →
     object_effect s t n k c ≡ as_effect s t (object_locally (part_of s t) q k c)
-object_effect-local s t n q c Clear e m = ap (valued (pos 0))
-    (ap (λ o. cond (clears_colour c) (clear_storage o (draw_storage s t) s) s) e
+object_effect-local s t n q c Clear h e m = ap (valued (pos 0))
+    (ap (λ (b : BoundFramebuffer). cond (clears_colour c) (clear_storage (part_of_context s n) b.draw s) s) (bound-local s t n q h e m)
+    ∙ ap (λ o. cond (clears_colour c) (clear_storage o (draw_storage s t) s) s) e
     ∙ either_put s t (clears_colour c) (clear_storage (Some q) (draw_storage s t) s) (record (own_of s t) { draw = option_map (cleared_image q) (own_of s t).draw }) (cleared-local s t q (draw_storage s t) refl))
-object_effect-local s t n q c ReadPixels e m = read_effect _ _ _ _ (read_pixels-local s t n q c e) (sym (put-own_of s t))
+object_effect-local s t n q c ReadPixels h e m = read_effect _ _ _ _ (read_pixels-local s t n q c h e m) (sym (put-own_of s t))
   where
     read_effect : (b d : List ℕ) (x y : State) → b ≡ d → x ≡ y → reads b x ≡ reads d y
     read_effect b d x y e f = ap (λ z. reads z x) e ∙ ap (reads d) f
-object_effect-local s t n q c k e m = not_local m
+object_effect-local s t n q c k h e m = not_local m
 
 effect_by-local : (o : Option ContextCall) (s : State) (t n : ℕ) (q : PartValue) (c : CallValue) (k : GlKind) → current_context s t ≡ Some n → part_of_context s n ≡ Some q → (is_some o || (is_local_unbound k && is_unbound (Some q))) ≡ true →
     effect_by o s t n k c ≡ as_effect s t (locally_by o (part_of s t) q k c)
 effect_by-local (Some own) s t n q c k h e m = same_valued _ _ _ _ (ap (λ x. local_value x c) e) (part_as_put s t n (λ p. (apply c p).part) q h e)
-effect_by-local None s t n q c k h e m = object_effect-local s t n q c k e m
+effect_by-local None s t n q c k h e m = object_effect-local s t n q c k h e m
 
 gl_effect-local : (s : State) (t n : ℕ) (q : PartValue) (c : CallValue) (k : GlKind) → current_context s t ≡ Some n → part_of_context s n ≡ Some q → (is_local_gl k || (is_local_unbound k && is_unbound (Some q))) ≡ true →
     gl_effect s t n k c ≡ as_effect s t (gl_locally (part_of s t) q k c)
@@ -234,28 +258,37 @@ pub record HasOwn (s : State) (t : ℕ) : Type 0 where
   pub part : is_some (own_of s t).context ≡ is_some (current_context s t)
   pub image : is_some (own_of s t).draw ≡ is_some (draw_storage s t)
 
+-- glClear and glReadPixels where the framebuffer of the window system is bound
+complete-local : (s : State) (t n : ℕ) (q : PartValue) → HasOwn s t → current_context s t ≡ Some n → part_of_context s n ≡ Some q → is_unbound (Some q) ≡ true → is_complete (bound_framebuffer s t) ≡ is_some (own_of s t).draw
+complete-local s t n q o h e u = ap is_complete (bound-local s t n q h e u) ∙ window_complete (draw_storage s t) ∙ sym o.image
+
 -- a call whose facts look at objects isn't local
-local_gl_refusal : (s : State) (t n : ℕ) (c : CallValue) (k : GlKind) (b : Bool) → HasOwn s t → (is_local_gl k || (is_local_unbound k && b)) ≡ true → gl_refusal s t n k c ≡ gl_rules.gl_refusal c (facts_locally (part_of s t) k)
+local_gl_refusal : (s : State) (t n : ℕ) (q : PartValue) (c : CallValue) (k : GlKind) → HasOwn s t → current_context s t ≡ Some n → part_of_context s n ≡ Some q → (is_local_gl k || (is_local_unbound k && is_unbound (Some q))) ≡ true → gl_refusal s t n k c ≡ gl_rules.gl_refusal c (facts_locally (part_of s t) k)
 unfolding gl_refusal
-local_gl_refusal s t n c Clear b o m = ap (λ z. gl_rules.gl_refusal c (framebuffer_facts z)) (sym o.image)
-local_gl_refusal s t n c ReadPixels b o m = ap (λ z. gl_rules.gl_refusal c (framebuffer_facts z)) (sym o.image)
-local_gl_refusal s t n c DrawTexi b o m = not_local m
-local_gl_refusal s t n c DrawTexx b o m = not_local m
-local_gl_refusal s t n c TexImage2d b o m = not_local m
-local_gl_refusal s t n c TexSubImage2d b o m = not_local m
-local_gl_refusal s t n c CopyTexImage2d b o m = not_local m
-local_gl_refusal s t n c CopyTexSubImage2d b o m = not_local m
-local_gl_refusal s t n c BufferData b o m = not_local m
-local_gl_refusal s t n c BufferSubData b o m = not_local m
-local_gl_refusal s t n c GetBufferParameteriv b o m = not_local m
-local_gl_refusal s t n c RenderbufferStorage b o m = not_local m
-local_gl_refusal s t n c GetRenderbufferParameteriv b o m = not_local m
-local_gl_refusal s t n c k b o m = refl
+local_gl_refusal s t n q c Clear o h e m = ap (λ z. gl_rules.gl_refusal c (framebuffer_facts z)) (complete-local s t n q o h e m)
+local_gl_refusal s t n q c ReadPixels o h e m = ap (λ z. gl_rules.gl_refusal c (framebuffer_facts z)) (complete-local s t n q o h e m)
+local_gl_refusal s t n q c DrawTexi o h e m = not_local m
+local_gl_refusal s t n q c DrawTexx o h e m = not_local m
+local_gl_refusal s t n q c TexImage2d o h e m = not_local m
+local_gl_refusal s t n q c TexSubImage2d o h e m = not_local m
+local_gl_refusal s t n q c CopyTexImage2d o h e m = not_local m
+local_gl_refusal s t n q c CopyTexSubImage2d o h e m = not_local m
+local_gl_refusal s t n q c BufferData o h e m = not_local m
+local_gl_refusal s t n q c BufferSubData o h e m = not_local m
+local_gl_refusal s t n q c GetBufferParameteriv o h e m = not_local m
+local_gl_refusal s t n q c RenderbufferStorage o h e m = not_local m
+local_gl_refusal s t n q c GetRenderbufferParameteriv o h e m = not_local m
+local_gl_refusal s t n q c FramebufferTexture2d o h e m = not_local m
+local_gl_refusal s t n q c FramebufferRenderbuffer o h e m = not_local m
+local_gl_refusal s t n q c GetFramebufferAttachmentParameteriv o h e m = not_local m
+local_gl_refusal s t n q c ImageTargetTexture2d o h e m = not_local m
+local_gl_refusal s t n q c ImageTargetRenderbufferStorage o h e m = not_local m
+local_gl_refusal s t n q c k o h e m = refl
 
 by_part : (s : State) (t n : ℕ) (c : CallValue) (k : GlKind) (x : Option PartValue) → IsSound s → HasOwn s t → current_context s t ≡ Some n → part_of_context s n ≡ x → is_some x ≡ true → (is_local_gl k || (is_local_unbound k && is_unbound x)) ≡ true →
     gl_step_on s t (Some n) k c ≡ as_step s t (gl_with (part_of s t) x k c)
 by_part s t n c k None l o h i j m = not_local j
-by_part s t n c k (Some q) l o h i j m = ap (λ e. after_gl_rules s n e (gl_effect s t n k c)) (local_gl_refusal s t n c k (is_unbound (Some q)) o m)
+by_part s t n c k (Some q) l o h i j m = ap (λ e. after_gl_rules s n e (gl_effect s t n k c)) (local_gl_refusal s t n q c k o h i m)
     ∙ by_gl_refusal s t n q c k (gl_rules.gl_refusal c (facts_locally (part_of s t) k)) l h i m
 
 by_current : (s : State) (t : ℕ) (c : CallValue) (k : GlKind) (o : Option ℕ) → IsSound s → HasOwn s t → current_context s t ≡ o → is_some (own_of s t).context ≡ is_some o → is_local_kind (part_of s t) (Gl k) ≡ true →

@@ -1,19 +1,20 @@
 -- What the calls on names keep: to generate, to bind and to delete them, of any kind.
 use Rattle.std.proofs.Common.{◌≡◌, ℕ, ◌==◌, ℤ, List, [], ◌∷◌, ◌++◌, refl, ap, arith, length, Option, None, Some}
-use Rattle.std.specs.Option.{option_map, option_map_or}
+use Rattle.std.specs.Option.{option_and_then, option_map, option_map_or}
 use Rattle.egl_calls.specs.Ranges.{unsigned}
 use Rattle.driver_objects.specs.Objects.{kind_of}
 use Rattle.driver_objects.specs.Targets.{binding_of, name_kind, slot_of}
 use Rattle.driver_objects.specs.declared.targets.BindTarget.{BindTarget}
-use Rattle.driver_objects.specs.declared.targets.BindTarget.TheVariants.{Texture as TextureTarget, ArrayBuffer, ElementArrayBuffer, Renderbuffer as RenderbufferTarget}
+use Rattle.driver_objects.specs.declared.targets.BindTarget.TheVariants.{Texture as TextureTarget, ArrayBuffer, ElementArrayBuffer, Renderbuffer as RenderbufferTarget, Framebuffer as FramebufferTarget}
+use Rattle.driver_objects.specs.declared.objects.Object.{Object}
 use Rattle.driver_objects.specs.declared.objects.Object.TheVariants.{Context, Storage}
 use Rattle.share_group.specs.Groups.{names_of}
 use Rattle.share_group.specs.Names.{object_of}
 use Rattle.share_group.specs.declared.names.NameKind.{NameKind}
-use Rattle.egl_model.specs.Bindings.{bound_anew, bound_at, bound_name, bound_named, bound_object, deleted_in, deleted_name, deleted_names, freed, named_at, new_object, unbound_object}
+use Rattle.egl_model.specs.Bindings.{bound_anew, bound_at, bound_framebuffer_in, bound_name, bound_named, bound_object, deleted_in, deleted_name, deleted_names, detached_from, detached_on, freed, named_at, new_object, unbound_object}
 use Rattle.egl_model.specs.Currents.{current_context}
 use Rattle.egl_model.specs.Names.{generated, group_of, kind_named, names_in, object_named, with_more, with_name_of}
-use Rattle.egl_model.specs.Objects.{as_group, change_context, change_group, with_context, with_group}
+use Rattle.egl_model.specs.Objects.{as_group, change_context, change_framebuffer, change_group, with_context, with_framebuffer, with_group}
 use Rattle.egl_model.specs.State.{State, object_at}
 use Rattle.egl_model.specs.Sweep.{live_bytes}
 use Rattle.model_laws.specs.Extents.{quiet}
@@ -22,7 +23,7 @@ use Rattle.model_laws.specs.Shapes.{Goes, Leads, Shape, shapes, slots_in}
 use Rattle.model_laws.specs.Sound.{IsWhole}
 use Rattle.model_laws.proofs.Blinds.{alone_with, blind-context, blind-length, blind-object}
 use Rattle.model_laws.proofs.Keeps.{Acts, Blind, acts_cond, acts_of, acts_self, acts_then, by_quiet_moves}
-use Rattle.model_laws.proofs.LinkSetters.{goes_name, setter-bound, setter-group, setter-named, setter-unbound, suits-bound, suits-more, suits-name, suits-named, suits-unbound}
+use Rattle.model_laws.proofs.LinkSetters.{goes_name, setter-bound, setter-framebuffer, setter-group, setter-named, setter-unbound, suits-bound, suits-detached, suits-more, suits-name, suits-named, suits-unbound}
 use Rattle.model_laws.proofs.Moves.{Add, Change, IsStored}
 use Rattle.model_laws.proofs.NewObjects.{leads-new_texture, stored-new_texture, without_pixels}
 use Rattle.model_laws.proofs.Places.{new_kind}
@@ -57,12 +58,14 @@ kind-new TextureTarget = refl
 kind-new ArrayBuffer = refl
 kind-new ElementArrayBuffer = refl
 kind-new RenderbufferTarget = refl
+kind-new FramebufferTarget = refl
 
 full-new : (b : BindTarget) → Full (Some (new_object b))
 full-new TextureTarget = tt
 full-new ArrayBuffer = tt
 full-new ElementArrayBuffer = tt
 full-new RenderbufferTarget = tt
+full-new FramebufferTarget = tt
 
 bytes-new : (b : BindTarget) → live_bytes (Some (new_object b) ∷ []) ≡ 0
 unfolding live_bytes
@@ -70,18 +73,21 @@ bytes-new TextureTarget = refl
 bytes-new ArrayBuffer = refl
 bytes-new ElementArrayBuffer = refl
 bytes-new RenderbufferTarget = refl
+bytes-new FramebufferTarget = refl
 
 leads-new : (sh : List (Option Shape)) (b : BindTarget) → Leads sh (slots_in (Some (new_object b)))
 leads-new sh TextureTarget = leads-new_texture sh
 leads-new sh ArrayBuffer = tt
 leads-new sh ElementArrayBuffer = tt
 leads-new sh RenderbufferTarget = (tt, tt)
+leads-new sh FramebufferTarget = (tt, (tt, (tt, tt)))
 
 stored-new : (sh : List (Option Shape)) (place : ℕ) (b : BindTarget) → IsStored sh place (Some (new_object b))
 stored-new sh place TextureTarget = stored-new_texture sh place
 stored-new sh place ArrayBuffer = without_pixels sh place _ refl refl
 stored-new sh place ElementArrayBuffer = without_pixels sh place _ refl refl
 stored-new sh place RenderbufferTarget = without_pixels sh place _ refl refl
+stored-new sh place FramebufferTarget = without_pixels sh place _ refl refl
 
 -- ---- glBindTexture and its kin.
 acts-bound : (s : State) (t n : ℕ) (b : BindTarget) (o : Option ℕ) (name : ℕ) → current_context s t ≡ Some n → (IsWhole (shapes s.objects) s → Goes (shapes s.objects) (kind_named (name_kind b)) o) → Acts quiet t s (λ a. record a { objects = bound_object b n o name a.objects })
@@ -115,11 +121,24 @@ acts-bound_name s t n b name i = acts_cond quiet t s (name == 0) (λ a. record a
     (acts-named s t g n b name (object_named s g k name) i (λ w. goes_name (shapes s.objects) (object_at s g) k name (w.kinds.objects g)))))
 
 -- ---- glDeleteTextures and its kin.
+blind-bound_in : (t n : ℕ) (s : State) → Blind t s (λ a. bound_framebuffer_in n a.objects)
+blind-bound_in t n s = blind-context (λ o. option_and_then (λ x. x.bound.framebuffer) o) (λ x p. refl) t n s
+
+-- an object is detached from a framebuffer, unbound from a context, and its name is freed
+abbrev let_go : NameKind → ℕ → ℕ → ℕ → ℕ → Option ℕ → List (Option Object) → List (Option Object)
+let_go k g n name x b os = change_group (with_name_of k name None) g (change_context (unbound_object k x) n (detached_on b x os))
+
+acts-let_go : (s : State) (t g n : ℕ) (k : NameKind) (name x : ℕ) (b : Option ℕ) → current_context s t ≡ Some n → Acts quiet t s (λ a. record a { objects = let_go k g n name x b a.objects })
+unfolding change_context change_framebuffer change_group
+acts-let_go s t g n k name x None i = by_quiet_moves t s (Change n (with_context (unbound_object k x)) ∷ Change g (with_group (with_name_of k name None)) ∷ []) refl (setter-unbound k x, (setter-group _, tt))
+    (λ w. (suits-unbound t (shapes s.objects) s n k x (alone_with s t n i w), λ v. (suits-name t (shapes s.objects) _ g k name None tt, tt)))
+acts-let_go s t g n k name x (Some b) i = by_quiet_moves t s (Change b (with_framebuffer (detached_from x)) ∷ Change n (with_context (unbound_object k x)) ∷ Change g (with_group (with_name_of k name None)) ∷ []) refl (setter-framebuffer (detached_from x), (setter-unbound k x, (setter-group _, tt)))
+    (λ w. (suits-detached t (shapes s.objects) s b x, λ u. (suits-unbound t (shapes s.objects) _ n k x (alone_with s t n i w), λ v. (suits-name t (shapes s.objects) _ g k name None tt, tt))))
+
 acts-freed : (s : State) (t g n : ℕ) (k : NameKind) (name : ℕ) (o : Option ℕ) → current_context s t ≡ Some n → Acts quiet t s (λ a. record a { objects = freed k g n name o a.objects })
 unfolding change_context change_group
 acts-freed s t g n k name None i = by_quiet_moves t s (Change g (with_group (with_name_of k name None)) ∷ []) refl (setter-group _, tt) (λ w. (suits-name t (shapes s.objects) s g k name None tt, tt))
-acts-freed s t g n k name (Some x) i = by_quiet_moves t s (Change n (with_context (unbound_object k x)) ∷ Change g (with_group (with_name_of k name None)) ∷ []) refl (setter-unbound k x, (setter-group _, tt))
-    (λ w. (suits-unbound t (shapes s.objects) s n k x (alone_with s t n i w), λ v. (suits-name t (shapes s.objects) _ g k name None tt, tt)))
+acts-freed s t g n k name (Some x) i = acts_of quiet t s (λ a. bound_framebuffer_in n a.objects) (λ b a. record a { objects = let_go k g n name x b a.objects }) (blind-bound_in t n s) (acts-let_go s t g n k name x (bound_framebuffer_in n s.objects) i)
 
 acts-deleted : (s : State) (t g n : ℕ) (k : NameKind) (name : ℕ) → current_context s t ≡ Some n → Acts quiet t s (λ a. deleted_name k g n name a)
 acts-deleted s t g n k name i = acts_of quiet t s (λ a. object_named a g k name) (λ o a. record a { objects = freed k g n name o a.objects }) (blind-named t g k name s) (acts-freed s t g n k name (object_named s g k name) i)

@@ -3,25 +3,26 @@ use Rattle.std.proofs.Common.{◌≡◌, ℕ, zero, suc, ◌<◌, arith, ℤ, Bo
 use Rattle.std.specs.Prelude.{Contains}
 use Rattle.std.specs.List.{find}
 use Rattle.std.specs.Option.{option_map_or}
-use Rattle.std.proofs.lemmas.Bool.{cases_eq, cond_both, false≢true}
-use Rattle.std.proofs.lemmas.List.{get_or-set_other}
+use Rattle.std.proofs.lemmas.Bool.{cond_both, false≢true}
 use Rattle.egl_calls.specs.Calls.{CallValue}
 use Rattle.egl_calls.specs.Ranges.{unsigned}
-use Rattle.egl_calls.specs.declared.kinds.GlKind.TheVariants.{DeleteBuffers, DeleteRenderbuffers, DeleteTextures}
+use Rattle.egl_calls.specs.declared.kinds.GlKind.TheVariants.{DeleteBuffers, DeleteFramebuffers, DeleteRenderbuffers, DeleteTextures}
 use Rattle.driver_objects.specs.declared.objects.Object.{Object}
-use Rattle.driver_objects.specs.declared.objects.Object.TheVariants.{Context, Group}
+use Rattle.driver_objects.specs.declared.objects.Object.TheVariants.{Context, Framebuffer, Group}
+use Rattle.framebuffer_objects.specs.Framebuffers.{FramebufferValue}
 use Rattle.share_group.specs.Groups.{GroupValue, names_of, with_names}
 use Rattle.share_group.specs.Names.{is_of, is_used, without}
 use Rattle.share_group.specs.declared.names.Name.{Name}
 use Rattle.share_group.specs.declared.names.NameKind.{NameKind}
 use Rattle.share_group.specs.declared.names.NameKind.TheVariants.{Texture as textures, Buffer as buffers, Renderbuffer as renderbuffers, Framebuffer as framebuffers}
 use Rattle.model_laws.specs.Laws.{IsAllowedGl}
-use Rattle.egl_model.specs.Bindings.{deleted_in, deleted_name, deleted_names, unbound_in, unbound_object}
+use Rattle.egl_model.specs.Bindings.{bound_framebuffer_in, deleted_in, deleted_name, deleted_names, detached_from, detached_on, unbound_in, unbound_object}
 use Rattle.egl_model.specs.Names.{group_of, names_in, object_named, with_name_of}
-use Rattle.egl_model.specs.Objects.{as_group, change_context, change_group, with_context, with_group}
+use Rattle.egl_model.specs.Objects.{as_group, change_context, change_framebuffer, change_group, with_context, with_framebuffer, with_group}
 use Rattle.egl_model.specs.State.{State, object_at}
 use Rattle.egl_model.specs.Step.{Stepped, step}
 use Rattle.egl_model.specs.Sweep.{sweep, roots}
+use Rattle.model_laws.proofs.Places.{same_at_set}
 use Rattle.model_laws.proofs.TextureLaws.{allowed_gl, changed_at, swept_same}
 
 unused_without : (name y : ℕ) (xs : List Name) → is_used name xs ≡ false → is_used name (without y xs) ≡ false
@@ -63,13 +64,22 @@ unfolding names_at
 names_context k x (Some (Context c)) = refl
 names_context k x o = refl
 
+names_framebuffer : (k : NameKind) (f : FramebufferValue → FramebufferValue) (o : Option Object) → names_at k (with_framebuffer f o) ≡ names_at k o
+unfolding names_at
+names_framebuffer k f (Some (Framebuffer x)) = refl
+names_framebuffer k f o = refl
+
+names_detached : (k : NameKind) (b : Option ℕ) (x g : ℕ) (os : List (Option Object)) → names_at k (get_or (detached_on b x os) g None) ≡ names_at k (get_or os g None)
+unfolding change_framebuffer
+names_detached k None x g os = refl
+names_detached k (Some b) x g os = same_at_set (names_at k) os b (with_framebuffer (detached_from x) (get_or os b None)) None (names_framebuffer k (detached_from x) (get_or os b None)) g
+
 names_unbound : (k : NameKind) (n g : ℕ) (o : Option ℕ) (os : List (Option Object)) → names_at k (get_or (unbound_in k n o os) g None) ≡ names_at k (get_or os g None)
 unfolding change_context
 names_unbound k n g None os = refl
-names_unbound k n g (Some x) os = elim (cases_eq g n) [
-  | inl e ↦ rw e (ap (names_at k) (changed_at (with_context (unbound_object k x)) refl n os) ∙ names_context k x (get_or os n None))
-  | inr ne ↦ ap (names_at k) (get_or-set_other os n g (with_context (unbound_object k x) (get_or os n None)) None ne)
-]
+names_unbound k n g (Some x) os =
+    let ps = detached_on (bound_framebuffer_in n os) x os in
+    same_at_set (names_at k) ps n (with_context (unbound_object k x) (get_or ps n None)) None (names_context k x (get_or ps n None)) g ∙ names_detached k (bound_framebuffer_in n os) x g os
 
 pub names_deleted : (k : NameKind) (g n name : ℕ) (s : State) → names_at k (object_at (deleted_name k g n name s) g) ≡ without name (names_at k (object_at s g))
 unfolding change_group
@@ -106,3 +116,6 @@ deleted_buffer_is_free s t n c x h i = ap (λ (y : Stepped). is_used (unsigned x
 
 pub deleted_renderbuffer_is_free : (s : State) (t n : ℕ) (c : CallValue) (x : ℤ) → IsAllowedGl s t n DeleteRenderbuffers c → Contains c.list x → is_used (unsigned x) (names_in (step s t c).state (group_of s n) renderbuffers) ≡ false
 deleted_renderbuffer_is_free s t n c x h i = ap (λ (y : Stepped). is_used (unsigned x) (names_in y.state (group_of s n) renderbuffers)) (allowed_gl s t n DeleteRenderbuffers c h) ∙ free_after renderbuffers s n c.list x i
+
+pub deleted_framebuffer_is_free : (s : State) (t n : ℕ) (c : CallValue) (x : ℤ) → IsAllowedGl s t n DeleteFramebuffers c → Contains c.list x → is_used (unsigned x) (names_in (step s t c).state (group_of s n) framebuffers) ≡ false
+deleted_framebuffer_is_free s t n c x h i = ap (λ (y : Stepped). is_used (unsigned x) (names_in y.state (group_of s n) framebuffers)) (allowed_gl s t n DeleteFramebuffers c h) ∙ free_after framebuffers s n c.list x i

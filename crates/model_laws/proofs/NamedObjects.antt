@@ -5,7 +5,7 @@ use Rattle.driver_objects.specs.declared.contexts.Context.{Context as ContextObj
 use Rattle.driver_objects.specs.Objects.{filled}
 use Rattle.driver_objects.specs.declared.surfaces.BackedSurface.{BackedSurface}
 use Rattle.driver_objects.specs.declared.objects.Object.{Object}
-use Rattle.driver_objects.specs.declared.objects.Object.TheVariants.{Context, Group, Texture, Buffer, Renderbuffer, Surface, Storage, Sync}
+use Rattle.driver_objects.specs.declared.objects.Object.TheVariants.{Context, Group, Texture, Buffer, Renderbuffer, Framebuffer, Surface, Storage, Image, Sync}
 use Rattle.display_table.specs.declared.handles.Handle.{Handle}
 use Rattle.egl_model.specs.declared.records.Bound.{Bound}
 use Rattle.egl_model.specs.Graph.{is_in}
@@ -67,8 +67,10 @@ group_in (Some (Group a)) x e = none_context x e
 group_in (Some (Texture a)) x e = none_context x e
 group_in (Some (Buffer a)) x e = none_context x e
 group_in (Some (Renderbuffer a)) x e = none_context x e
+group_in (Some (Framebuffer a)) x e = none_context x e
 group_in (Some (Surface a)) x e = none_context x e
 group_in (Some (Storage a)) x e = none_context x e
+group_in (Some (Image a)) x e = none_context x e
 group_in (Some (Sync a)) x e = none_context x e
 
 texture_in : (o : Option Object) (x : ContextObject) → as_context o ≡ Some x → is_in x.texture (edges_in o) ≡ true
@@ -79,8 +81,10 @@ texture_in (Some (Group a)) x e = none_context x e
 texture_in (Some (Texture a)) x e = none_context x e
 texture_in (Some (Buffer a)) x e = none_context x e
 texture_in (Some (Renderbuffer a)) x e = none_context x e
+texture_in (Some (Framebuffer a)) x e = none_context x e
 texture_in (Some (Surface a)) x e = none_context x e
 texture_in (Some (Storage a)) x e = none_context x e
+texture_in (Some (Image a)) x e = none_context x e
 texture_in (Some (Sync a)) x e = none_context x e
 
 storage_of : (o : Option Object) (x : BackedSurface) → as_surface o ≡ Some x → is_in x.storage (edges_in o) ≡ true
@@ -90,8 +94,10 @@ storage_of (Some (Group a)) x e = none_surface x e
 storage_of (Some (Texture a)) x e = none_surface x e
 storage_of (Some (Buffer a)) x e = none_surface x e
 storage_of (Some (Renderbuffer a)) x e = none_surface x e
+storage_of (Some (Framebuffer a)) x e = none_surface x e
 storage_of (Some (Surface a)) x e = at_head x.storage a.storage [] (ap (λ (c : BackedSurface). c.storage) (some_surface a x e))
 storage_of (Some (Storage a)) x e = none_surface x e
+storage_of (Some (Image a)) x e = none_surface x e
 storage_of (Some (Sync a)) x e = none_surface x e
 
 pub names_exist : (s : State) → IsLinked s → NamesExist s

@@ -1,22 +1,23 @@
 -- A new handle names a new object of its kind.
 use Rattle.std.proofs.Common.{◌≡◌, ◌≢◌, ℕ, true, List, [], ◌∷◌, ◌++◌, refl, sym, ap, ◌∙◌, subst, arith, inl, inr, length, Bool, false, cond, ◌==◌, is_some, Option, None, Some, get_or, map}
 use Rattle.std.specs.Prelude.{pos}
-use Rattle.std.specs.Option.{option_map}
+use Rattle.std.specs.Option.{option_map, option_map_or}
 use Rattle.std.proofs.lemmas.List.{map-append}
 use Rattle.egl_calls.specs.Calls.{CallValue}
 use Rattle.egl_calls.specs.declared.kinds.Kind.{Kind}
 use Rattle.egl_calls.specs.declared.kinds.Kind.TheVariants.{Egl, Gl, Own}
 use Rattle.egl_calls.specs.declared.kinds.EglKind.{EglKind}
-use Rattle.egl_calls.specs.declared.kinds.EglKind.TheVariants.{CreateWindowSurface, CreatePbufferSurface, CreateContext, CreateSync}
+use Rattle.egl_calls.specs.declared.kinds.EglKind.TheVariants.{CreateWindowSurface, CreatePbufferSurface, CreateContext, CreateSync, CreateImage}
 use Rattle.egl_calls.specs.declared.errors.EglError.{EglError}
 use Rattle.egl_calls.specs.declared.errors.EglError.TheVariants.{Success}
 use Rattle.egl_calls.specs.declared.errors.Outcome.TheVariants.{Done, Waiting}
 use Rattle.egl_calls.specs.Arguments.{signed}
 use Rattle.driver_objects.specs.Objects.{kind_of}
 use Rattle.driver_objects.specs.declared.objects.Object.{Object}
+use Rattle.driver_objects.specs.declared.objects.Object.TheVariants.{Image}
 use Rattle.display_table.specs.declared.handles.Handle.{Handle}
 use Rattle.display_table.specs.declared.handles.HandleKind.{HandleKind}
-use Rattle.display_table.specs.declared.handles.HandleKind.TheVariants.{Context as a_context, Surface as a_surface, Sync as a_sync}
+use Rattle.display_table.specs.declared.handles.HandleKind.TheVariants.{Context as a_context, Surface as a_surface, Image as an_image, Sync as a_sync}
 use Rattle.egl_model.specs.Graph.{is_in}
 use Rattle.egl_model.specs.State.{State, record_of, set_error}
 use Rattle.egl_model.specs.Arguments.{number}
@@ -29,8 +30,9 @@ use Rattle.egl_model.specs.Effects.{Effect}
 use Rattle.egl_model.specs.EglEffects.{egl_effect}
 use Rattle.egl_model.specs.EglFacts.{egl_facts, egl_refusal}
 use Rattle.egl_model.specs.Currents.{current_context, display_at}
+use Rattle.egl_model.specs.Images.{add_image, new_image_facts, source_storage}
 use Rattle.egl_model.specs.Syncs.{add_sync, fence_objects}
-use Rattle.call_rules.proofs.EglLaws.{rows_off}
+use Rattle.call_rules.proofs.EglLaws.{image_allowed, rows_off}
 use Rattle.std.proofs.lemmas.Bool.{and_parts, not-false}
 use Rattle.egl_model.specs.Step.{Stepped, after_egl_rules, egl_step, step, step_by, step_in, wait_step}
 use Rattle.model_laws.specs.Kinds.{IsA, named_kind}
@@ -113,6 +115,20 @@ sync_gets_handle s t c h =
 pub sync_answers_number : (s : State) (t : ℕ) (c : CallValue) → IsAllowedEgl s t CreateSync c → (step s t c).reply.value ≡ pos s.next_handle
 sync_answers_number s t c h = ap (λ (x : Stepped). x.reply.value) (allowed_egl s t CreateSync c h)
 
+image_made : (s : State) (t d : ℕ) (o : Option ℕ) → is_some o ≡ true → HasNewHandle s (sweep (set_error (option_map_or (add_image s d) o s) t Success)) d an_image
+unfolding made
+image_made s t d None i = absurd (let e : false ≡ true = i in cc)
+image_made s t d (Some k) i = has_new s t d an_image (Some (Image (record { storage = k })) ∷ []) refl
+
+pub image_gets_handle : (s : State) (t : ℕ) (c : CallValue) → IsAllowedEgl s t CreateImage c → HasNewHandle s (step s t c).state (number c 0) an_image
+unfolding egl_refusal
+image_gets_handle s t c h =
+    let a = image_allowed c (new_image_facts s c) h.call.kind h.allowed in
+    subst (λ (a : State). HasNewHandle s a (number c 0) an_image) (sym (allowed_egl_state s t CreateImage c h)) (image_made s t (number c 0) (source_storage s c) a.asked.level)
+
+pub image_answers_number : (s : State) (t : ℕ) (c : CallValue) → IsAllowedEgl s t CreateImage c → (step s t c).reply.value ≡ pos s.next_handle
+image_answers_number s t c h = ap (λ (x : Stepped). x.reply.value) (allowed_egl s t CreateImage c h)
+
 pub pbuffer_answers_number : (s : State) (t : ℕ) (c : CallValue) → IsAllowedEgl s t CreatePbufferSurface c → (step s t c).reply.value ≡ pos s.next_handle
 pbuffer_answers_number s t c h = ap (λ (x : Stepped). x.reply.value) (allowed_egl s t CreatePbufferSurface c h)
 
@@ -123,8 +139,8 @@ pub context_answers_number : (s : State) (t : ℕ) (c : CallValue) → IsAllowed
 context_answers_number s t c h = ap (λ (x : Stepped). x.reply.value) (allowed_egl s t CreateContext c h)
 
 -- ---- The number of the next handle stays at each other call.
-pub next_stays : (s : State) (t : ℕ) (c : CallValue) → c.kind ≢ Egl CreateWindowSurface → c.kind ≢ Egl CreatePbufferSurface → c.kind ≢ Egl CreateContext → c.kind ≢ Egl CreateSync → (step s t c).state.next_handle ≡ s.next_handle
-next_stays s t c w p x y = next-step s t c (makes_no_handle c.kind w p x y)
+pub next_stays : (s : State) (t : ℕ) (c : CallValue) → c.kind ≢ Egl CreateWindowSurface → c.kind ≢ Egl CreatePbufferSurface → c.kind ≢ Egl CreateContext → c.kind ≢ Egl CreateSync → c.kind ≢ Egl CreateImage → (step s t c).state.next_handle ≡ s.next_handle
+next_stays s t c w p x y i = next-step s t c (makes_no_handle c.kind w p x y i)
 
 -- ---- And at each that isn't done.
 undone_egl : (s : State) (t : ℕ) (o : Option EglError) (f : Effect) → f.waits ≡ false → (after_egl_rules s t o f).reply.outcome ≢ Done → (after_egl_rules s t o f).state.next_handle ≡ s.next_handle

@@ -92,6 +92,9 @@ no_own os o e k old = record {
     past zero h = let f : None ≡ Some k = sym e ∙ h in cc
     past (suc j) h = let f : None ≡ Some k = h in cc
 
+pub free_more : (os : List (Option Object)) (o : Option Object) (k : ℕ) → own_in o ≡ None → IsFree (shapes os) k → IsFree (shapes os ++ shapes (o ∷ [])) k
+free_more os o k e f = no_own os o e k (λ m h. f.each m (own_at-shapes os m ∙ h))
+
 -- a new object's number is no surface's storage
 pub free_new : (s : State) (o : Option Object) → own_in o ≡ None → IsWhole (shapes s.objects) s → IsFree (shapes s.objects ++ shapes (o ∷ [])) (length s.objects)
 free_new s o e w = no_own s.objects o e (length s.objects) (λ m h.

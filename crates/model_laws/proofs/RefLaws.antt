@@ -11,7 +11,7 @@ use Rattle.std.specs.List.{sum_by, count_by, list_all, range_with_len}
 use Rattle.std.specs.Option.{option_map_or}
 use Rattle.driver_objects.specs.declared.objects.Object.{Object}
 use Rattle.driver_objects.specs.Objects.{edges_of}
-use Rattle.driver_objects.specs.declared.objects.Object.TheVariants.{Context, Group, Texture, Buffer, Renderbuffer, Surface, Storage, Sync}
+use Rattle.driver_objects.specs.declared.objects.Object.TheVariants.{Context, Group, Texture, Buffer, Renderbuffer, Framebuffer, Surface, Storage, Image, Sync}
 use Rattle.driver_objects.specs.declared.kinds.ObjectKind.{ObjectKind}
 use Rattle.driver_objects.specs.declared.kinds.ObjectKind.TheVariants.{Texture as a_texture, Buffer as a_buffer, Renderbuffer as a_renderbuffer, Framebuffer as a_framebuffer}
 use Rattle.driver_objects.specs.Links.{is_apart}
@@ -223,8 +223,10 @@ end_of (Group g) = 17179869184
 end_of (Texture x) = 0 + length x.levels
 end_of (Buffer x) = 0
 end_of (Renderbuffer x) = 1
+end_of (Framebuffer x) = 3
 end_of (Surface x) = 1
 end_of (Storage x) = 0
+end_of (Image x) = 1
 end_of (Sync x) = 0
 
 rising_of : (o : Object) → is_apart o ≡ true → Rising 0 (slots_of o) (end_of o)
@@ -238,8 +240,10 @@ rising_of (Group g) a = let r = risen g a in
 rising_of (Texture x) a = rising_levels 0 x.levels
 rising_of (Buffer x) a = omega arith
 rising_of (Renderbuffer x) a = (omega arith, omega arith)
+rising_of (Framebuffer x) a = (omega arith, (omega arith, (omega arith, omega arith)))
 rising_of (Surface x) a = (omega arith, omega arith)
 rising_of (Storage x) a = omega arith
+rising_of (Image x) a = (omega arith, omega arith)
 rising_of (Sync x) a = omega arith
 
 unique_of : (h : Holder) (o : Option Object) → is_apart_in o ≡ true → is_unique (in_slots h (slots_in o)) ≡ true

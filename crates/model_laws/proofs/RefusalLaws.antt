@@ -19,7 +19,7 @@ use Rattle.egl_calls.specs.declared.errors.Outcome.TheVariants.{Done, Egl as Ref
 use Rattle.context_state.specs.Parts.{PartValue, kept, noted}
 use Rattle.driver_objects.specs.declared.contexts.Context.{Context as ContextObject}
 use Rattle.driver_objects.specs.declared.objects.Object.{Object}
-use Rattle.driver_objects.specs.declared.objects.Object.TheVariants.{Context, Group, Texture, Buffer, Renderbuffer, Surface, Storage, Sync}
+use Rattle.driver_objects.specs.declared.objects.Object.TheVariants.{Context, Group, Texture, Buffer, Renderbuffer, Framebuffer, Surface, Storage, Image, Sync}
 use Rattle.egl_model.specs.State.{State, initial, object_at, record_of, set_error}
 use Rattle.egl_model.specs.Objects.{as_context, with_part, change_part}
 use Rattle.egl_model.specs.Currents.{current_context, part_of_context}
@@ -102,8 +102,10 @@ with_part_before e (Some (Group a)) p h ne = refl
 with_part_before e (Some (Texture a)) p h ne = refl
 with_part_before e (Some (Buffer x)) p h ne = refl
 with_part_before e (Some (Renderbuffer x)) p h ne = refl
+with_part_before e (Some (Framebuffer x)) p h ne = refl
 with_part_before e (Some (Surface x)) p h ne = refl
 with_part_before e (Some (Storage x)) p h ne = refl
+with_part_before e (Some (Image x)) p h ne = refl
 with_part_before e (Some (Sync x)) p h ne = refl
 
 -- a context that keeps an error already keeps it, and nothing changes
@@ -121,8 +123,10 @@ with_part_first e (Some (Group a)) p h z = absurd (let f : None ≡ Some p = h i
 with_part_first e (Some (Texture a)) p h z = absurd (let f : None ≡ Some p = h in cc)
 with_part_first e (Some (Buffer x)) p h z = absurd (let f : None ≡ Some p = h in cc)
 with_part_first e (Some (Renderbuffer x)) p h z = absurd (let f : None ≡ Some p = h in cc)
+with_part_first e (Some (Framebuffer x)) p h z = absurd (let f : None ≡ Some p = h in cc)
 with_part_first e (Some (Surface x)) p h z = absurd (let f : None ≡ Some p = h in cc)
 with_part_first e (Some (Storage x)) p h z = absurd (let f : None ≡ Some p = h in cc)
+with_part_first e (Some (Image x)) p h z = absurd (let f : None ≡ Some p = h in cc)
 with_part_first e (Some (Sync x)) p h z = absurd (let f : None ≡ Some p = h in cc)
 
 -- only what exists has a part, so its number is below the count of places

@@ -91,10 +91,10 @@ suits-kind t sh s n r = record { leads = leads; pixels = λ o m h. inl (ap (is_i
     leads o l = l
 
 -- ---- glRenderbufferStorageOES.
-kinded : RenderbufferValue → ℕ → State → State
+unfoldable pub kinded : RenderbufferValue → ℕ → State → State
 kinded r x s = record s { objects = change_renderbuffer (with_kind r) x s.objects }
 
-acts-kind : (s : State) (t x : ℕ) (r : RenderbufferValue) → Acts quiet t s (kinded r x)
+pub acts-kind : (s : State) (t x : ℕ) (r : RenderbufferValue) → Acts quiet t s (kinded r x)
 unfolding change_renderbuffer kinded
 acts-kind s t x r = by_quiet_moves t s (Change x (with_renderbuffer (with_kind r)) ∷ []) refl (setter-kind r, tt) (λ w. (suits-kind t (shapes s.objects) s x r, tt))
 

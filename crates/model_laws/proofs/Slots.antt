@@ -1,13 +1,15 @@
 -- What holds of the slots of each kind of object, and of slots that lead.
-use Rattle.std.proofs.Common.{◌≡◌, ℕ, ◌+◌, ◌<◌, ◌⊎◌, inl, inr, true, false, List, [], ◌∷◌, ◌++◌, refl, sym, ap, ◌∙◌, arith, Option, None, Some}
-use Rattle.std.specs.Prelude.{◌==◌, option_to_list}
-use Rattle.std.proofs.lemmas.Bool.{eqb-true, or_cases}
+use Rattle.std.proofs.Common.{◌≡◌, ℕ, zero, suc, ◌+◌, ◌<◌, ◌⊎◌, inl, inr, Bool, true, false, List, [], ◌∷◌, ◌++◌, refl, sym, ap, ◌∙◌, arith, get_or, Option, None, Some}
+use Rattle.std.specs.Prelude.{◌==◌, ◌||◌, if◌then◌else◌, option_to_list}
+use Rattle.std.proofs.lemmas.Bool.{eq-eqb, eqb-true, or_cases}
+use Rattle.std.proofs.lemmas.Option.{none-some}
 use Rattle.std.proofs.lemmas.List.Folds.{list_any-append}
 use Rattle.driver_objects.specs.declared.kinds.ObjectKind.{ObjectKind}
 use Rattle.driver_objects.specs.declared.kinds.ObjectKind.TheVariants.{Texture as a_texture, Buffer as a_buffer, Renderbuffer as a_renderbuffer, Framebuffer as a_framebuffer, Storage as a_storage}
 use Rattle.driver_objects.specs.declared.objects.Object.{Object}
-use Rattle.driver_objects.specs.declared.objects.Object.TheVariants.{Context, Group, Texture, Buffer, Renderbuffer, Surface, Storage, Sync}
-use Rattle.model_laws.specs.Slots.{Slot, ends, level_slots, name_slots, slots_of}
+use Rattle.driver_objects.specs.declared.objects.Object.TheVariants.{Context, Group, Texture, Buffer, Renderbuffer, Framebuffer, Surface, Storage, Image, Sync}
+use Rattle.model_laws.specs.Slots.{Slot, attached_kind, ends, level_slots, name_slots, slots_of}
+use Rattle.framebuffer_objects.specs.declared.framebuffers.Attached.{Attached}
 use Rattle.share_group.specs.declared.names.Name.{Name}
 use Rattle.share_group.specs.Groups.{GroupValue}
 use Rattle.driver_objects.specs.Objects.{filled}
@@ -37,6 +39,12 @@ only_one n x h = elim (or_cases (x == n) false h) [
   | inr e ↦ absurd (let f : false ≡ true = e in cc)
 ]
 
+-- what a level has is among what all have
+pub in_levels : (n k : ℕ) (xs : List (Option ℕ)) → get_or xs k None ≡ Some n → is_in n (filled xs) ≡ true
+in_levels n k [] h = absurd (none-some n h)
+in_levels n zero (x ∷ xs) h = in_left n (option_to_list x) (filled xs) (ap (λ o. is_in n (option_to_list o)) h ∙ ap (λ b. b || false) (eq-eqb n n refl))
+in_levels n (suc k) (x ∷ xs) h = in_right n (option_to_list x) (filled xs) (in_levels n k xs h)
+
 -- ---- Ranks fall along each slot.
 Falls : ℕ → List Slot → Type 0
 Falls r [] = Unit {0}
@@ -57,6 +65,14 @@ unfolding Falls
 falls_levels r i [] h = tt
 falls_levels r i (x ∷ xs) h = (h, falls_levels r (i + 1) xs h)
 
+low_attached : (a : Option Attached) → rank_of_kind (attached_kind a) < 2
+low_attached None = omega arith
+low_attached (Some a) = by a.texture
+  where
+    by : (b : Bool) → rank_of_kind (if b then a_texture else a_renderbuffer) < 2
+    by true = omega arith
+    by false = omega arith
+
 falls : (o : Object) → Falls (rank_of o) (slots_of o)
 unfolding Falls
 falls (Context c) = (omega arith, (omega arith, (omega arith, (omega arith, (omega arith, (omega arith, (omega arith, tt)))))))
@@ -67,8 +83,10 @@ falls (Group g) =
 falls (Texture x) = falls_levels 1 0 x.levels (omega arith)
 falls (Buffer x) = tt
 falls (Renderbuffer x) = (omega arith, tt)
+falls (Framebuffer x) = (low_attached x.color, (low_attached x.depth, (low_attached x.stencil, tt)))
 falls (Surface x) = (omega arith, tt)
 falls (Storage x) = tt
+falls (Image x) = (omega arith, tt)
 falls (Sync x) = tt
 
 -- ---- What slots that lead lead to.
@@ -126,6 +144,7 @@ pub pixels_are_storages : (sh : List (Option Shape)) (o : Option Object) (k : �
 pixels_are_storages sh (Some (Texture x)) k l h = at_levels sh 0 x.levels k l h
 pixels_are_storages sh (Some (Renderbuffer x)) k l h = at_levels sh 0 (x.storage ∷ []) k l h
 pixels_are_storages sh (Some (Surface x)) k l h = record { is = ap (kind_at sh) (sym (only_one k x.storage h)) ∙ l.0.is }
+pixels_are_storages sh (Some (Image x)) k l h = record { is = ap (kind_at sh) (sym (only_one k x.storage h)) ∙ l.0.is }
 pixels_are_storages sh o k l h = no_edge k h
 
 same_Some : (a b : ℕ) → Some a ≡ Some b → a ≡ b

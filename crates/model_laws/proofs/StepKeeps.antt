@@ -1,15 +1,15 @@
 -- What each step keeps, and so each history.
 use Rattle.std.proofs.Common.{◌≡◌, ℕ, true, false, List, [], ◌∷◌, refl, sym, ap, subst, ◌∙◌, arith, get_or, Option, None, Some, is_some}
-use Rattle.display_table.specs.declared.handles.HandleKind.TheVariants.{Context as a_context, Surface as a_surface, Sync as a_sync}
+use Rattle.display_table.specs.declared.handles.HandleKind.TheVariants.{Context as a_context, Surface as a_surface, Image as an_image, Sync as a_sync}
 use Rattle.std.specs.Prelude.{replicate}
 use Rattle.std.proofs.lemmas.List.Elements.{All-nil}
 use Rattle.egl_calls.specs.Calls.{CallValue}
 use Rattle.egl_calls.specs.declared.entries.Entry.{Entry}
 use Rattle.egl_calls.specs.declared.kinds.Kind.TheVariants.{Egl, Gl}
 use Rattle.egl_calls.specs.declared.kinds.EglKind.{EglKind}
-use Rattle.egl_calls.specs.declared.kinds.EglKind.TheVariants.{Initialize, Terminate, CreateWindowSurface, CreatePbufferSurface, CreateContext, MakeCurrent, DestroySurface, SurfaceAttrib, DestroyContext, SwapBuffers, WaitClient, ReleaseThread, CreateSync, DestroySync, ClientWaitSync, WaitSync}
+use Rattle.egl_calls.specs.declared.kinds.EglKind.TheVariants.{Initialize, Terminate, CreateWindowSurface, CreatePbufferSurface, CreateContext, MakeCurrent, DestroySurface, SurfaceAttrib, DestroyContext, SwapBuffers, WaitClient, ReleaseThread, CreateSync, DestroySync, ClientWaitSync, WaitSync, CreateImage, DestroyImage}
 use Rattle.egl_calls.specs.declared.kinds.GlKind.{GlKind}
-use Rattle.egl_calls.specs.declared.kinds.GlKind.TheVariants.{Flush, Finish, Clear, DrawTexi, DrawTexx, GenTextures, DeleteTextures, BindTexture, TexParameterx, TexParameteriv, TexImage2d, TexSubImage2d, CopyTexImage2d, CopyTexSubImage2d, GenBuffers, DeleteBuffers, BindBuffer, BufferData, BufferSubData, GenRenderbuffers, DeleteRenderbuffers, BindRenderbuffer, RenderbufferStorage}
+use Rattle.egl_calls.specs.declared.kinds.GlKind.TheVariants.{Flush, Finish, Clear, DrawTexi, DrawTexx, GenTextures, DeleteTextures, BindTexture, TexParameterx, TexParameteriv, TexImage2d, TexSubImage2d, CopyTexImage2d, CopyTexSubImage2d, GenBuffers, DeleteBuffers, BindBuffer, BufferData, BufferSubData, GenRenderbuffers, DeleteRenderbuffers, BindRenderbuffer, RenderbufferStorage, GenFramebuffers, DeleteFramebuffers, BindFramebuffer, FramebufferTexture2d, FramebufferRenderbuffer, ImageTargetTexture2d, ImageTargetRenderbufferStorage}
 use Rattle.egl_calls.specs.declared.errors.EglError.TheVariants.{Success}
 use Rattle.context_state.specs.Parts.{noted}
 use Rattle.context_state.specs.Kinds.{context_gl_call}
@@ -45,14 +45,16 @@ use Rattle.egl_model.specs.Flushes.{flush}
 use Rattle.egl_model.specs.Windows.{swapped}
 use Rattle.model_laws.proofs.SyncCalls.{acts-client_wait, acts-create_sync, acts-flush, acts-flushed, acts-serve}
 use Rattle.model_laws.proofs.GlCalls.{acts-clear, acts-own_part}
-use Rattle.share_group.specs.declared.names.NameKind.TheVariants.{Texture as textures, Buffer as buffers, Renderbuffer as renderbuffers}
+use Rattle.share_group.specs.declared.names.NameKind.TheVariants.{Texture as textures, Buffer as buffers, Renderbuffer as renderbuffers, Framebuffer as framebuffers}
 use Rattle.model_laws.proofs.CopyCalls.{acts-copied, acts-copied_part}
 use Rattle.driver_objects.specs.Targets.{buffer_target}
-use Rattle.driver_objects.specs.declared.targets.BindTarget.TheVariants.{Texture as TextureTarget, Renderbuffer as RenderbufferTarget}
+use Rattle.driver_objects.specs.declared.targets.BindTarget.TheVariants.{Texture as TextureTarget, Renderbuffer as RenderbufferTarget, Framebuffer as FramebufferTarget}
 use Rattle.model_laws.proofs.DrawCalls.{acts-drawn}
 use Rattle.model_laws.proofs.NameCalls.{acts-bound_name, acts-delete, acts-generated}
 use Rattle.model_laws.proofs.BufferCalls.{acts-data, acts-part_of}
 use Rattle.model_laws.proofs.RenderbufferCalls.{acts-stored}
+use Rattle.model_laws.proofs.FramebufferCalls.{acts-attached_renderbuffer, acts-attached_texture}
+use Rattle.model_laws.proofs.ImageCalls.{acts-create_image, acts-renderbuffer_of_image, acts-texture_of_image}
 use Rattle.model_laws.proofs.TextureCalls.{acts-crop, acts-parameter, acts-rewritten, acts-specified}
 use Rattle.model_laws.proofs.FrameMoves.{frame_self, handles_then, objects_then}
 use Rattle.model_laws.proofs.LinkLaws.{exists_marked}
@@ -81,6 +83,8 @@ egl_acts s t c CreateSync h r = acts-create_sync s t c
 egl_acts s t c DestroySync h r = acts-destroyed s t c a_sync
 egl_acts s t c ClientWaitSync h r = acts-client_wait s t c
 egl_acts s t c WaitSync h r = acts-serve s t c
+egl_acts s t c CreateImage h r = acts-create_image s t c
+egl_acts s t c DestroyImage h r = acts-destroyed s t c an_image
 egl_acts s t c ReleaseThread h r = acts-released s t
 egl_acts s t c k h r = acts_self t s
 
@@ -108,6 +112,13 @@ object_acts s t n c GenRenderbuffers h r i = acts-generated s t n renderbuffers 
 object_acts s t n c DeleteRenderbuffers h r i = acts-delete s t n renderbuffers c.list i
 object_acts s t n c BindRenderbuffer h r i = acts-bound_name s t n RenderbufferTarget (number c 1) i
 object_acts s t n c RenderbufferStorage h r i = acts-stored s t n c h r
+object_acts s t n c GenFramebuffers h r i = acts-generated s t n framebuffers (number c 0)
+object_acts s t n c DeleteFramebuffers h r i = acts-delete s t n framebuffers c.list i
+object_acts s t n c BindFramebuffer h r i = acts-bound_name s t n FramebufferTarget (number c 1) i
+object_acts s t n c FramebufferTexture2d h r i = acts-attached_texture s t n c
+object_acts s t n c FramebufferRenderbuffer h r i = acts-attached_renderbuffer s t n c
+object_acts s t n c ImageTargetTexture2d h r i = acts-texture_of_image s t n c
+object_acts s t n c ImageTargetRenderbufferStorage h r i = acts-renderbuffer_of_image s t n c
 object_acts s t n c k h r i = acts_self t s
 
 acts_by : (o : Option ContextCall) (s : State) (t n : ℕ) (c : CallValue) (k : GlKind) → c.kind ≡ Gl k → gl_refusal s t n k c ≡ None → current_context s t ≡ Some n → Acts quiet t s (λ a. (effect_by o a t n k c).state)

@@ -15,19 +15,19 @@ use Rattle.egl_calls.specs.Errors.{egl_code}
 use Rattle.egl_calls.specs.declared.kinds.Kind.{Kind}
 use Rattle.egl_calls.specs.declared.kinds.Kind.TheVariants.{Egl, Gl, Own as OwnCall}
 use Rattle.egl_calls.specs.declared.kinds.EglKind.{EglKind}
-use Rattle.egl_calls.specs.declared.kinds.EglKind.TheVariants.{CreateWindowSurface, SwapBuffers, GetError as EglGetError, CreatePbufferSurface, MakeCurrent, GetCurrentContext, GetCurrentSurface, GetCurrentDisplay, QueryApi, QuerySurface, QueryContext, CreateSync, ClientWaitSync, WaitSync, GetSyncAttrib}
+use Rattle.egl_calls.specs.declared.kinds.EglKind.TheVariants.{CreateWindowSurface, SwapBuffers, GetError as EglGetError, CreatePbufferSurface, MakeCurrent, GetCurrentContext, GetCurrentSurface, GetCurrentDisplay, QueryApi, QuerySurface, QueryContext, CreateSync, ClientWaitSync, WaitSync, GetSyncAttrib, CreateImage}
 use Rattle.egl_calls.specs.declared.kinds.GlKind.{GlKind}
-use Rattle.egl_calls.specs.declared.kinds.GlKind.TheVariants.{Clear, ReadPixels, DrawTexi, DrawTexx, GenTextures, IsTexture, TexImage2d, TexSubImage2d, CopyTexImage2d, CopyTexSubImage2d, GenBuffers, IsBuffer, BufferData, BufferSubData, GetBufferParameteriv, GenRenderbuffers, IsRenderbuffer, RenderbufferStorage, GetRenderbufferParameteriv}
+use Rattle.egl_calls.specs.declared.kinds.GlKind.TheVariants.{Clear, ReadPixels, DrawTexi, DrawTexx, GenTextures, IsTexture, TexImage2d, TexSubImage2d, CopyTexImage2d, CopyTexSubImage2d, GenBuffers, IsBuffer, BufferData, BufferSubData, GetBufferParameteriv, GenRenderbuffers, IsRenderbuffer, RenderbufferStorage, GetRenderbufferParameteriv, GenFramebuffers, IsFramebuffer, FramebufferTexture2d, FramebufferRenderbuffer, CheckFramebufferStatus, GetFramebufferAttachmentParameteriv, ImageTargetTexture2d, ImageTargetRenderbufferStorage}
 use Rattle.call_rules.specs.GlRules as gl_rules
 use Rattle.context_state.specs.Kinds.{context_gl_call}
 use Rattle.context_state.specs.declared.kinds.ContextCall.{ContextCall}
 use Rattle.context_state.specs.Parts.{PartValue}
 use Rattle.share_group.specs.Names.{given}
 use Rattle.share_group.specs.declared.names.NameKind.{NameKind}
-use Rattle.share_group.specs.declared.names.NameKind.TheVariants.{Texture as textures, Buffer as buffers, Renderbuffer as renderbuffers}
+use Rattle.share_group.specs.declared.names.NameKind.TheVariants.{Texture as textures, Buffer as buffers, Renderbuffer as renderbuffers, Framebuffer as framebuffers}
 use Rattle.egl_model.specs.Buffers.{buffer_parameter, part_read}
 use Rattle.call_rules.specs.GlRules.{no_gl_facts}
-use Rattle.egl_model.specs.GlFacts.{bound_facts, buffer_facts, image_facts, framebuffer_facts, renderbuffer_facts}
+use Rattle.egl_model.specs.GlFacts.{attach_facts, attachment_facts, bound_facts, buffer_facts, image_facts, framebuffer_facts, renderbuffer_facts}
 use Rattle.egl_model.specs.Renderbuffers.{renderbuffer_bytes, renderbuffer_parameter}
 use Rattle.egl_model.specs.Names.{generated, group_of, name_value, object_named}
 use Rattle.model_laws.proofs.CopyCalls.{blind-copy_facts, blind-copy_part_facts}
@@ -42,7 +42,8 @@ use Rattle.call_rules.specs.EglRules as rules
 use Rattle.display_table.specs.declared.handles.Handle.{Handle}
 use Rattle.egl_model.specs.declared.records.ThreadRecord.{ThreadRecord}
 use Rattle.egl_model.specs.State.{State, record_of, api_code}
-use Rattle.egl_model.specs.Currents.{current_context, bound_framebuffer, read_storage, display_at, handle_of}
+use Rattle.egl_model.specs.Currents.{current_context, display_at, handle_of}
+use Rattle.egl_model.specs.Framebuffers.{BoundFramebuffer, attachment_of, attachment_parameter, bound_framebuffer, is_complete, target_framebuffer}
 use Rattle.egl_model.specs.Drawing.{pack_alignment, read_pixels, rows_of}
 use Rattle.egl_model.specs.EglEffects.{egl_effect}
 use Rattle.egl_model.specs.EglFacts.{egl_facts, egl_refusal}
@@ -52,7 +53,7 @@ use Rattle.egl_model.specs.GlFacts.{gl_refusal}
 use Rattle.egl_model.specs.Sweep.{live_bytes}
 use Rattle.model_laws.specs.Hidden.{hide, nothing}
 use Rattle.egl_model.specs.MakeCurrent.{config_of_context, config_of_surface, context_handle, current_facts, draw_handle, is_context_taken, is_surface_taken, read_handle}
-use Rattle.egl_model.specs.Objects.{storage_in, context_in}
+use Rattle.egl_model.specs.Objects.{context_in, storage_in}
 use Rattle.egl_model.specs.Parts.{Own, Places, places, put_at, put_own}
 use Rattle.model_laws.specs.Shapes.{shapes}
 use Rattle.model_laws.specs.Sound.{IsWhole}
@@ -64,9 +65,12 @@ use Rattle.egl_model.specs.Effects.{valued}
 use Rattle.egl_calls.specs.declared.kinds.OwnKind.{OwnKind}
 use Rattle.egl_calls.specs.declared.kinds.OwnKind.TheVariants.{ReadBuffer, Census}
 use Rattle.egl_model.specs.Syncs.{sync_facts}
+use Rattle.model_laws.proofs.ImageCalls.{blind-new_image, blind-renderbuffer_target_facts, blind-target_facts}
 use Rattle.model_laws.proofs.SyncCalls.{blind-client_wait, blind-new_sync, blind-server, blind-sync_value}
 use Rattle.model_laws.proofs.WindowCalls.{blind-swap_facts, blind-window_facts}
-use Rattle.model_laws.proofs.Blinds.{blind-complete, blind-context_elsewhere, blind-context_of, blind-current, blind-live_bytes, blind-own_part, blind-own_storage, blind-read, blind-record, blind-surface_elsewhere, blind-surface_of, read_alone, blind-signalled, blind-any, blind-context, blind-display}
+use Rattle.model_laws.proofs.Blinds.{blind-context_elsewhere, blind-context_of, blind-current, blind-live_bytes, blind-own_part, blind-record, blind-surface_elsewhere, blind-surface_of, blind-signalled, blind-any, blind-context, blind-display}
+use Rattle.model_laws.proofs.BoundFramebuffers.{blind-bound_framebuffer, blind-complete, blind-read_from, blind-target_framebuffer}
+use Rattle.model_laws.proofs.FramebufferCalls.{blind-attachment_of, blind-called_object}
 use Rattle.model_laws.proofs.EglCalls.{acts-error}
 use Rattle.model_laws.proofs.GlCalls.{acts-own_part}
 use Rattle.model_laws.proofs.Keeps.{Blind}
@@ -119,6 +123,7 @@ blind-facts t c s QueryContext w v x ne = ap (λ y. record (context_call_facts s
 blind-facts t c s CreateSync w v x ne = blind-new_sync t c s w v x ne
 blind-facts t c s WaitSync w v x ne = blind-server t c s w v x ne
 blind-facts t c s GetSyncAttrib w v x ne = ap (λ y. record (sync_facts s c) { is_attribute = is_some y }) (blind-sync_value t c s w v x ne)
+blind-facts t c s CreateImage w v x ne = blind-new_image t c s w v x ne
 blind-facts t c s k w v x ne = refl
 
 blind-refusal : (t : ℕ) (c : CallValue) (s : State) (k : EglKind) → Blind t s (λ a. egl_refusal a t k c)
@@ -128,11 +133,22 @@ blind-refusal t c s k w v x ne = ap (rules.egl_refusal c) (blind-facts t c s k w
 blind-buffer_facts : (t n : ℕ) (c : CallValue) (s : State) → Blind t s (λ a. buffer_facts a n c)
 blind-buffer_facts t n c s w v x ne = ap bound_facts (blind-buffer_of t n c s w v x ne)
 
-blind-framebuffer_refusal : (t : ℕ) (c : CallValue) (s : State) → Blind t s (λ a. gl_rules.gl_refusal c (framebuffer_facts (bound_framebuffer a t).is_complete))
+blind-framebuffer_refusal : (t : ℕ) (c : CallValue) (s : State) → Blind t s (λ a. gl_rules.gl_refusal c (framebuffer_facts (is_complete (bound_framebuffer a t))))
 blind-framebuffer_refusal t c s w v x ne = ap (λ b. gl_rules.gl_refusal c (framebuffer_facts b)) (blind-complete t s w v x ne)
 
 blind-renderbuffer_facts : (t n : ℕ) (s : State) → Blind t s (λ a. renderbuffer_facts a n)
 blind-renderbuffer_facts t n s w v x ne = ap (λ o. record no_gl_facts { is_bound = is_some o }) (blind-target_renderbuffer t n s w v x ne)
+
+-- a call on a framebuffer
+blind-attach_facts : (t n : ℕ) (k : NameKind) (c : CallValue) (s : State) → Blind t s (λ a. attach_facts k a n c)
+blind-attach_facts t n k c s w v x ne =
+    ap (λ o. record no_gl_facts { is_bound = is_some o; is_named = is_some (object_named (put_own s v x) (group_of (put_own s v x) n) k (number c 3)) }) (blind-target_framebuffer t n s w v x ne)
+    ∙ ap (λ o. record no_gl_facts { is_bound = is_some (target_framebuffer s n); is_named = is_some o }) (blind-called_object t n k (number c 3) s w v x ne)
+
+blind-attachment_facts : (t n : ℕ) (c : CallValue) (s : State) → Blind t s (λ a. attachment_facts a n c)
+blind-attachment_facts t n c s w v x ne =
+    ap (λ o. record no_gl_facts { is_bound = is_some o; is_attached = is_some (attachment_of (put_own s v x) n c) }) (blind-target_framebuffer t n s w v x ne)
+    ∙ ap (λ o. record no_gl_facts { is_bound = is_some (target_framebuffer s n); is_attached = is_some o }) (blind-attachment_of t n c s w v x ne)
 
 blind-gl_refusal : (t n : ℕ) (c : CallValue) (s : State) (k : GlKind) → Blind t s (λ a. gl_refusal a t n k c)
 unfolding gl_refusal
@@ -153,6 +169,11 @@ blind-gl_refusal t n c s RenderbufferStorage w v x ne =
     ap (λ b. gl_rules.gl_refusal c (record (renderbuffer_facts (put_own s v x) n) { live_bytes = b; new_bytes = renderbuffer_bytes c; video_limit = s.video })) (blind-live_bytes t s w v x ne)
     ∙ ap (λ f. gl_rules.gl_refusal c (record f { live_bytes = live_bytes s.objects; new_bytes = renderbuffer_bytes c; video_limit = s.video })) (blind-renderbuffer_facts t n s w v x ne)
 blind-gl_refusal t n c s GetRenderbufferParameteriv w v x ne = ap (gl_rules.gl_refusal c) (blind-renderbuffer_facts t n s w v x ne)
+blind-gl_refusal t n c s FramebufferTexture2d w v x ne = ap (gl_rules.gl_refusal c) (blind-attach_facts t n textures c s w v x ne)
+blind-gl_refusal t n c s FramebufferRenderbuffer w v x ne = ap (gl_rules.gl_refusal c) (blind-attach_facts t n renderbuffers c s w v x ne)
+blind-gl_refusal t n c s GetFramebufferAttachmentParameteriv w v x ne = ap (gl_rules.gl_refusal c) (blind-attachment_facts t n c s w v x ne)
+blind-gl_refusal t n c s ImageTargetTexture2d w v x ne = ap (gl_rules.gl_refusal c) (blind-target_facts t n c s w v x ne)
+blind-gl_refusal t n c s ImageTargetRenderbufferStorage w v x ne = ap (gl_rules.gl_refusal c) (blind-renderbuffer_target_facts t n c s w v x ne)
 blind-gl_refusal t n c s k w v x ne = refl
 
 blind-buffer_refusal : (t n : ℕ) (c : CallValue) (s : State) → Blind t s (λ a. buffer_refusal a t n c)
@@ -174,9 +195,8 @@ blind-egl_reply t c s k w v x ne = refl
 
 blind-read_pixels : (t n : ℕ) (c : CallValue) (s : State) → current_context s t ≡ Some n → Blind t s (λ a. read_pixels a t n c)
 blind-read_pixels t n c s e w v x ne =
-    ap (λ (p : Option PartValue). rows_of c (option_map_or (λ q. q.pack_alignment) p 4) (option_and_then (storage_in (put_own s v x).objects) (read_storage (put_own s v x) t))) (blind-own_part t n s e w v x ne)
-    ∙ ap (λ o. rows_of c (pack_alignment s n) (option_and_then (storage_in (put_own s v x).objects) o)) (blind-read t s w v x ne)
-    ∙ ap (λ o. rows_of c (pack_alignment s n) o) (blind-own_storage t (read_storage s t) s (λ n e. read_alone s t n e) w v x ne)
+    ap (λ (p : Option PartValue). rows_of c (option_map_or (λ q. q.pack_alignment) p 4) (option_and_then (storage_in (put_own s v x).objects) (bound_framebuffer (put_own s v x) t).read)) (blind-own_part t n s e w v x ne)
+    ∙ ap (λ o. rows_of c (pack_alignment s n) o) (blind-read_from t s w v x ne)
 
 blind-generated : (t n : ℕ) (k : NameKind) (count : ℕ) (s : State) → Blind t s (λ a. done (generated a (group_of a n) k count))
 blind-generated t n k count s w v x ne =
@@ -201,6 +221,10 @@ blind-object_reply t n c s GetBufferParameteriv e w v x ne = ap (λ o. done (val
 blind-object_reply t n c s GenRenderbuffers e w v x ne = blind-generated t n renderbuffers (number c 0) s w v x ne
 blind-object_reply t n c s IsRenderbuffer e w v x ne = blind-is_name t n renderbuffers (number c 0) s w v x ne
 blind-object_reply t n c s GetRenderbufferParameteriv e w v x ne = ap (λ o. done (valued (renderbuffer_parameter c o) s)) (blind-renderbuffer_of t n s w v x ne)
+blind-object_reply t n c s GenFramebuffers e w v x ne = blind-generated t n framebuffers (number c 0) s w v x ne
+blind-object_reply t n c s IsFramebuffer e w v x ne = blind-is_name t n framebuffers (number c 0) s w v x ne
+blind-object_reply t n c s CheckFramebufferStatus e w v x ne = ap (λ (b : BoundFramebuffer). done (valued (pos b.status) s)) (blind-bound_framebuffer t s w v x ne)
+blind-object_reply t n c s GetFramebufferAttachmentParameteriv e w v x ne = ap (λ o. done (valued (attachment_parameter c o) s)) (blind-attachment_of t n c s w v x ne)
 blind-object_reply t n c s k e w v x ne = refl
 
 blind-reply_by : (o : Option ContextCall) (t n : ℕ) (c : CallValue) (s : State) (k : GlKind) → current_context s t ≡ Some n → Blind t s (λ a. done (effect_by o a t n k c))

@@ -42,7 +42,7 @@ use Rattle.model_laws.proofs.Moves.{Add, Change, own_in}
 use Rattle.model_laws.proofs.NewObjects.{free_new, full-uploaded, without_pixels}
 use Rattle.model_laws.proofs.Places.{new_kind, own_at-shapes}
 use Rattle.model_laws.proofs.Setters.{form-rewritten}
-use Rattle.model_laws.proofs.Slots.{in_left, in_right, no_edge, only_one}
+use Rattle.model_laws.proofs.Slots.{in_levels, no_edge, only_one}
 use Rattle.model_laws.proofs.Writes.{IsBlind}
 
 -- ---- What the calls look at.
@@ -150,11 +150,6 @@ acts-specified s t n c h r i = acts_of quiet t s (λ a. unpack_alignment a n) (�
     (acts_of quiet t s (λ a. target_texture a n) (λ o a. specified (level_of c) (new_level c (unpack_alignment s n)) o a) (blind-target t n s) (acts-level s t (level_of c) c (unpack_alignment s n) (target_texture s n) (specify_allowed s t n c h r)))
 
 -- ---- glTexSubImage2D.
-in_levels : (n k : ℕ) (xs : List (Option ℕ)) → get_or xs k None ≡ Some n → is_in n (filled xs) ≡ true
-in_levels n k [] h = absurd (none-some n h)
-in_levels n zero (x ∷ xs) h = in_left n (option_to_list x) (filled xs) (ap (λ o. is_in n (option_to_list o)) h ∙ ap (λ b. b || false) (eq-eqb n n refl))
-in_levels n (suc k) (x ∷ xs) h = in_right n (option_to_list x) (filled xs) (in_levels n k xs h)
-
 in_texture : (n k : ℕ) (o : Option Object) → option_and_then (storage_at k) (as_texture o) ≡ Some n → is_in n (pixels_in o) ≡ true
 in_texture n k (Some (Texture x)) h = in_levels n k x.levels h
 in_texture n k o h = absurd (none-some n h)

@@ -1,6 +1,6 @@
 -- What the calls on textures leave, and where pixels want.
 use Rattle.std.proofs.Common.{◌≡◌, ◌≢◌, ◌⊎◌, ℕ, ◌<◌, ◌≤◌, Bool, true, false, ◌==◌, is_some, inl, inr, List, [], ◌∷◌, ◌++◌, length, get_or, set, refl, sym, ap, subst, ◌∙◌, Option, None, Some}
-use Rattle.std.proofs.lemmas.Bool.{cases_eq, cases_lt, eq-eqb, eqb-true, false≢true}
+use Rattle.std.proofs.lemmas.Bool.{cond_both, cases_eq, cases_lt, eq-eqb, eqb-true, false≢true}
 use Rattle.std.proofs.lemmas.List.{get_or-set_other, get_or-set_same, get_or_past, set_past}
 use Rattle.std.proofs.lemmas.Option.{none-some, same_Some}
 use Rattle.egl_calls.specs.Calls.{CallValue}
@@ -13,6 +13,8 @@ use Rattle.driver_objects.specs.Storages.{StorageValue}
 use Rattle.driver_objects.specs.declared.objects.Object.{Object}
 use Rattle.driver_objects.specs.declared.objects.Object.TheVariants.{Renderbuffer, Texture, Storage}
 use Rattle.driver_objects.specs.declared.textures.BackedTexture.{BackedTexture}
+use Rattle.egl_model.specs.Copies.{copied, copied_from, copied_level, copies_nothing, read_image}
+use Rattle.pixel_rows.specs.Images.{ImageValue}
 use Rattle.egl_model.specs.Currents.{current_context}
 use Rattle.egl_model.specs.GlEffects.{gl_effect}
 use Rattle.egl_model.specs.GlFacts.{copy_facts, gl_refusal, image_facts}
@@ -140,16 +142,33 @@ keeps_others s t n x c h there =
     subst (λ (y : Stepped). KeepsOthers (level_of c) x (target_texture s n) (object_at s x) (object_at y.state x)) (sym (allowed_gl s t n TexImage2d c h))
     (swept_others (level_of c) x (target_texture s n) (object_at s x) a (specified_others (level_of c) x v (target_texture s n) s there))
 
+-- the same of a copy
+copied_others : (s : State) (t n x : ℕ) (c : CallValue) → is_some (object_at s x) ≡ true → KeepsOthers (level_of c) x (target_texture s n) (object_at s x) (object_at (copied s t n c) x)
+copied_others s t n x c there = cond_both (copies_nothing c) (specified (level_of c) None (target_texture s n) s) (copied_from (read_image s t) c (target_texture s n) s) (λ (a : State). KeepsOthers (level_of c) x (target_texture s n) (object_at s x) (object_at a x))
+    (λ _. specified_others (level_of c) x None (target_texture s n) s there) (λ _. of_image (read_image s t))
+  where
+    of_image : (o : Option ImageValue) → KeepsOthers (level_of c) x (target_texture s n) (object_at s x) (object_at (copied_from o c (target_texture s n) s) x)
+    of_image (Some i) = specified_others (level_of c) x (Some (copied_level c i)) (target_texture s n) s there
+    of_image None = others_same (level_of c) x (target_texture s n) (object_at s x)
+
+copy_keeps_others : (s : State) (t n x : ℕ) (c : CallValue) → IsAllowedGl s t n CopyTexImage2d c → is_some (object_at s x) ≡ true → KeepsOthers (level_of c) x (target_texture s n) (object_at s x) (object_at (step s t c).state x)
+copy_keeps_others s t n x c h there =
+    subst (λ (y : Stepped). KeepsOthers (level_of c) x (target_texture s n) (object_at s x) (object_at y.state x)) (sym (allowed_gl s t n CopyTexImage2d c h))
+    (swept_others (level_of c) x (target_texture s n) (object_at s x) (copied s t n c) (copied_others s t n x c there))
+
 some_texture : (o : Option Object) (y : BackedTexture) → as_texture o ≡ Some y → is_some o ≡ true
 some_texture (Some x) y h = refl
 some_texture None y h = absurd (none-some y h)
 
-some_storage : (o : Option Object) (y : StorageValue) → as_storage o ≡ Some y → is_some o ≡ true
+pub some_storage : (o : Option Object) (y : StorageValue) → as_storage o ≡ Some y → is_some o ≡ true
 some_storage (Some x) y h = refl
 some_storage None y h = absurd (none-some y h)
 
 pub level_alone : (s : State) (t n : ℕ) (c : CallValue) (x j : ℕ) (y z : BackedTexture) → IsAllowedGl s t n TexImage2d c → (target_texture s n ≡ Some x → j ≢ level_of c) → texture_in s.objects x ≡ Some y → texture_in (step s t c).state.objects x ≡ Some z → storage_at j z ≡ storage_at j y
 level_alone s t n c x j y z h ne before after = (keeps_others s t n x c h (some_texture (object_at s x) y before)).levels j y z ne before after
+
+pub copied_level_alone : (s : State) (t n : ℕ) (c : CallValue) (x j : ℕ) (y z : BackedTexture) → IsAllowedGl s t n CopyTexImage2d c → (target_texture s n ≡ Some x → j ≢ level_of c) → texture_in s.objects x ≡ Some y → texture_in (step s t c).state.objects x ≡ Some z → storage_at j z ≡ storage_at j y
+copied_level_alone s t n c x j y z h ne before after = (copy_keeps_others s t n x c h (some_texture (object_at s x) y before)).levels j y z ne before after
 
 pub pixels_alone : (s : State) (t n : ℕ) (c : CallValue) (x : ℕ) (v : StorageValue) → IsAllowedGl s t n TexImage2d c → storage_in s.objects x ≡ Some v → is_some (object_at (step s t c).state x) ≡ true → storage_in (step s t c).state.objects x ≡ Some v
 pixels_alone s t n c x v h before there = sym ((keeps_others s t n x c h (some_storage (object_at s x) v before)).pixels there) ∙ before

@@ -3,7 +3,7 @@ use Rattle.std.proofs.Common.{◌≡◌, ◌≢◌, ℕ, ◌⊎◌, inl, inr, re
 use Rattle.std.proofs.lemmas.Bool.{leb-true, le-leb}
 use Rattle.egl_calls.specs.Calls.{CallValue, ReplyValue}
 use Rattle.egl_calls.specs.declared.kinds.EglKind.{EglKind}
-use Rattle.egl_calls.specs.declared.kinds.EglKind.TheVariants.{CreatePbufferSurface, CreateContext, ClientWaitSync}
+use Rattle.egl_calls.specs.declared.kinds.EglKind.TheVariants.{CreatePbufferSurface, CreateContext, CreateImage, ClientWaitSync}
 use Rattle.egl_calls.specs.declared.kinds.GlKind.{GlKind}
 use Rattle.egl_calls.specs.declared.kinds.GlKind.TheVariants.{ReadPixels}
 use Rattle.egl_calls.specs.declared.errors.EglError.{EglError}
@@ -12,7 +12,7 @@ use Rattle.egl_calls.specs.declared.errors.GlError.{GlError}
 use Rattle.egl_calls.specs.declared.errors.Outcome.{Outcome}
 use Rattle.egl_calls.specs.declared.errors.Outcome.TheVariants.{Done, Egl as RefusedEgl, Gl as RefusedGl, Waiting}
 use Rattle.call_rules.specs.EglAllowed.{PbufferWants, makes_handle}
-use Rattle.call_rules.proofs.EglLaws.{pbuffer_wants, wanting_pbuffer, context_wants, wanting_context, creations_want}
+use Rattle.call_rules.proofs.EglLaws.{pbuffer_wants, wanting_pbuffer, context_wants, wanting_context, image_wants, wanting_image, creations_want}
 use Rattle.egl_model.specs.State.{State}
 use Rattle.egl_model.specs.Effects.{Effect}
 use Rattle.egl_model.specs.EglEffects.{egl_effect}
@@ -22,10 +22,11 @@ use Rattle.egl_model.specs.GlFacts.{gl_refusal}
 use Rattle.egl_model.specs.Currents.{current_context}
 use Rattle.egl_model.specs.Surfaces.{pbuffer_facts}
 use Rattle.egl_model.specs.Contexts.{context_facts}
+use Rattle.egl_model.specs.Images.{new_image_facts}
 use Rattle.egl_model.specs.Handles.{are_used_up}
 use Rattle.egl_model.specs.Step.{Stepped, after_egl_rules, after_gl_rules, bare, egl_step, step}
 use Rattle.model_laws.specs.Laws.{IsEglCall, IsGlCall}
-use Rattle.model_laws.specs.Wants.{Answers, AnswersGl, AsksTooLarge, IsFaultlessContext, IsFaultlessPbuffer, WantsNumber, WantsVideo}
+use Rattle.model_laws.specs.Wants.{Answers, AnswersGl, AsksTooLarge, IsFaultlessContext, IsFaultlessImage, IsFaultlessPbuffer, WantsNumber, WantsVideo}
 use Rattle.model_laws.proofs.FrameLaws.{is_done}
 use Rattle.model_laws.proofs.RefusalLaws.{egl_call, gl_call, refused_egl_reply, refused_gl_reply}
 use Rattle.model_laws.proofs.StepLaws.{egl_done, gl_done, gl_with_context}
@@ -120,3 +121,12 @@ context_is_refused s t c h a =
 pub context_wants_number : (s : State) (t : ℕ) (c : CallValue) → IsEglCall s t CreateContext c → IsFaultlessContext s c × WantsNumber s → Answers s t c BadAlloc
 unfolding egl_refusal
 context_wants_number s t c h w = reply_of_refusal s t CreateContext c BadAlloc h (wanting_context c (context_facts s c) h.kind (w.0, from_number s w.1))
+
+pub image_is_refused : (s : State) (t : ℕ) (c : CallValue) → IsEglCall s t CreateImage c → Answers s t c BadAlloc → IsFaultlessImage s c × WantsNumber s
+unfolding egl_refusal
+image_is_refused s t c h a =
+    let w = image_wants c (new_image_facts s c) h.kind (refusal_of_reply s t CreateImage c BadAlloc h a) in (w.0, to_number s w.1)
+
+pub image_wants_number : (s : State) (t : ℕ) (c : CallValue) → IsEglCall s t CreateImage c → IsFaultlessImage s c × WantsNumber s → Answers s t c BadAlloc
+unfolding egl_refusal
+image_wants_number s t c h w = reply_of_refusal s t CreateImage c BadAlloc h (wanting_image c (new_image_facts s c) h.kind (w.0, from_number s w.1))

@@ -7,7 +7,7 @@ use Rattle.std.proofs.lemmas.List.Elements.{All-head, All-tail}
 use Rattle.std.proofs.lemmas.Bool.{eq-eqb}
 use Rattle.driver_objects.specs.declared.kinds.ObjectKind.{ObjectKind}
 use Rattle.driver_objects.specs.declared.objects.Object.{Object}
-use Rattle.driver_objects.specs.declared.objects.Object.TheVariants.{Context, Group, Texture, Buffer, Renderbuffer, Surface, Storage, Sync}
+use Rattle.driver_objects.specs.declared.objects.Object.TheVariants.{Context, Group, Texture, Buffer, Renderbuffer, Framebuffer, Surface, Storage, Image, Sync}
 use Rattle.driver_objects.specs.Objects.{kind_of, rank_of, rank_of_kind}
 use Rattle.model_laws.specs.Slots.{Slot, ends, held_slots, level_slots, name_slots, slots_of}
 use Rattle.share_group.specs.declared.names.Name.{Name}
@@ -151,8 +151,10 @@ edges_as_ends (Some (Group g)) = ends_group g
 edges_as_ends (Some (Texture x)) = ends_levels 0 x.levels
 edges_as_ends (Some (Buffer x)) = refl
 edges_as_ends (Some (Renderbuffer x)) = refl
+edges_as_ends (Some (Framebuffer x)) = refl
 edges_as_ends (Some (Surface x)) = refl
 edges_as_ends (Some (Storage x)) = refl
+edges_as_ends (Some (Image x)) = refl
 edges_as_ends (Some (Sync x)) = refl
 
 rank_of_some : (o : Option Object) (x : Object) → o ≡ Some x → rank_of x ≡ rank_in o

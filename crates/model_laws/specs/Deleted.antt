@@ -9,4 +9,4 @@ abbrev pub HasUnbound : NameKind → ℕ → Context → Type 0
 HasUnbound Texture x c = c.bound.texture ≢ Some x
 HasUnbound Buffer x c = (c.bound.array_buffer ≢ Some x) × (c.bound.element_array_buffer ≢ Some x)
 HasUnbound Renderbuffer x c = c.bound.renderbuffer ≢ Some x
-HasUnbound Framebuffer x c = Unit {0}
+HasUnbound Framebuffer x c = c.bound.framebuffer ≢ Some x

@@ -3,7 +3,7 @@ use Rattle.std.specs.Prelude.{◌≡◌, ℕ, Bool, true, false}
 use Rattle.egl_calls.specs.declared.kinds.Kind.{Kind}
 use Rattle.egl_calls.specs.declared.kinds.Kind.TheVariants.{Egl}
 use Rattle.egl_calls.specs.declared.kinds.EglKind.{EglKind}
-use Rattle.egl_calls.specs.declared.kinds.EglKind.TheVariants.{Initialize, Terminate, CreateWindowSurface, CreatePbufferSurface, CreateContext, DestroySurface, DestroyContext, CreateSync, DestroySync}
+use Rattle.egl_calls.specs.declared.kinds.EglKind.TheVariants.{Initialize, Terminate, CreateWindowSurface, CreatePbufferSurface, CreateContext, DestroySurface, DestroyContext, CreateSync, DestroySync, CreateImage, DestroyImage}
 use Rattle.egl_model.specs.State.{State}
 
 pub record Extent : Type 0 where
@@ -38,9 +38,11 @@ egl_extent CreateWindowSurface = making
 egl_extent CreatePbufferSurface = making
 egl_extent CreateContext = making
 egl_extent CreateSync = making
+egl_extent CreateImage = making
 egl_extent DestroySurface = dropping
 egl_extent DestroyContext = dropping
 egl_extent DestroySync = dropping
+egl_extent DestroyImage = dropping
 egl_extent k = quiet
 
 abbrev pub extent_of_kind : Kind → Extent

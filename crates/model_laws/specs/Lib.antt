@@ -16,3 +16,4 @@ pub mod Local
 pub mod Frame
 pub mod Refs
 pub mod Deleted
+pub mod Siblings

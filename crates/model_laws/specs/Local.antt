@@ -1,5 +1,5 @@
 -- Calls that a thread's private part answers.
-use Rattle.std.specs.Prelude.{ℕ, ℤ, pos, Bool, true, false, List, [], ◌||◌, ◌&&◌, ◌==◌, if◌then◌else◌, Option, None, Some, is_some}
+use Rattle.std.specs.Prelude.{ℕ, ℤ, pos, Bool, true, false, List, [], ◌||◌, ◌&&◌, ◌==◌, not, if◌then◌else◌, Option, None, Some, is_some}
 use Rattle.std.specs.Option.{option_map, option_map_or}
 use Rattle.egl_calls.specs.Calls.{CallValue, ReplyValue}
 use Rattle.egl_calls.specs.Errors.{egl_code}
@@ -50,14 +50,14 @@ is_local_egl k = false
 abbrev pub is_local_gl : GlKind → Bool
 is_local_gl k = is_some (context_gl_call k)
 
--- local where no context is current, or no framebuffer is bound; none can be bound yet
+-- local where no context is current, or the framebuffer of the window system is bound
 abbrev pub is_local_unbound : GlKind → Bool
 is_local_unbound Clear = true
 is_local_unbound ReadPixels = true
 is_local_unbound k = false
 
 abbrev pub has_framebuffer : PartValue → Bool
-has_framebuffer p = false
+has_framebuffer p = not (p.bound.framebuffer == 0)
 
 abbrev pub is_unbound : Option PartValue → Bool
 is_unbound None = true

@@ -1,5 +1,5 @@
 use Rattle.std.specs.Prelude.{◌≡◌, ◌+◌, ◌<◌, ◌≤◌, ◌⊎◌, ℕ, pos, ◌<ℤ◌, true, false, ◌==◌, is_some}
--- Where EGL_BAD_ALLOC (EGL 1.5, sections 3.5.1, 3.5.2, 3.7.1 and 3.8.1) and GL_OUT_OF_MEMORY (OpenGL ES 1.1, sections 2.9 and 3.7.1) come, in the words of the state before the call.
+-- Where EGL_BAD_ALLOC (EGL 1.5, sections 3.5.1, 3.5.2, 3.7.1, 3.8.1 and 3.9) and GL_OUT_OF_MEMORY (OpenGL ES 1.1, sections 2.9 and 3.7.1) come, in the words of the state before the call.
 use Rattle.egl_calls.specs.Calls.{CallValue}
 use Rattle.egl_calls.specs.declared.errors.EglError.{EglError}
 use Rattle.egl_calls.specs.declared.errors.GlError.{GlError}
@@ -9,7 +9,7 @@ use Rattle.egl_calls.specs.Arguments.{signed}
 use Rattle.egl_names.specs.declared.codes.TheConstants.{EGL_SYNC_FENCE}
 use Rattle.attrib_lists.specs.declared.allowed.Allowed.TheVariants.{Window}
 use Rattle.config_match.specs.Table.{is_config}
-use Rattle.call_rules.specs.EglAllowed.{ContextAsked, HasDisplay, PbufferAsked}
+use Rattle.call_rules.specs.EglAllowed.{ContextAsked, HasDisplay, ImageAsked, PbufferAsked}
 use Rattle.call_rules.specs.EglRules.{has_attributes, has_code}
 use Rattle.egl_model.specs.State.{State}
 use Rattle.egl_model.specs.Arguments.{number}
@@ -17,6 +17,7 @@ use Rattle.egl_model.specs.Configs.{is_list_allowed}
 use Rattle.egl_model.specs.Contexts.{context_facts}
 use Rattle.egl_model.specs.Currents.{current_context, display_at}
 use Rattle.egl_model.specs.Displays.{display_facts}
+use Rattle.egl_model.specs.Images.{new_image_facts}
 use Rattle.egl_model.specs.Windows.{is_used_at, is_window_config, named_place, named_spec}
 use Rattle.egl_model.specs.Surfaces.{asked_height, asked_width, asks_for_largest, surface_bytes, pbuffer_facts, side_of}
 use Rattle.egl_model.specs.Renderbuffers.{renderbuffer_bytes}
@@ -38,6 +39,9 @@ IsFaultlessPbuffer s c = PbufferAsked (pbuffer_facts s c)
 
 abbrev pub IsFaultlessContext : State → CallValue → Type 0
 IsFaultlessContext s c = ContextAsked (context_facts s c)
+
+abbrev pub IsFaultlessImage : State → CallValue → Type 0
+IsFaultlessImage s c = ImageAsked c (new_image_facts s c)
 
 -- the config has windows, the list is allowed, and the window is declared
 pub record IsFaultlessWindow (s : State) (c : CallValue) : Type 0 where

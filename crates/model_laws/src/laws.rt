@@ -8,9 +8,9 @@ ghost use Rattle.egl_calls.specs.Calls.{CallValue};
 ghost use Rattle.egl_calls.specs.declared.entries.Entry.{Entry};
 ghost use Rattle.egl_calls.specs.declared.kinds.Kind.TheVariants.{Egl, Own};
 ghost use Rattle.egl_calls.specs.declared.kinds.EglKind.{EglKind};
-ghost use Rattle.egl_calls.specs.declared.kinds.EglKind.TheVariants.{Initialize, Terminate, CreatePbufferSurface, CreateContext, DestroySurface, DestroyContext, ReleaseThread, CreateWindowSurface, CreateSync, DestroySync, ClientWaitSync};
+ghost use Rattle.egl_calls.specs.declared.kinds.EglKind.TheVariants.{Initialize, Terminate, CreatePbufferSurface, CreateContext, DestroySurface, DestroyContext, ReleaseThread, CreateWindowSurface, CreateSync, DestroySync, ClientWaitSync, CreateImage, DestroyImage};
 ghost use Rattle.egl_calls.specs.declared.kinds.GlKind.{GlKind};
-ghost use Rattle.egl_calls.specs.declared.kinds.GlKind.TheVariants.{CopyTexImage2d, DeleteTextures, TexImage2d, BufferData, DeleteBuffers, DeleteRenderbuffers, RenderbufferStorage};
+ghost use Rattle.egl_calls.specs.declared.kinds.GlKind.TheVariants.{CopyTexImage2d, DeleteTextures, TexImage2d, BufferData, DeleteBuffers, DeleteRenderbuffers, RenderbufferStorage, ImageTargetTexture2d, ImageTargetRenderbufferStorage};
 ghost use Rattle.egl_calls.specs.Ranges.{unsigned};
 ghost use Rattle.egl_calls.specs.declared.kinds.OwnKind.{OwnKind};
 ghost use Rattle.egl_calls.specs.declared.kinds.OwnKind.TheVariants.{ReadBuffer, WaitEnd};
@@ -23,7 +23,7 @@ ghost use Rattle.context_state.specs.Parts.{PartValue};
 ghost use Rattle.call_rules.specs.EglAllowed.{makes_handle};
 ghost use Rattle.call_rules.specs.GlAllowed.{CopyAsked, ImageAsked, DataAsked, StorageAsked};
 ghost use Rattle.call_rules.specs.EglRules.{is_release};
-ghost use Rattle.display_table.specs.declared.handles.HandleKind.TheVariants.{Context, Surface, Sync};
+ghost use Rattle.display_table.specs.declared.handles.HandleKind.TheVariants.{Context, Surface, Image, Sync};
 ghost use Rattle.surface_store.specs.Windows.{windows_ok};
 ghost use Rattle.surface_store.specs.declared.windows.WindowSpec.{WindowSpec};
 ghost use Rattle.egl_model.specs.State.{State, object_at, opening, record_of, set_error, initial, has_object};
@@ -33,6 +33,7 @@ ghost use Rattle.egl_model.specs.Flushes.{flushed};
 ghost use Rattle.egl_model.specs.Objects.{context_in, fence_in, storage_in, texture_in};
 ghost use Rattle.egl_model.specs.Names.{group_of, names_in, object_named};
 ghost use Rattle.egl_model.specs.Textures.{level_of, storage_at, target_texture};
+ghost use Rattle.egl_model.specs.Renderbuffers.{target_renderbuffer};
 ghost use Rattle.driver_objects.specs.Storages.{StorageValue};
 ghost use Rattle.driver_objects.specs.declared.contexts.Context.{Context as AContext};
 ghost use Rattle.driver_objects.specs.declared.textures.BackedTexture.{BackedTexture};
@@ -55,13 +56,14 @@ ghost use Rattle.model_laws.specs.Kinds.{IsA, KindsFit};
 ghost use Rattle.model_laws.specs.DisplayCalls.{IsInitialized, IsTerminated};
 ghost use Rattle.model_laws.specs.CurrentCalls.{HasNoneCurrent, IsBoundBy, IsMadeCurrent};
 ghost use Rattle.model_laws.specs.NewHandles.{HasNewHandle};
+ghost use Rattle.model_laws.specs.Siblings.{LeavesSiblings};
 ghost use Rattle.egl_model.specs.Displays.{is_initialized};
 ghost use Rattle.egl_model.specs.Arguments.{number};
 ghost use Rattle.model_laws.specs.Sound.{IsSound};
 ghost use Rattle.model_laws.specs.Refs.{AreNamesApart, size, objects_gone, refs_gone};
 ghost use Rattle.egl_model.specs.Syncs.{flush_for, sync_handle, waits_forever};
 ghost use Rattle.egl_names.specs.declared.codes.TheConstants.{EGL_CONDITION_SATISFIED, EGL_TIMEOUT_EXPIRED};
-ghost use Rattle.model_laws.specs.Wants.{Answers, AnswersGl, AsksTooLarge, IsFaultlessContext, IsFaultlessPbuffer, IsFaultlessSync, IsFaultlessWindow, IsWindowUsed, PixelsFit, WantsCopy, WantsImage, WantsNumber, WantsVideo, WantsWindowPixels, asked_bytes, WantsData, WantsStorage};
+ghost use Rattle.model_laws.specs.Wants.{Answers, AnswersGl, AsksTooLarge, IsFaultlessContext, IsFaultlessImage, IsFaultlessPbuffer, IsFaultlessSync, IsFaultlessWindow, IsWindowUsed, PixelsFit, WantsCopy, WantsImage, WantsNumber, WantsVideo, WantsWindowPixels, asked_bytes, WantsData, WantsStorage};
 
 /// A sweep leaves each object that chains of references reach as it is, and no other; it changes what is reached for none.
 pub fn a_sweep_keeps_what_is_reached()
@@ -161,11 +163,12 @@ pub fn a_step_keeps_other_threads()
 
 /// A handle stays valid but by eglTerminate, which takes those of its display alone, and by the calls that destroy, which take the one that they are given alone (EGL 1.5, section 2.1).
 pub fn handles_stay_valid()
-    ensures other_calls { (s : State) (t : ℕ) (c : CallValue) → c.kind ≢ Egl Terminate → c.kind ≢ Egl DestroySurface → c.kind ≢ Egl DestroyContext → c.kind ≢ Egl DestroySync → StayValid s (step s t c).state }
+    ensures other_calls { (s : State) (t : ℕ) (c : CallValue) → c.kind ≢ Egl Terminate → c.kind ≢ Egl DestroySurface → c.kind ≢ Egl DestroyContext → c.kind ≢ Egl DestroySync → c.kind ≢ Egl DestroyImage → StayValid s (step s t c).state }
     ensures terminated { (s : State) (t : ℕ) (c : CallValue) (h : Handle) → IsTerminated s t c → (h.display == number c 0) ≡ false → Contains s.handles h → Contains (step s t c).state.handles h }
     ensures surface { (s : State) (t : ℕ) (c : CallValue) → IsAllowedEgl s t DestroySurface c → IsRemoved s (step s t c).state (number c 1) }
     ensures context { (s : State) (t : ℕ) (c : CallValue) → IsAllowedEgl s t DestroyContext c → IsRemoved s (step s t c).state (number c 1) }
     ensures sync { (s : State) (t : ℕ) (c : CallValue) → IsAllowedEgl s t DestroySync c → IsRemoved s (step s t c).state (number c 1) }
+    ensures image { (s : State) (t : ℕ) (c : CallValue) → IsAllowedEgl s t DestroyImage c → IsRemoved s (step s t c).state (number c 1) }
 {}
 
 /// What is destroyed stays current to each thread to which it is (sections 3.5.5 and 3.7.2).
@@ -209,7 +212,7 @@ pub fn make_current_binds_what_it_is_given()
     ensures wait { (s : State) (t : ℕ) (c : CallValue) → IsMadeCurrent s t c → (record_of (step s t c).state t).wait ≡ None }
 {}
 
-/// Where no rule refuses an eglCreateWindowSurface, an eglCreatePbufferSurface, an eglCreateContext or an eglCreateSync, it answers the number of a new handle, which names a new object of its kind, and the next number rises by one (EGL 1.5, sections 3.5.1, 3.5.2, 3.7.1 and 3.8.1). It rises at no other call, and at none that isn't done.
+/// Where no rule refuses an eglCreateWindowSurface, an eglCreatePbufferSurface, an eglCreateContext, an eglCreateSync or an eglCreateImage, it answers the number of a new handle, which names a new object of its kind, and the next number rises by one (EGL 1.5, sections 3.5.1, 3.5.2, 3.7.1, 3.8.1 and 3.9). It rises at no other call, and at none that isn't done.
 pub fn a_new_handle_names_its_object()
     ensures window { (s : State) (t : ℕ) (c : CallValue) → IsAllowedEgl s t CreateWindowSurface c → HasNewHandle s (step s t c).state (number c 0) Surface }
     ensures window_reply { (s : State) (t : ℕ) (c : CallValue) → IsAllowedEgl s t CreateWindowSurface c → (step s t c).reply.value ≡ pos s.next_handle }
@@ -219,7 +222,9 @@ pub fn a_new_handle_names_its_object()
     ensures context_reply { (s : State) (t : ℕ) (c : CallValue) → IsAllowedEgl s t CreateContext c → (step s t c).reply.value ≡ pos s.next_handle }
     ensures sync { (s : State) (t : ℕ) (c : CallValue) → IsAllowedEgl s t CreateSync c → HasNewHandle s (step s t c).state (number c 0) Sync }
     ensures sync_reply { (s : State) (t : ℕ) (c : CallValue) → IsAllowedEgl s t CreateSync c → (step s t c).reply.value ≡ pos s.next_handle }
-    ensures others { (s : State) (t : ℕ) (c : CallValue) → c.kind ≢ Egl CreateWindowSurface → c.kind ≢ Egl CreatePbufferSurface → c.kind ≢ Egl CreateContext → c.kind ≢ Egl CreateSync → (step s t c).state.next_handle ≡ s.next_handle }
+    ensures image { (s : State) (t : ℕ) (c : CallValue) → IsAllowedEgl s t CreateImage c → HasNewHandle s (step s t c).state (number c 0) Image }
+    ensures image_reply { (s : State) (t : ℕ) (c : CallValue) → IsAllowedEgl s t CreateImage c → (step s t c).reply.value ≡ pos s.next_handle }
+    ensures others { (s : State) (t : ℕ) (c : CallValue) → c.kind ≢ Egl CreateWindowSurface → c.kind ≢ Egl CreatePbufferSurface → c.kind ≢ Egl CreateContext → c.kind ≢ Egl CreateSync → c.kind ≢ Egl CreateImage → (step s t c).state.next_handle ≡ s.next_handle }
     ensures undone { (s : State) (t : ℕ) (c : CallValue) → (step s t c).reply.outcome ≢ Done → (step s t c).state.next_handle ≡ s.next_handle }
 {}
 
@@ -275,10 +280,20 @@ pub fn a_renderbuffer_wants_pixels()
     ensures { (s : State) (t n : ℕ) (c : CallValue) → IsGlCall s t RenderbufferStorage c → current_context s t ≡ Some n → AnswersGl s t c OutOfMemory ↔ (StorageAsked c (storage_facts s n c) × WantsStorage s c) }
 {}
 
-/// A glTexImage2D gives one level of one texture: each other level of a texture that is still there has the storage that it had, and each storage that is still there is as it was (section 3.7.1).
+/// A glTexImage2D or a glCopyTexImage2D gives one level of one texture: each other level of a texture that is still there has the storage that it had, and each storage that is still there is as it was (sections 3.7.1 and 3.7.2).
 pub fn a_level_is_given_alone()
     ensures levels { (s : State) (t n : ℕ) (c : CallValue) (x j : ℕ) (y z : BackedTexture) → IsAllowedGl s t n TexImage2d c → (target_texture s n ≡ Some x → j ≢ level_of c) → texture_in s.objects x ≡ Some y → texture_in (step s t c).state.objects x ≡ Some z → storage_at j z ≡ storage_at j y }
+    ensures copied_levels { (s : State) (t n : ℕ) (c : CallValue) (x j : ℕ) (y z : BackedTexture) → IsAllowedGl s t n CopyTexImage2d c → (target_texture s n ≡ Some x → j ≢ level_of c) → texture_in s.objects x ≡ Some y → texture_in (step s t c).state.objects x ≡ Some z → storage_at j z ≡ storage_at j y }
     ensures pixels { (s : State) (t n : ℕ) (c : CallValue) (x : ℕ) (v : StorageValue) → IsAllowedGl s t n TexImage2d c → storage_in s.objects x ≡ Some v → has_object (step s t c).state x ≡ true → storage_in (step s t c).state.objects x ≡ Some v }
+{}
+
+/// A call that gives a level of a texture or a renderbuffer other pixels, new ones or those of an EGL image, changes that object alone: each other object that is still there is as it was, and so is each storage. So siblings keep the pixels that they share (sections 3.7.1 and 3.7.2; OES_framebuffer_object; OES_EGL_image).
+pub fn siblings_keep_their_pixels()
+    ensures given { (s : State) (t n : ℕ) (c : CallValue) → IsAllowedGl s t n TexImage2d c → LeavesSiblings s (step s t c).state (target_texture s n) }
+    ensures copied { (s : State) (t n : ℕ) (c : CallValue) → IsAllowedGl s t n CopyTexImage2d c → LeavesSiblings s (step s t c).state (target_texture s n) }
+    ensures stored { (s : State) (t n : ℕ) (c : CallValue) → IsAllowedGl s t n RenderbufferStorage c → LeavesSiblings s (step s t c).state (target_renderbuffer s n) }
+    ensures texture { (s : State) (t n : ℕ) (c : CallValue) → IsAllowedGl s t n ImageTargetTexture2d c → LeavesSiblings s (step s t c).state (target_texture s n) }
+    ensures renderbuffer { (s : State) (t n : ℕ) (c : CallValue) → IsAllowedGl s t n ImageTargetRenderbufferStorage c → LeavesSiblings s (step s t c).state (target_renderbuffer s n) }
 {}
 
 /// A name that a glDeleteTextures, a glDeleteBuffers or a glDeleteRenderbuffersOES is given is free at once, whoever still has its object bound (sections 3.7.11 and 2.9; OES_framebuffer_object). The object is gone with the last reference to it, as each object is.
@@ -318,6 +333,12 @@ pub fn a_window_wants_to_be_free_pixels_or_a_number()
 pub fn a_sync_wants_a_number()
     ensures faultless { (s : State) (t : ℕ) (c : CallValue) → IsEglCall s t CreateSync c → Answers s t c BadAlloc → IsFaultlessSync s t c }
     ensures wants { (s : State) (t : ℕ) (c : CallValue) → IsEglCall s t CreateSync c → IsFaultlessSync s t c → Answers s t c BadAlloc ↔ WantsNumber s }
+{}
+
+/// eglCreateImage answers EGL_BAD_ALLOC only where nothing else is wrong, and then exactly where the numbers of handles are used up (section 3.9): an image shares the pixels that it is made of.
+pub fn an_image_wants_a_number()
+    ensures faultless { (s : State) (t : ℕ) (c : CallValue) → IsEglCall s t CreateImage c → Answers s t c BadAlloc → IsFaultlessImage s c }
+    ensures wants { (s : State) (t : ℕ) (c : CallValue) → IsEglCall s t CreateImage c → IsFaultlessImage s c → Answers s t c BadAlloc ↔ WantsNumber s }
 {}
 
 /// An eglClientWaitSync that no rule refuses is satisfied exactly where the sync is signalled behind the flush that it asks for; else it waits where its timeout is for ever, and where it isn't its time is over at once (section 3.8.1.1).

@@ -1,0 +1,64 @@
+-- What the calls that attach to framebuffers keep, and how what calls on framebuffers look at passes what is put for others.
+use Rattle.std.proofs.Common.{◌≡◌, ℕ, [], ◌∷◌, List, refl, sym, ap, subst, ◌∙◌, Option, None, Some}
+use Rattle.std.specs.Prelude.{if◌then◌else◌}
+use Rattle.std.specs.Option.{option_and_then, option_map}
+use Rattle.egl_calls.specs.Calls.{CallValue}
+use Rattle.framebuffer_objects.specs.Framebuffers.{at_point, object_of, with_point}
+use Rattle.framebuffer_objects.specs.declared.framebuffers.Attached.{Attached}
+use Rattle.framebuffer_objects.specs.declared.points.Point.{Point}
+use Rattle.driver_objects.specs.declared.kinds.ObjectKind.TheVariants.{Renderbuffer as a_renderbuffer, Texture as a_texture}
+use Rattle.share_group.specs.declared.names.NameKind.{NameKind}
+use Rattle.share_group.specs.declared.names.NameKind.TheVariants.{Renderbuffer as renderbuffers, Texture as textures}
+use Rattle.egl_model.specs.Arguments.{number}
+use Rattle.egl_model.specs.Framebuffers.{attached, attachment_of, called_point, given_attachment, is_texture_name, target_framebuffer}
+use Rattle.egl_model.specs.Names.{group_of, kind_named, object_named}
+use Rattle.egl_model.specs.Objects.{change_framebuffer, with_framebuffer}
+use Rattle.egl_model.specs.Parts.{put_own}
+use Rattle.egl_model.specs.State.{State, object_at}
+use Rattle.model_laws.specs.Extents.{quiet}
+use Rattle.model_laws.specs.Shapes.{Goes, Shape, shapes}
+use Rattle.model_laws.specs.Slots.{attached_kind}
+use Rattle.model_laws.specs.Sound.{IsWhole}
+use Rattle.model_laws.proofs.BoundFramebuffers.{blind-framebuffer_of, blind-target_framebuffer}
+use Rattle.model_laws.proofs.Keeps.{Acts, Blind, acts_of, acts_self, by_quiet_moves}
+use Rattle.model_laws.proofs.LinkSetters.{goes_name, setter-framebuffer, suits-point}
+use Rattle.model_laws.proofs.Moves.{Change}
+use Rattle.model_laws.proofs.NameCalls.{blind-group_of, blind-named}
+
+-- ---- What is attached.
+pub blind-attachment_of : (t n : ℕ) (c : CallValue) (s : State) → Blind t s (λ a. attachment_of a n c)
+blind-attachment_of t n c s w v x ne = ap (λ o. option_and_then (at_point (called_point c)) o) (blind-framebuffer_of t n s w v x ne)
+
+-- what has the name that a call gives
+pub blind-called_object : (t n : ℕ) (k : NameKind) (name : ℕ) (s : State) → Blind t s (λ a. object_named a (group_of a n) k name)
+blind-called_object t n k name s w v x ne = ap (λ g. object_named (put_own s v x) g k name) (blind-group_of t n s w v x ne) ∙ blind-named t (group_of s n) k name s w v x ne
+
+blind-given : (t n : ℕ) (k : NameKind) (c : CallValue) (s : State) → Blind t s (λ a. given_attachment k a n c)
+blind-given t n k c s w v x ne = ap (λ o. option_map (λ y. record { texture = is_texture_name k; name = number c 3; object = y }) o) (blind-called_object t n k (number c 3) s w v x ne)
+
+-- ---- glFramebufferTexture2DOES and glFramebufferRenderbufferOES.
+-- names of a kind that may be attached: an attachment tells the kind of what has the name
+record TellsKind (k : NameKind) : Type 0 where
+  told : kind_named k ≡ (if is_texture_name k then a_texture else a_renderbuffer)
+
+goes_given : (sh : List (Option Shape)) (k : NameKind) (name : ℕ) (o : Option ℕ) → TellsKind k → Goes sh (kind_named k) o →
+    Goes sh (attached_kind (option_map (λ y. record { texture = is_texture_name k; name = name; object = y }) o)) (object_of (option_map (λ y. record { texture = is_texture_name k; name = name; object = y }) o))
+goes_given sh k name None d g = tt
+goes_given sh k name (Some x) d g = subst (λ kind. Goes sh kind (Some x)) d.told g
+
+acts-attached_to : (s : State) (t : ℕ) (point : Point) (a : Option Attached) (o : Option ℕ) → (IsWhole (shapes s.objects) s → Goes (shapes s.objects) (attached_kind a) (object_of a)) → Acts quiet t s (λ z. attached point a o z)
+unfolding change_framebuffer
+acts-attached_to s t point a None g = acts_self t s
+acts-attached_to s t point a (Some b) g = by_quiet_moves t s (Change b (with_framebuffer (with_point point a)) ∷ []) refl (setter-framebuffer (with_point point a), tt) (λ w. (suits-point t (shapes s.objects) s b point a (g w), tt))
+
+acts-attached_named : (s : State) (t n : ℕ) (k : NameKind) (c : CallValue) → TellsKind k → Acts quiet t s (λ a. attached (called_point c) (given_attachment k a n c) (target_framebuffer a n) a)
+acts-attached_named s t n k c d = acts_of quiet t s (λ a. given_attachment k a n c) (λ b a. attached (called_point c) b (target_framebuffer a n) a) (blind-given t n k c s)
+    (acts_of quiet t s (λ a. target_framebuffer a n) (λ o a. attached (called_point c) (given_attachment k s n c) o a) (blind-target_framebuffer t n s)
+    (acts-attached_to s t (called_point c) (given_attachment k s n c) (target_framebuffer s n)
+    (λ w. goes_given (shapes s.objects) k (number c 3) (object_named s (group_of s n) k (number c 3)) d (goes_name (shapes s.objects) (object_at s (group_of s n)) k (number c 3) (w.kinds.objects (group_of s n))))))
+
+pub acts-attached_texture : (s : State) (t n : ℕ) (c : CallValue) → Acts quiet t s (λ a. attached (called_point c) (given_attachment textures a n c) (target_framebuffer a n) a)
+acts-attached_texture s t n c = acts-attached_named s t n textures c (record { told = refl })
+
+pub acts-attached_renderbuffer : (s : State) (t n : ℕ) (c : CallValue) → Acts quiet t s (λ a. attached (called_point c) (given_attachment renderbuffers a n c) (target_framebuffer a n) a)
+acts-attached_renderbuffer s t n c = acts-attached_named s t n renderbuffers c (record { told = refl })
