@@ -1,5 +1,5 @@
 -- What a thread looks at, and what is put for another thread doesn't change: one lemma for each way to look at a state.
-use Rattle.std.proofs.Common.{◌≡◌, ℕ, Bool, true, false, ◌||◌, List, [], ◌∷◌, zero, suc, refl, sym, ap, ◌∙◌, length, get_or, set, Option, None, Some, is_some}
+use Rattle.std.proofs.Common.{◌≡◌, ℕ, Bool, true, false, ◌||◌, List, [], ◌∷◌, zero, suc, refl, sym, ap, ◌∙◌, length, get_or, set, Option, None, Some}
 use Rattle.egl_calls.specs.declared.errors.EglError.{EglError}
 use Rattle.std.specs.List.{list_any}
 use Rattle.std.specs.Option.{option_and_then, option_map, option_map_or}
@@ -199,6 +199,12 @@ draws_alone s t n b has e w u ne = ne_true (draws s.objects n (record_of s u)) (
     by_two : (b : Bool) → is_place n (draw_storage s u) ≡ b → draws s.objects n (record_of s u) ≡ true → ⊥
     by_two true f h = meet (record_of s u).draw (λ m i. or_left _ (is_bound m (record_of s u).read) i) f
     by_two false f h = meet (record_of s u).read (λ m i. or_right (is_bound m (record_of s u).draw) _ i) (sym (ap (λ b. b || is_place n (read_storage s u)) f) ∙ h)
+
+-- what stands among the pixels of an object that isn't a surface is no surface's
+pub free_pixels : (s : State) (n k : ℕ) → own_in (object_at s n) ≡ None → is_in k (pixels_in (object_at s n)) ≡ true → IsWhole (shapes s.objects) s → IsFree (shapes s.objects) k
+free_pixels s n k none h w = record {
+  each = λ m e. let same : n ≡ m = w.storages.each m n k e h in none-some k (sym (own_at-shapes s.objects n ∙ none) ∙ ap (own_at (shapes s.objects)) same ∙ e);
+}
 
 -- a storage of no surface is drawn to by none
 pub free_undrawn : (s : State) (t n : ℕ) → IsFree (shapes s.objects) n → NoneElse (draws s.objects n) s.threads t

@@ -1,9 +1,8 @@
 -- The framebuffer that is bound to a thread: what is put for another thread doesn't change it, and no other thread draws to its storages, nor reads from them.
-use Rattle.std.proofs.Common.{◌≡◌, ℕ, Bool, true, false, cond, ◌==◌, [], ◌∷◌, refl, sym, ap, ◌∙◌, Option, None, Some}
+use Rattle.std.proofs.Common.{◌≡◌, ℕ, Bool, true, false, ◌==◌, [], ◌∷◌, refl, ap, ◌∙◌, Option, None, Some}
 use Rattle.std.specs.Prelude.{if◌then◌else◌, unwrap_or}
 use Rattle.std.specs.Option.{option_and_then}
 use Rattle.std.proofs.lemmas.Option.{none-some}
-use Rattle.context_state.specs.Parts.{PartValue}
 use Rattle.framebuffer_objects.specs.Completeness.{status}
 use Rattle.framebuffer_objects.specs.Framebuffers.{FramebufferValue, fresh, object_of}
 use Rattle.framebuffer_objects.specs.declared.completeness.Part.{Part}
@@ -12,19 +11,18 @@ use Rattle.framebuffer_objects.specs.declared.points.Point.{Point}
 use Rattle.framebuffer_objects.specs.declared.points.Point.TheVariants.{Depth, Stencil}
 use Rattle.driver_objects.specs.declared.objects.Object.{Object}
 use Rattle.driver_objects.specs.declared.objects.Object.TheVariants.{Context, Renderbuffer, Storage, Texture}
-use Rattle.egl_model.specs.Currents.{current_context, draw_storage, part_of_context, read_storage}
-use Rattle.egl_model.specs.Framebuffers.{BoundFramebuffer, attached_storage, backed_part, bound_framebuffer, color_part_in, color_storage, current_framebuffer_name, framebuffer_name, framebuffer_of, is_complete, object_framebuffer, part_in, status_in, stored_part, target_framebuffer, window_framebuffer, window_status}
+use Rattle.egl_model.specs.Currents.{current_context, part_of_context}
+use Rattle.egl_model.specs.Framebuffers.{BoundFramebuffer, attached_storage, backed_part, bound_framebuffer, color_part_in, current_framebuffer_name, framebuffer_name, framebuffer_of, is_complete, object_framebuffer, part_in, status_in, stored_part, target_framebuffer, window_framebuffer, window_status}
 use Rattle.egl_model.specs.Graph.{is_in}
 use Rattle.egl_model.specs.Objects.{as_framebuffer, as_renderbuffer, as_storage, framebuffer_in, storage_in}
 use Rattle.egl_model.specs.Parts.{put_own}
 use Rattle.egl_model.specs.State.{State, object_at}
 use Rattle.egl_model.specs.Textures.{pixels_at}
-use Rattle.model_laws.specs.Shapes.{IsFree, own_at, pixels_in, shapes}
+use Rattle.model_laws.specs.Shapes.{IsFree, pixels_in, shapes}
 use Rattle.model_laws.specs.Sound.{IsWhole}
-use Rattle.model_laws.proofs.Blinds.{blind-context, blind-current, blind-draw, blind-object, blind-own_part, blind-own_storage, blind-read, draw_alone, free_undrawn, read_alone}
+use Rattle.model_laws.proofs.Blinds.{blind-context, blind-current, blind-draw, blind-object, blind-own_part, blind-own_storage, blind-read, draw_alone, free_pixels, free_undrawn, read_alone}
 use Rattle.model_laws.proofs.Keeps.{Blind}
 use Rattle.model_laws.proofs.Moves.{NoneElse, draws, own_in}
-use Rattle.model_laws.proofs.Places.{own_at-shapes}
 use Rattle.model_laws.proofs.Slots.{in_levels}
 use Rattle.model_laws.proofs.Writes.{IsBlind}
 
@@ -142,11 +140,7 @@ unowned n (Some (Renderbuffer x)) h = refl
 unowned n o h = absurd (none-some n h)
 
 free_attached : (s : State) (n x : ℕ) → attached_storage s.objects x ≡ Some n → IsWhole (shapes s.objects) s → IsFree (shapes s.objects) n
-free_attached s n x h w = record {
-  each = λ m e.
-      let same : x ≡ m = w.storages.each m x n e (in_pixels n (object_at s x) h) in
-      none-some n (sym (own_at-shapes s.objects x ∙ unowned n (object_at s x) h) ∙ ap (own_at (shapes s.objects)) same ∙ e);
-}
+free_attached s n x h w = free_pixels s x n (unowned n (object_at s x) h) (in_pixels n (object_at s x) h) w
 
 free_color : (s : State) (n : ℕ) (o : Option ℕ) → option_and_then (attached_storage s.objects) o ≡ Some n → IsWhole (shapes s.objects) s → IsFree (shapes s.objects) n
 free_color s n None h w = absurd (none-some n h)

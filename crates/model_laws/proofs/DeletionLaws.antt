@@ -38,7 +38,7 @@ group_context : (f : GroupValue → GroupValue) (o : Option Object) → as_conte
 group_context f (Some (Group g)) = refl
 group_context f o = refl
 
-freed_context : (k : NameKind) (g m name : ℕ) (os : List (Option Object)) → context_in (change_group (with_name_of k name None) g os) m ≡ context_in os m
+pub freed_context : (k : NameKind) (g m name : ℕ) (os : List (Option Object)) → context_in (change_group (with_name_of k name None) g os) m ≡ context_in os m
 unfolding change_group
 freed_context k g m name os = same_at_set as_context os g (with_group (with_name_of k name None) (get_or os g None)) None (group_context (with_name_of k name None) (get_or os g None)) m
 
@@ -46,7 +46,7 @@ framebuffer_context : (f : FramebufferValue → FramebufferValue) (o : Option Ob
 framebuffer_context f (Some (Framebuffer x)) = refl
 framebuffer_context f o = refl
 
-detached_context : (b : Option ℕ) (x m : ℕ) (os : List (Option Object)) → context_in (detached_on b x os) m ≡ context_in os m
+pub detached_context : (b : Option ℕ) (x m : ℕ) (os : List (Option Object)) → context_in (detached_on b x os) m ≡ context_in os m
 unfolding change_framebuffer
 detached_context None x m os = refl
 detached_context (Some b) x m os = same_at_set as_context os b (with_framebuffer (detached_from x) (get_or os b None)) None (framebuffer_context (detached_from x) (get_or os b None)) m
@@ -97,7 +97,7 @@ none_at ElementArrayBuffer x c h = none-some x h
 none_at RenderbufferTarget x c h = none-some x h
 none_at FramebufferTarget x c h = none-some x h
 
-no_place : (x : ℕ) (o : Option ℕ) → is_place x o ≡ false → o ≢ Some x
+pub no_place : (x : ℕ) (o : Option ℕ) → is_place x o ≡ false → o ≢ Some x
 no_place x o e h = false≢true (sym e ∙ ap (is_place x) h ∙ eq-eqb x x refl)
 
 unbound_here : (b : BindTarget) (x : ℕ) (c : ContextObject) → NotAt b x (unbound_at b x c)
@@ -178,7 +178,7 @@ all_later k g n x [] s h = h
 all_later k g n x (z ∷ xs) s h = all_later k g n x xs (deleted_name k g n (unsigned z) s) (name_later k g n (unsigned z) x s h)
 
 -- another name keeps its object
-other_name : (k : NameKind) (g n name other : ℕ) (s : State) → other ≢ name → object_named (deleted_name k g n name s) g k other ≡ object_named s g k other
+pub other_name : (k : NameKind) (g n name other : ℕ) (s : State) → other ≢ name → object_named (deleted_name k g n name s) g k other ≡ object_named s g k other
 unfolding names_at
 other_name k g n name other s ne = ap (object_of other) (names_deleted k g n name s) ∙ ((frees_one name (names_at k (object_at s g))).others other ne).1
 

@@ -1,5 +1,5 @@
 -- What the calls on EGL images keep, and how they pass what is put for others.
-use Rattle.std.proofs.Common.{◌≡◌, ℕ, zero, suc, ◌+◌, ◌&&◌, ◌||◌, ◌==◌, not, Bool, true, false, ℤ, pos, cond, List, [], ◌∷◌, ◌++◌, refl, sym, ap, subst, ◌∙◌, arith, inr, length, get_or, map, is_some, Option, None, Some}
+use Rattle.std.proofs.Common.{◌≡◌, ℕ, zero, suc, ◌+◌, ◌&&◌, ◌||◌, ◌==◌, not, Bool, true, false, ℤ, pos, cond, List, [], ◌∷◌, ◌++◌, refl, ap, subst, ◌∙◌, arith, inr, length, get_or, map, is_some, Option, None, Some}
 use Rattle.std.specs.List.{count_by, list_any, sum_by}
 use Rattle.std.specs.Option.{option_and_then, option_map_or}
 use Rattle.std.proofs.Math.Path.{fun_ext}
@@ -8,8 +8,6 @@ use Rattle.std.proofs.lemmas.Option.{none-some, same_Some}
 use Rattle.egl_calls.specs.Calls.{CallValue}
 use Rattle.egl_calls.specs.declared.places.TheConstants.{CLIENT_BUFFER, DISPLAY, NAMED, TARGET_IMAGE}
 use Rattle.call_rules.specs.GlRules.{no_gl_facts}
-use Rattle.call_rules.specs.declared.egl_facts.EglFacts.{EglFacts}
-use Rattle.call_rules.specs.declared.gl_facts.GlFacts.{GlFacts}
 use Rattle.display_table.specs.declared.handles.Handle.{Handle}
 use Rattle.display_table.specs.declared.handles.HandleKind.TheVariants.{Context as a_context, Image as an_image}
 use Rattle.driver_objects.specs.declared.kinds.ObjectKind.TheVariants.{Image as an_image_kind, Storage as a_storage}
@@ -21,8 +19,7 @@ use Rattle.egl_image.specs.declared.images.EglImage.{EglImage}
 use Rattle.texture_objects.specs.Levels.{is_complete}
 use Rattle.texture_objects.specs.declared.levels.Shape.{Shape as LevelShape}
 use Rattle.egl_model.specs.Arguments.{number}
-use Rattle.egl_model.specs.Configs.{is_list_allowed}
-use Rattle.egl_model.specs.Draws.{level_shapes, shape_in}
+use Rattle.egl_model.specs.Draws.{level_shapes}
 use Rattle.egl_model.specs.GlFacts.{renderbuffer_image_facts, target_image_facts}
 use Rattle.egl_model.specs.Graph.{is_in}
 use Rattle.egl_model.specs.Handles.{handle_at, valid, with_handle}
@@ -36,9 +33,9 @@ use Rattle.egl_model.specs.Sweep.{edges_in, live_bytes, references, roots}
 use Rattle.egl_model.specs.Textures.{change_pixels, target_texture, with_pixels}
 use Rattle.framebuffer_objects.specs.Renderbuffers.{RenderbufferValue}
 use Rattle.model_laws.specs.Extents.{making, quiet}
-use Rattle.model_laws.specs.Shapes.{HasKind, IsFree, Shape, own_at, pixels_in, shapes}
+use Rattle.model_laws.specs.Shapes.{HasKind, IsFree, Shape, pixels_in, shapes}
 use Rattle.model_laws.specs.Sound.{IsWhole}
-use Rattle.model_laws.proofs.Blinds.{blind-display, blind-length, blind-object, blind-of}
+use Rattle.model_laws.proofs.Blinds.{blind-display, blind-length, blind-object, blind-of, free_pixels}
 use Rattle.model_laws.proofs.DrawCalls.{blind-shape}
 use Rattle.model_laws.proofs.Keeps.{Acts, Blind, acts_of, acts_self, acts_then, acts_within, by_quiet_moves}
 use Rattle.model_laws.proofs.LinkSetters.{setter-pixels, suits-pixels}
@@ -46,7 +43,7 @@ use Rattle.model_laws.proofs.LitterLaws.{roots-set_error}
 use Rattle.model_laws.proofs.Moves.{Add, Change, IsStored, Name, own_in}
 use Rattle.model_laws.proofs.NameCalls.{blind-group_of, blind-named}
 use Rattle.model_laws.proofs.NewObjects.{free_more}
-use Rattle.model_laws.proofs.Places.{new_kind, old_kind, own_at-shapes, same_at_set}
+use Rattle.model_laws.proofs.Places.{new_kind, old_kind, same_at_set}
 use Rattle.model_laws.proofs.RenderbufferCalls.{acts-kind, blind-target_renderbuffer, kinded}
 use Rattle.model_laws.proofs.Slots.{in_levels, no_edge, only_one, pixels_are_storages}
 use Rattle.model_laws.proofs.TextureCalls.{acts-no_level, blind-target}
@@ -191,9 +188,7 @@ record IsShareable (sh : List (Option Shape)) (k : ℕ) : Type 0 where
 shareable : (s : State) (n k : ℕ) → own_in (object_at s n) ≡ None → is_in k (pixels_in (object_at s n)) ≡ true → IsWhole (shapes s.objects) s → IsShareable (shapes s.objects) k
 shareable s n k none h w = record {
   storage = pixels_are_storages (shapes s.objects) (object_at s n) k (w.kinds.objects n) h;
-  free = record {
-    each = λ m e. let same : n ≡ m = w.storages.each m n k e h in none-some k (sym (own_at-shapes s.objects n ∙ none) ∙ ap (own_at (shapes s.objects)) same ∙ e);
-  };
+  free = free_pixels s n k none h w;
 }
 
 -- ---- eglCreateImage.

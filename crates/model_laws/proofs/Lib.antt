@@ -13,9 +13,12 @@ pub mod WaitOutcomes
 pub mod TextureLaws
 pub mod NameLaws
 pub mod DeletionLaws
+pub mod DetachLaws
+pub mod StatusLaws
 pub mod BufferLaws
 pub mod RenderbufferLaws
 pub mod SiblingLaws
+pub mod ImageLaws
 pub mod PixelLaws
 pub mod LinkLaws
 pub mod LinkedSteps

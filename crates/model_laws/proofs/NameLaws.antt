@@ -41,7 +41,7 @@ gone_one : (name : ℕ) (x : Name) (ys : List Name) (b : Bool) → is_of name x 
 gone_one name x ys true e h = h
 gone_one name x ys false e h = ap (λ b. is_some (cond b (Some x) (find (is_of name) ys))) e ∙ h
 
-gone_without : (name : ℕ) (xs : List Name) → is_used name (without name xs) ≡ false
+pub gone_without : (name : ℕ) (xs : List Name) → is_used name (without name xs) ≡ false
 gone_without name [] = refl
 gone_without name (x ∷ xs) = gone_one name x (without name xs) (is_of name x) refl (gone_without name xs)
 

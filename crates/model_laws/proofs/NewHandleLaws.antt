@@ -19,6 +19,7 @@ use Rattle.display_table.specs.declared.handles.Handle.{Handle}
 use Rattle.display_table.specs.declared.handles.HandleKind.{HandleKind}
 use Rattle.display_table.specs.declared.handles.HandleKind.TheVariants.{Context as a_context, Surface as a_surface, Image as an_image, Sync as a_sync}
 use Rattle.egl_model.specs.Graph.{is_in}
+use Rattle.egl_model.specs.Objects.{as_egl_image}
 use Rattle.egl_model.specs.State.{State, record_of, set_error}
 use Rattle.egl_model.specs.Arguments.{number}
 use Rattle.egl_model.specs.Handles.{with_handle}
@@ -37,7 +38,7 @@ use Rattle.std.proofs.lemmas.Bool.{and_parts, not-false}
 use Rattle.egl_model.specs.Step.{Stepped, after_egl_rules, egl_step, step, step_by, step_in, wait_step}
 use Rattle.model_laws.specs.Kinds.{IsA, named_kind}
 use Rattle.model_laws.specs.Laws.{IsAllowedEgl}
-use Rattle.model_laws.specs.NewHandles.{HasNewHandle}
+use Rattle.model_laws.specs.NewHandles.{HasNewHandle, HasNewImage}
 use Rattle.model_laws.proofs.LinkLaws.{root_marked, same_object}
 use Rattle.model_laws.proofs.Places.{new_at}
 use Rattle.model_laws.proofs.LinkedSteps.{at_head, from_handle, in_right, named_by}
@@ -125,6 +126,23 @@ unfolding egl_refusal
 image_gets_handle s t c h =
     let a = image_allowed c (new_image_facts s c) h.call.kind h.allowed in
     subst (λ (a : State). HasNewHandle s a (number c 0) an_image) (sym (allowed_egl_state s t CreateImage c h)) (image_made s t (number c 0) (source_storage s c) a.asked.level)
+
+-- and its object is of the storage that its call names
+image_made_of : (s : State) (t d k : ℕ) (o : Option ℕ) → o ≡ Some k → HasNewImage s (sweep (set_error (option_map_or (add_image s d) o s) t Success)) d k
+unfolding made has_new
+image_made_of s t d k None e = absurd (let f : None ≡ Some k = e in cc)
+image_made_of s t d k (Some j) e =
+    let new = Some (Image (record { storage = j })) ∷ [] in let x = has_new s t d an_image new refl in
+    record {
+      handle = (
+        x.handle.0,
+        x.handle.1,
+        ap as_egl_image (same_object (made s t d an_image new) (length s.objects) (new_reached s t d an_image new) ∙ new_at s.objects new None 0 (length s.objects) (omega arith)) ∙ ap (λ (o : Option ℕ). option_map (λ m. record { storage = m }) o) e,
+      );
+    }
+
+pub image_gets_storage : (s : State) (t : ℕ) (c : CallValue) (k : ℕ) → IsAllowedEgl s t CreateImage c → source_storage s c ≡ Some k → HasNewImage s (step s t c).state (number c 0) k
+image_gets_storage s t c k h e = subst (λ (a : State). HasNewImage s a (number c 0) k) (sym (allowed_egl_state s t CreateImage c h)) (image_made_of s t (number c 0) k (source_storage s c) e)
 
 pub image_answers_number : (s : State) (t : ℕ) (c : CallValue) → IsAllowedEgl s t CreateImage c → (step s t c).reply.value ≡ pos s.next_handle
 image_answers_number s t c h = ap (λ (x : Stepped). x.reply.value) (allowed_egl s t CreateImage c h)

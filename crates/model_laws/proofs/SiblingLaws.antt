@@ -1,29 +1,35 @@
 -- What a call leaves that gives a texture's level or a renderbuffer other pixels.
-use Rattle.std.proofs.Common.{◌≡◌, ◌≢◌, ℕ, zero, suc, ◌<◌, ◌≤◌, true, List, [], ◌∷◌, ◌++◌, length, get_or, set, is_some, refl, sym, ap, subst, ◌∙◌, arith, Option, None, Some}
-use Rattle.std.specs.Option.{option_and_then}
+use Rattle.std.proofs.Common.{◌≡◌, ◌≢◌, ℕ, zero, suc, ◌<◌, ◌≤◌, List, [], ◌∷◌, ◌++◌, length, get_or, set, refl, sym, ap, subst, ◌∙◌, arith, Option, None, Some}
+use Rattle.std.specs.Option.{option_map_or}
 use Rattle.std.proofs.lemmas.Bool.{cond_both}
 use Rattle.std.proofs.lemmas.List.{get_or-set_other, length-append, length-set}
 use Rattle.egl_calls.specs.Calls.{CallValue}
+use Rattle.egl_calls.specs.declared.errors.EglError.TheVariants.{Success}
+use Rattle.egl_calls.specs.declared.kinds.EglKind.{EglKind}
+use Rattle.egl_calls.specs.declared.kinds.EglKind.TheVariants.{CreateImage, DestroyImage}
 use Rattle.egl_calls.specs.declared.kinds.GlKind.{GlKind}
 use Rattle.egl_calls.specs.declared.kinds.GlKind.TheVariants.{CopyTexImage2d, ImageTargetRenderbufferStorage, ImageTargetTexture2d, RenderbufferStorage, TexImage2d}
 use Rattle.driver_objects.specs.Storages.{StorageValue}
 use Rattle.driver_objects.specs.declared.objects.Object.{Object}
-use Rattle.driver_objects.specs.declared.objects.Object.TheVariants.{Renderbuffer, Storage, Texture}
+use Rattle.driver_objects.specs.declared.objects.Object.TheVariants.{Image, Renderbuffer, Storage, Texture}
 use Rattle.egl_image.specs.declared.images.EglImage.{EglImage}
 use Rattle.framebuffer_objects.specs.Renderbuffers.{RenderbufferValue}
 use Rattle.pixel_rows.specs.Images.{ImageValue}
 use Rattle.egl_model.specs.Copies.{copied, copied_from, copied_level, copies_nothing, read_image}
+use Rattle.egl_model.specs.Arguments.{number}
+use Rattle.egl_model.specs.EglEffects.{egl_effect}
 use Rattle.egl_model.specs.GlEffects.{gl_effect}
-use Rattle.egl_model.specs.Images.{image_kind, levels_dropped, renderbuffer_of_image, target_image, texture_of_image}
+use Rattle.egl_model.specs.Images.{add_image, image_kind, levels_dropped, renderbuffer_of_image, source_storage, target_image, texture_of_image}
 use Rattle.egl_model.specs.Objects.{as_storage, change_renderbuffer, storage_in, with_renderbuffer}
 use Rattle.egl_model.specs.Renderbuffers.{new_kind, new_pixels, stored_as, target_renderbuffer, with_kind}
-use Rattle.egl_model.specs.State.{State}
+use Rattle.egl_model.specs.State.{State, set_error}
 use Rattle.egl_model.specs.Step.{Stepped, step}
 use Rattle.egl_model.specs.Sweep.{roots, sweep}
 use Rattle.egl_model.specs.Textures.{change_pixels, level_of, new_level, specified, specified_in, target_texture, unpack_alignment, with_pixels}
-use Rattle.model_laws.specs.Laws.{IsAllowedGl}
+use Rattle.model_laws.specs.Laws.{IsAllowedEgl, IsAllowedGl}
 use Rattle.model_laws.specs.Siblings.{LeavesSiblings}
 use Rattle.model_laws.proofs.Places.{at_old, below, same_at_set}
+use Rattle.model_laws.proofs.RefusalLaws.{allowed_egl_state}
 use Rattle.model_laws.proofs.SweepLaws.{left_as_it_was}
 use Rattle.model_laws.proofs.TextureLaws.{allowed_gl, some_storage}
 
@@ -111,6 +117,11 @@ leaves_renderbuffer (Some i) (Some x) s =
     let r = image_kind (storage_in s.objects i.storage) in let os = change_renderbuffer (with_kind r) x s.objects in
     leaves_then (Some x) s.objects os (change_pixels 0 (Some i.storage) x os) (leaves_kind r x s.objects) (leaves_pixels 0 (Some i.storage) x os)
 
+-- a new image changes no object
+leaves_created : (s : State) (d : ℕ) (o : Option ℕ) → Leaves None s.objects (option_map_or (add_image s d) o s).objects
+leaves_created s d None = leaves_self None s.objects
+leaves_created s d (Some k) = leaves_more None s.objects (Some (Image (record { storage = k })) ∷ [])
+
 -- ---- The whole call, behind whose change a sweep may take objects.
 left_by_sweep : (s a : State) (target : Option ℕ) → Leaves target s.objects a.objects → LeavesSiblings s (sweep a) target
 left_by_sweep s a target l = record {
@@ -135,3 +146,12 @@ texture_targeted_alone s t n c h = by_call s t n ImageTargetTexture2d c (target_
 
 pub renderbuffer_targeted_alone : (s : State) (t n : ℕ) (c : CallValue) → IsAllowedGl s t n ImageTargetRenderbufferStorage c → LeavesSiblings s (step s t c).state (target_renderbuffer s n)
 renderbuffer_targeted_alone s t n c h = by_call s t n ImageTargetRenderbufferStorage c (target_renderbuffer s n) h (leaves_renderbuffer (target_image s n c) (target_renderbuffer s n) s)
+
+by_egl_call : (s : State) (t : ℕ) (k : EglKind) (c : CallValue) (target : Option ℕ) → IsAllowedEgl s t k c → Leaves target s.objects (egl_effect s t k c).state.objects → LeavesSiblings s (step s t c).state target
+by_egl_call s t k c target h l = subst (λ (a : State). LeavesSiblings s a target) (sym (allowed_egl_state s t k c h)) (left_by_sweep s (set_error (egl_effect s t k c).state t Success) target l)
+
+pub image_changes_nothing : (s : State) (t : ℕ) (c : CallValue) → IsAllowedEgl s t CreateImage c → LeavesSiblings s (step s t c).state None
+image_changes_nothing s t c h = by_egl_call s t CreateImage c None h (leaves_created s (number c 0) (source_storage s c))
+
+pub destroying_changes_nothing : (s : State) (t : ℕ) (c : CallValue) → IsAllowedEgl s t DestroyImage c → LeavesSiblings s (step s t c).state None
+destroying_changes_nothing s t c h = by_egl_call s t DestroyImage c None h (leaves_self None s.objects)

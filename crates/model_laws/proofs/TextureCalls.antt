@@ -1,10 +1,9 @@
 -- What the calls on textures keep.
-use Rattle.std.proofs.Common.{◌≡◌, ℕ, zero, suc, ◌+◌, ◌||◌, ◌/◌, ◌^◌, ◌≤◌, ℤ, pos, pow_pos, ltb, true, false, List, [], ◌∷◌, ◌++◌, refl, sym, ap, subst, ◌∙◌, arith, length, get_or, min, Option, None, Some}
-use Rattle.std.specs.Prelude.{int_lt, unwrap_or, option_to_list}
+use Rattle.std.proofs.Common.{◌≡◌, ℕ, ◌+◌, ◌||◌, ◌/◌, ◌^◌, ◌≤◌, ℤ, pos, pow_pos, ltb, true, false, List, [], ◌∷◌, ◌++◌, refl, ap, subst, ◌∙◌, arith, length, min, Option, None, Some}
+use Rattle.std.specs.Prelude.{int_lt, unwrap_or}
 use Rattle.std.specs.Option.{option_and_then, option_map, option_map_or}
-use Rattle.std.proofs.lemmas.Bool.{cond_both, eq-eqb, or_parts, ltb-false}
+use Rattle.std.proofs.lemmas.Bool.{cond_both, or_parts, ltb-false}
 use Rattle.std.proofs.lemmas.Option.{none-some}
-use Rattle.driver_objects.specs.Objects.{filled}
 use Rattle.std.proofs.lemmas.Nat.{div_below}
 use Rattle.egl_calls.specs.Calls.{CallValue}
 use Rattle.egl_calls.specs.Ranges.{unsigned}
@@ -29,18 +28,18 @@ use Rattle.egl_model.specs.GlFacts.{gl_refusal, image_facts, part_facts, stored_
 use Rattle.egl_model.specs.Graph.{is_in}
 use Rattle.egl_model.specs.Objects.{as_storage, as_texture, change_storage, change_texture, storage_in, texture_in, with_texture}
 use Rattle.egl_model.specs.Parts.{put_own}
-use Rattle.model_laws.specs.Shapes.{IsFree, own_at, pixels_in, shapes}
+use Rattle.model_laws.specs.Shapes.{IsFree, pixels_in, shapes}
 use Rattle.model_laws.specs.Sound.{IsWhole}
 use Rattle.egl_model.specs.State.{State, object_at}
 use Rattle.egl_model.specs.Sweep.{live_bytes}
 use Rattle.egl_model.specs.Textures.{change_pixels, has_no_side, image_bytes, level_of, level_storage, new_level, rewritten_part, set_crop, set_parameter, specified, specified_in, storage_at, target_texture, unpack_alignment, with_crop, with_pixels, with_value}
-use Rattle.model_laws.proofs.Blinds.{blind-context, blind-length, blind-object, blind-own_part}
+use Rattle.model_laws.proofs.Blinds.{blind-context, blind-length, blind-object, blind-own_part, free_pixels}
 use Rattle.model_laws.proofs.Keeps.{Acts, Blind, acts_of, acts_self, by_moves, by_quiet_moves}
 use Rattle.model_laws.proofs.GlCalls.{acts-written}
 use Rattle.model_laws.proofs.LinkSetters.{setter-pixels, setter-texture, suits-crop, suits-pixels, suits-value}
 use Rattle.model_laws.proofs.Moves.{Add, Change, own_in}
 use Rattle.model_laws.proofs.NewObjects.{free_new, full-uploaded, without_pixels}
-use Rattle.model_laws.proofs.Places.{new_kind, own_at-shapes}
+use Rattle.model_laws.proofs.Places.{new_kind}
 use Rattle.model_laws.proofs.Setters.{form-rewritten}
 use Rattle.model_laws.proofs.Slots.{in_levels, no_edge, only_one}
 use Rattle.model_laws.proofs.Writes.{IsBlind}
@@ -161,11 +160,7 @@ unowned n k o h = absurd (none-some n h)
 -- what a texture has at a level is no surface's
 pub free_level : (s : State) (n k : ℕ) (o : Option ℕ) → option_and_then (storage_at k) (option_and_then (texture_in s.objects) o) ≡ Some n → IsWhole (shapes s.objects) s → IsFree (shapes s.objects) n
 free_level s n k None h w = absurd (none-some n h)
-free_level s n k (Some x) h w = record {
-  each = λ m e.
-      let same : x ≡ m = w.storages.each m x n e (in_texture n k (object_at s x) h) in
-      none-some n (sym (own_at-shapes s.objects x ∙ unowned n k (object_at s x) h) ∙ ap (own_at (shapes s.objects)) same ∙ e);
-}
+free_level s n k (Some x) h w = free_pixels s x n (unowned n k (object_at s x) h) (in_texture n k (object_at s x) h) w
 
 acts-rewritten_at : (s : State) (t : ℕ) (c : CallValue) (align : ℕ) (o : Option ℕ) → ((n : ℕ) → o ≡ Some n → IsWhole (shapes s.objects) s → IsFree (shapes s.objects) n) → Acts quiet t s (λ a. rewritten_part c align o a)
 unfolding change_storage

@@ -172,3 +172,6 @@ copied_level_alone s t n c x j y z h ne before after = (copy_keeps_others s t n 
 
 pub pixels_alone : (s : State) (t n : ℕ) (c : CallValue) (x : ℕ) (v : StorageValue) → IsAllowedGl s t n TexImage2d c → storage_in s.objects x ≡ Some v → is_some (object_at (step s t c).state x) ≡ true → storage_in (step s t c).state.objects x ≡ Some v
 pixels_alone s t n c x v h before there = sym ((keeps_others s t n x c h (some_storage (object_at s x) v before)).pixels there) ∙ before
+
+pub copied_pixels_alone : (s : State) (t n : ℕ) (c : CallValue) (x : ℕ) (v : StorageValue) → IsAllowedGl s t n CopyTexImage2d c → storage_in s.objects x ≡ Some v → is_some (object_at (step s t c).state x) ≡ true → storage_in (step s t c).state.objects x ≡ Some v
+copied_pixels_alone s t n c x v h before there = sym ((copy_keeps_others s t n x c h (some_storage (object_at s x) v before)).pixels there) ∙ before

@@ -17,3 +17,4 @@ pub mod Frame
 pub mod Refs
 pub mod Deleted
 pub mod Siblings
+pub mod Statuses

@@ -1,7 +1,9 @@
--- Handles that are made (EGL 1.5, sections 3.5.2 and 3.7.1).
-use Rattle.std.specs.Prelude.{◌≡◌, ◌+◌, ◌≤◌, ℕ, [], ◌∷◌, ◌++◌, length}
+-- Handles that are made (EGL 1.5, sections 3.5.2, 3.7.1 and 3.9).
+use Rattle.std.specs.Prelude.{◌≡◌, ◌+◌, ◌≤◌, ℕ, [], ◌∷◌, ◌++◌, length, Some}
 use Rattle.display_table.specs.declared.handles.Handle.{Handle}
 use Rattle.display_table.specs.declared.handles.HandleKind.{HandleKind}
+use Rattle.display_table.specs.declared.handles.HandleKind.TheVariants.{Image}
+use Rattle.egl_model.specs.Objects.{egl_image_in}
 use Rattle.egl_model.specs.State.{State}
 use Rattle.model_laws.specs.Kinds.{IsA, named_kind}
 
@@ -18,3 +20,7 @@ pub record IsNewHandle (before after : State) (display : ℕ) (kind : HandleKind
 pub record HasNewHandle (before after : State) (display : ℕ) (kind : HandleKind) : Type 0 where
   pub handle : (h : Handle) × IsNewHandle before after display kind h
   pub next : after.next_handle ≡ before.next_handle + 1
+
+-- a call has made one handle of an image, which is of a storage
+pub record HasNewImage (before after : State) (display storage : ℕ) : Type 0 where
+  pub handle : (h : Handle) × IsNewHandle before after display Image h × (egl_image_in after.objects h.object ≡ Some (record { storage = storage }))

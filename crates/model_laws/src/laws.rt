@@ -1,7 +1,12 @@
 //! What is true of every sweep, step and history: the contracts of functions that do nothing.
-ghost use Rattle.std.specs.Prelude.{◌≡◌, ◌≢◌, ◌<◌, ◌+◌, ◌⊎◌, ◌↔◌, ℕ, ℤ, pos, ◌&&◌, ◌==◌, true, false, All, AllPairs, ◌≤◌, if◌then◌else◌, length, List, ◌++◌, None, Some, Contains, IfSome};
+ghost use Rattle.std.specs.Prelude.{◌≡◌, ◌≢◌, ◌<◌, ◌+◌, ◌⊎◌, ◌↔◌, ℕ, ℤ, pos, ◌&&◌, ◌==◌, true, false, All, AllPairs, ◌≤◌, if◌then◌else◌, length, List, ◌++◌, None, Some, Contains, IfSome, is_some};
 ghost use Rattle.display_table.specs.declared.handles.Handle.{Handle};
-ghost use Rattle.model_laws.specs.Deleted.{HasUnbound};
+ghost use Rattle.model_laws.specs.Deleted.{HasDetached, HasUnbound, IsNamedBy, attached_at};
+ghost use Rattle.framebuffer_objects.specs.Framebuffers.{FramebufferValue as AFramebuffer, at_point, object_of as object_attached};
+ghost use Rattle.framebuffer_objects.specs.declared.points.Point.{Point as APoint};
+ghost use Rattle.egl_model.specs.Framebuffers.{target_framebuffer};
+ghost use Rattle.egl_names.specs.declared.codes.TheConstants.{GL_FRAMEBUFFER_COMPLETE_OES, GL_FRAMEBUFFER_INCOMPLETE_ATTACHMENT_OES, GL_FRAMEBUFFER_INCOMPLETE_DIMENSIONS_OES, GL_FRAMEBUFFER_INCOMPLETE_MISSING_ATTACHMENT_OES, GL_FRAMEBUFFER_UNDEFINED_OES, GL_FRAMEBUFFER_UNSUPPORTED_OES};
+ghost use Rattle.model_laws.specs.Statuses.{AnswersStatus, HasUnfit, HasUnlike, IsBare, IsBoundTo, IsBoundToWindow, IsCheck, IsComplete, LacksColor};
 ghost use Rattle.model_laws.specs.Destroyed.{IsRemoved, KeepsCurrents};
 ghost use Rattle.egl_calls.specs.Arguments.{is_zero};
 ghost use Rattle.egl_calls.specs.Calls.{CallValue};
@@ -10,7 +15,7 @@ ghost use Rattle.egl_calls.specs.declared.kinds.Kind.TheVariants.{Egl, Own};
 ghost use Rattle.egl_calls.specs.declared.kinds.EglKind.{EglKind};
 ghost use Rattle.egl_calls.specs.declared.kinds.EglKind.TheVariants.{Initialize, Terminate, CreatePbufferSurface, CreateContext, DestroySurface, DestroyContext, ReleaseThread, CreateWindowSurface, CreateSync, DestroySync, ClientWaitSync, CreateImage, DestroyImage};
 ghost use Rattle.egl_calls.specs.declared.kinds.GlKind.{GlKind};
-ghost use Rattle.egl_calls.specs.declared.kinds.GlKind.TheVariants.{CopyTexImage2d, DeleteTextures, TexImage2d, BufferData, DeleteBuffers, DeleteRenderbuffers, RenderbufferStorage, ImageTargetTexture2d, ImageTargetRenderbufferStorage};
+ghost use Rattle.egl_calls.specs.declared.kinds.GlKind.TheVariants.{CopyTexImage2d, DeleteTextures, TexImage2d, BufferData, DeleteBuffers, DeleteRenderbuffers, DeleteFramebuffers, RenderbufferStorage, ImageTargetTexture2d, ImageTargetRenderbufferStorage};
 ghost use Rattle.egl_calls.specs.Ranges.{unsigned};
 ghost use Rattle.egl_calls.specs.declared.kinds.OwnKind.{OwnKind};
 ghost use Rattle.egl_calls.specs.declared.kinds.OwnKind.TheVariants.{ReadBuffer, WaitEnd};
@@ -27,10 +32,15 @@ ghost use Rattle.display_table.specs.declared.handles.HandleKind.TheVariants.{Co
 ghost use Rattle.surface_store.specs.Windows.{windows_ok};
 ghost use Rattle.surface_store.specs.declared.windows.WindowSpec.{WindowSpec};
 ghost use Rattle.egl_model.specs.State.{State, object_at, opening, record_of, set_error, initial, has_object};
-ghost use Rattle.egl_model.specs.Currents.{current_context, part_of_context};
+ghost use Rattle.egl_model.specs.Currents.{current_context, draw_storage, part_of_context};
 ghost use Rattle.egl_model.specs.Sweep.{is_reached, live_bytes, sweep};
 ghost use Rattle.egl_model.specs.Flushes.{flushed};
-ghost use Rattle.egl_model.specs.Objects.{context_in, fence_in, storage_in, texture_in};
+ghost use Rattle.egl_model.specs.Images.{source_storage, target_image};
+ghost use Rattle.egl_image.specs.declared.images.EglImage.{EglImage as AnEglImage};
+ghost use Rattle.driver_objects.specs.declared.renderbuffers.BackedRenderbuffer.{BackedRenderbuffer};
+ghost use Rattle.framebuffer_objects.specs.Renderbuffers.{of_kind};
+ghost use Rattle.framebuffer_objects.specs.declared.points.Point.TheVariants.{Color};
+ghost use Rattle.egl_model.specs.Objects.{context_in, fence_in, renderbuffer_in, framebuffer_in, storage_in, texture_in};
 ghost use Rattle.egl_model.specs.Names.{group_of, names_in, object_named};
 ghost use Rattle.egl_model.specs.Textures.{level_of, storage_at, target_texture};
 ghost use Rattle.egl_model.specs.Renderbuffers.{target_renderbuffer};
@@ -38,7 +48,7 @@ ghost use Rattle.driver_objects.specs.Storages.{StorageValue};
 ghost use Rattle.driver_objects.specs.declared.contexts.Context.{Context as AContext};
 ghost use Rattle.driver_objects.specs.declared.textures.BackedTexture.{BackedTexture};
 ghost use Rattle.share_group.specs.Names.{is_used};
-ghost use Rattle.share_group.specs.declared.names.NameKind.TheVariants.{Texture as a_texture_name, Buffer as a_buffer_name, Renderbuffer as a_renderbuffer_name};
+ghost use Rattle.share_group.specs.declared.names.NameKind.TheVariants.{Texture as a_texture_name, Buffer as a_buffer_name, Renderbuffer as a_renderbuffer_name, Framebuffer as a_framebuffer_name};
 ghost use Rattle.model_laws.specs.Shapes.{shapes};
 ghost use Rattle.driver_objects.specs.declared.fences.Fence.{Fence as AFence};
 ghost use Rattle.driver_objects.specs.declared.kinds.ObjectKind.TheVariants.{Context as ContextKind};
@@ -55,7 +65,7 @@ ghost use Rattle.model_laws.specs.Named.{Exists, IsHandled, IsHeldByThread, IsUs
 ghost use Rattle.model_laws.specs.Kinds.{IsA, KindsFit};
 ghost use Rattle.model_laws.specs.DisplayCalls.{IsInitialized, IsTerminated};
 ghost use Rattle.model_laws.specs.CurrentCalls.{HasNoneCurrent, IsBoundBy, IsMadeCurrent};
-ghost use Rattle.model_laws.specs.NewHandles.{HasNewHandle};
+ghost use Rattle.model_laws.specs.NewHandles.{HasNewHandle, HasNewImage};
 ghost use Rattle.model_laws.specs.Siblings.{LeavesSiblings};
 ghost use Rattle.egl_model.specs.Displays.{is_initialized};
 ghost use Rattle.egl_model.specs.Arguments.{number};
@@ -285,6 +295,22 @@ pub fn a_level_is_given_alone()
     ensures levels { (s : State) (t n : ℕ) (c : CallValue) (x j : ℕ) (y z : BackedTexture) → IsAllowedGl s t n TexImage2d c → (target_texture s n ≡ Some x → j ≢ level_of c) → texture_in s.objects x ≡ Some y → texture_in (step s t c).state.objects x ≡ Some z → storage_at j z ≡ storage_at j y }
     ensures copied_levels { (s : State) (t n : ℕ) (c : CallValue) (x j : ℕ) (y z : BackedTexture) → IsAllowedGl s t n CopyTexImage2d c → (target_texture s n ≡ Some x → j ≢ level_of c) → texture_in s.objects x ≡ Some y → texture_in (step s t c).state.objects x ≡ Some z → storage_at j z ≡ storage_at j y }
     ensures pixels { (s : State) (t n : ℕ) (c : CallValue) (x : ℕ) (v : StorageValue) → IsAllowedGl s t n TexImage2d c → storage_in s.objects x ≡ Some v → has_object (step s t c).state x ≡ true → storage_in (step s t c).state.objects x ≡ Some v }
+    ensures copied_pixels { (s : State) (t n : ℕ) (c : CallValue) (x : ℕ) (v : StorageValue) → IsAllowedGl s t n CopyTexImage2d c → storage_in s.objects x ≡ Some v → has_object (step s t c).state x ≡ true → storage_in (step s t c).state.objects x ≡ Some v }
+{}
+
+/// A new image is of the storage that its call names, of a texture's level or of a renderbuffer (EGL 1.5, section 3.9). To make an image or to destroy one changes no object that is still there, and no pixel.
+pub fn a_new_image_shares_its_pixels()
+    ensures created { (s : State) (t : ℕ) (c : CallValue) (k : ℕ) → IsAllowedEgl s t CreateImage c → source_storage s c ≡ Some k → HasNewImage s (step s t c).state (number c 0) k }
+    ensures others { (s : State) (t : ℕ) (c : CallValue) → IsAllowedEgl s t CreateImage c → LeavesSiblings s (step s t c).state None }
+    ensures destroyed { (s : State) (t : ℕ) (c : CallValue) → IsAllowedEgl s t DestroyImage c → LeavesSiblings s (step s t c).state None }
+{}
+
+/// Behind a glEGLImageTargetTexture2DOES level 0 of the bound texture, one with its eleven levels, has the image's storage and no other level has any; behind a glEGLImageTargetRenderbufferStorageOES the bound renderbuffer has it, and is a colour of its sides (OES_EGL_image).
+pub fn what_gets_an_image_has_its_pixels()
+    ensures base { (s : State) (t n : ℕ) (c : CallValue) (x : ℕ) (i : AnEglImage) (y z : BackedTexture) → IsAllowedGl s t n ImageTargetTexture2d c → target_texture s n ≡ Some x → target_image s n c ≡ Some i → texture_in s.objects x ≡ Some y → length y.levels ≡ 11 → texture_in (step s t c).state.objects x ≡ Some z → storage_at 0 z ≡ Some i.storage }
+    ensures levels { (s : State) (t n : ℕ) (c : CallValue) (x j : ℕ) (i : AnEglImage) (y z : BackedTexture) → IsAllowedGl s t n ImageTargetTexture2d c → target_texture s n ≡ Some x → target_image s n c ≡ Some i → texture_in s.objects x ≡ Some y → length y.levels ≡ 11 → texture_in (step s t c).state.objects x ≡ Some z → j ≢ 0 → storage_at j z ≡ None }
+    ensures renderbuffer { (s : State) (t n : ℕ) (c : CallValue) (x : ℕ) (i : AnEglImage) (z : BackedRenderbuffer) → IsAllowedGl s t n ImageTargetRenderbufferStorage c → target_renderbuffer s n ≡ Some x → target_image s n c ≡ Some i → renderbuffer_in (step s t c).state.objects x ≡ Some z → z.storage ≡ Some i.storage }
+    ensures sides { (s : State) (t n : ℕ) (c : CallValue) (x : ℕ) (i : AnEglImage) (v : StorageValue) (z : BackedRenderbuffer) → IsAllowedGl s t n ImageTargetRenderbufferStorage c → target_renderbuffer s n ≡ Some x → target_image s n c ≡ Some i → storage_in s.objects i.storage ≡ Some v → renderbuffer_in (step s t c).state.objects x ≡ Some z → z.renderbuffer ≡ of_kind Color v.width v.height }
 {}
 
 /// A call that gives a level of a texture or a renderbuffer other pixels, new ones or those of an EGL image, changes that object alone: each other object that is still there is as it was, and so is each storage. So siblings keep the pixels that they share (sections 3.7.1 and 3.7.2; OES_framebuffer_object; OES_EGL_image).
@@ -296,18 +322,28 @@ pub fn siblings_keep_their_pixels()
     ensures renderbuffer { (s : State) (t n : ℕ) (c : CallValue) → IsAllowedGl s t n ImageTargetRenderbufferStorage c → LeavesSiblings s (step s t c).state (target_renderbuffer s n) }
 {}
 
-/// A name that a glDeleteTextures, a glDeleteBuffers or a glDeleteRenderbuffersOES is given is free at once, whoever still has its object bound (sections 3.7.11 and 2.9; OES_framebuffer_object). The object is gone with the last reference to it, as each object is.
+/// A name that a glDeleteTextures, a glDeleteBuffers, a glDeleteRenderbuffersOES or a glDeleteFramebuffersOES is given is free at once, whoever still has its object bound (sections 3.7.11 and 2.9; OES_framebuffer_object). The object is gone with the last reference to it, as each object is.
 pub fn a_deleted_name_is_free()
     ensures textures { (s : State) (t n : ℕ) (c : CallValue) (x : ℤ) → IsAllowedGl s t n DeleteTextures c → Contains c.list x → is_used (unsigned x) (names_in (step s t c).state (group_of s n) a_texture_name) ≡ false }
     ensures buffers { (s : State) (t n : ℕ) (c : CallValue) (x : ℤ) → IsAllowedGl s t n DeleteBuffers c → Contains c.list x → is_used (unsigned x) (names_in (step s t c).state (group_of s n) a_buffer_name) ≡ false }
     ensures renderbuffers { (s : State) (t n : ℕ) (c : CallValue) (x : ℤ) → IsAllowedGl s t n DeleteRenderbuffers c → Contains c.list x → is_used (unsigned x) (names_in (step s t c).state (group_of s n) a_renderbuffer_name) ≡ false }
+    ensures framebuffers { (s : State) (t n : ℕ) (c : CallValue) (x : ℤ) → IsAllowedGl s t n DeleteFramebuffers c → Contains c.list x → is_used (unsigned x) (names_in (step s t c).state (group_of s n) a_framebuffer_name) ≡ false }
 {}
 
-/// The object of a name that a glDeleteTextures, a glDeleteBuffers or a glDeleteRenderbuffersOES is given isn't bound in the caller's context any more (sections 3.7.11 and 2.9; OES_framebuffer_object).
+/// The object of a name that a glDeleteTextures, a glDeleteBuffers, a glDeleteRenderbuffersOES or a glDeleteFramebuffersOES is given isn't bound in the caller's context any more (sections 3.7.11 and 2.9; OES_framebuffer_object).
 pub fn a_deleted_object_is_unbound()
     ensures textures { (s : State) (t n x : ℕ) (c : CallValue) (v : ℤ) → IsAllowedGl s t n DeleteTextures c → Contains c.list v → object_named s (group_of s n) a_texture_name (unsigned v) ≡ Some x → IfSome (context_in (step s t c).state.objects n) (HasUnbound a_texture_name x) }
     ensures buffers { (s : State) (t n x : ℕ) (c : CallValue) (v : ℤ) → IsAllowedGl s t n DeleteBuffers c → Contains c.list v → object_named s (group_of s n) a_buffer_name (unsigned v) ≡ Some x → IfSome (context_in (step s t c).state.objects n) (HasUnbound a_buffer_name x) }
     ensures renderbuffers { (s : State) (t n x : ℕ) (c : CallValue) (v : ℤ) → IsAllowedGl s t n DeleteRenderbuffers c → Contains c.list v → object_named s (group_of s n) a_renderbuffer_name (unsigned v) ≡ Some x → IfSome (context_in (step s t c).state.objects n) (HasUnbound a_renderbuffer_name x) }
+    ensures framebuffers { (s : State) (t n x : ℕ) (c : CallValue) (v : ℤ) → IsAllowedGl s t n DeleteFramebuffers c → Contains c.list v → object_named s (group_of s n) a_framebuffer_name (unsigned v) ≡ Some x → IfSome (context_in (step s t c).state.objects n) (HasUnbound a_framebuffer_name x) }
+{}
+
+/// The texture or renderbuffer of a name that a glDeleteTextures or a glDeleteRenderbuffersOES is given isn't attached any more to the framebuffer that the caller has bound (OES_framebuffer_object). Whatever else is attached there, and all that is attached to each other framebuffer, stays: that of another context too, and one that isn't bound.
+pub fn a_deleted_object_is_detached()
+    ensures textures { (s : State) (t n x b : ℕ) (c : CallValue) → IsAllowedGl s t n DeleteTextures c → IsNamedBy a_texture_name s n c x → target_framebuffer s n ≡ Some b → IfSome (framebuffer_in (step s t c).state.objects b) (HasDetached x) }
+    ensures renderbuffers { (s : State) (t n x b : ℕ) (c : CallValue) → IsAllowedGl s t n DeleteRenderbuffers c → IsNamedBy a_renderbuffer_name s n c x → target_framebuffer s n ≡ Some b → IfSome (framebuffer_in (step s t c).state.objects b) (HasDetached x) }
+    ensures others_than_textures { (s : State) (t n m : ℕ) (p : APoint) (f : AFramebuffer) (c : CallValue) → IsAllowedGl s t n DeleteTextures c → (target_framebuffer s n ≡ Some m → (x : ℕ) → IsNamedBy a_texture_name s n c x → object_attached (attached_at s.objects m p) ≢ Some x) → framebuffer_in (step s t c).state.objects m ≡ Some f → at_point p f ≡ attached_at s.objects m p }
+    ensures others_than_renderbuffers { (s : State) (t n m : ℕ) (p : APoint) (f : AFramebuffer) (c : CallValue) → IsAllowedGl s t n DeleteRenderbuffers c → (target_framebuffer s n ≡ Some m → (x : ℕ) → IsNamedBy a_renderbuffer_name s n c x → object_attached (attached_at s.objects m p) ≢ Some x) → framebuffer_in (step s t c).state.objects m ≡ Some f → at_point p f ≡ attached_at s.objects m p }
 {}
 
 /// Each other context that is still there is as it was, and so has bound what it had.
@@ -315,6 +351,18 @@ pub fn a_deletion_leaves_other_contexts()
     ensures textures { (s : State) (t n m : ℕ) (c : CallValue) (y : AContext) → IsAllowedGl s t n DeleteTextures c → m ≢ n → context_in (step s t c).state.objects m ≡ Some y → context_in s.objects m ≡ Some y }
     ensures buffers { (s : State) (t n m : ℕ) (c : CallValue) (y : AContext) → IsAllowedGl s t n DeleteBuffers c → m ≢ n → context_in (step s t c).state.objects m ≡ Some y → context_in s.objects m ≡ Some y }
     ensures renderbuffers { (s : State) (t n m : ℕ) (c : CallValue) (y : AContext) → IsAllowedGl s t n DeleteRenderbuffers c → m ≢ n → context_in (step s t c).state.objects m ≡ Some y → context_in s.objects m ≡ Some y }
+    ensures framebuffers { (s : State) (t n m : ℕ) (c : CallValue) (y : AContext) → IsAllowedGl s t n DeleteFramebuffers c → m ≢ n → context_in (step s t c).state.objects m ≡ Some y → context_in s.objects m ≡ Some y }
+{}
+
+/// glCheckFramebufferStatusOES tells the first status that holds of a framebuffer object, each exactly where it does (OES_framebuffer_object, "Framebuffer Completeness"): something may not stand where it is attached; nothing is attached; two of what is attached have different sides; no colour is attached; else it is complete. The window system's framebuffer is complete where the thread has a surface, and undefined where it has none (OES_surfaceless_context).
+pub fn a_status_tells_what_is_attached()
+    ensures complete { (s : State) (t n : ℕ) (c : CallValue) (f : AFramebuffer) → IsCheck s t n c → IsBoundTo s t n f → AnswersStatus s t c GL_FRAMEBUFFER_COMPLETE_OES ↔ IsComplete s.objects f }
+    ensures unfit { (s : State) (t n : ℕ) (c : CallValue) (f : AFramebuffer) → IsCheck s t n c → IsBoundTo s t n f → AnswersStatus s t c GL_FRAMEBUFFER_INCOMPLETE_ATTACHMENT_OES ↔ HasUnfit s.objects f }
+    ensures bare { (s : State) (t n : ℕ) (c : CallValue) (f : AFramebuffer) → IsCheck s t n c → IsBoundTo s t n f → AnswersStatus s t c GL_FRAMEBUFFER_INCOMPLETE_MISSING_ATTACHMENT_OES ↔ IsBare f }
+    ensures unlike { (s : State) (t n : ℕ) (c : CallValue) (f : AFramebuffer) → IsCheck s t n c → IsBoundTo s t n f → AnswersStatus s t c GL_FRAMEBUFFER_INCOMPLETE_DIMENSIONS_OES ↔ HasUnlike s.objects f }
+    ensures lacking { (s : State) (t n : ℕ) (c : CallValue) (f : AFramebuffer) → IsCheck s t n c → IsBoundTo s t n f → AnswersStatus s t c GL_FRAMEBUFFER_UNSUPPORTED_OES ↔ LacksColor s.objects f }
+    ensures window { (s : State) (t n : ℕ) (c : CallValue) → IsCheck s t n c → IsBoundToWindow s t → is_some (draw_storage s t) ≡ true → AnswersStatus s t c GL_FRAMEBUFFER_COMPLETE_OES }
+    ensures surfaceless { (s : State) (t n : ℕ) (c : CallValue) → IsCheck s t n c → IsBoundToWindow s t → draw_storage s t ≡ None → AnswersStatus s t c GL_FRAMEBUFFER_UNDEFINED_OES }
 {}
 
 /// eglCreateContext answers EGL_BAD_ALLOC exactly where nothing else is wrong, and no number is left for its handle (section 3.7.1).
