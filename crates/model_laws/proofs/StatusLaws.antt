@@ -23,10 +23,10 @@ use Rattle.egl_model.specs.Framebuffers.{attached_storage, backed_part, bound_fr
 use Rattle.egl_model.specs.Objects.{renderbuffer_in, storage_in}
 use Rattle.egl_model.specs.State.{State}
 use Rattle.egl_model.specs.Step.{Stepped, step}
-use Rattle.model_laws.specs.Statuses.{AnswersStatus, HasUnfit, HasUnlike, IsBare, IsBoundTo, IsBoundToWindow, IsCheck, IsColor, IsComplete, IsEmptyAt, IsLike, IsStoredFor, LacksColor, MayBeThere}
+use Rattle.model_laws.specs.Statuses.{AnswersStatus, HasUnfit, HasUnlike, IsBare, HasFramebufferBound, HasWindowBound, IsCheck, IsColor, IsComplete, IsEmptyAt, IsLike, IsStoredFor, LacksColor, MayBeThere}
 use Rattle.model_laws.proofs.TextureLaws.{allowed_gl}
 
--- ---- What stands at a point.
+-- ---- What standing_at at a point.
 part_at : List (Option Object) → FramebufferValue → Point → Part
 part_at os f Color = color_part_in os f.color
 part_at os f Depth = part_in Depth os f.depth
@@ -135,8 +135,8 @@ standing os f Stencil (Some a) e = elim (stored_or_wrong Stencil os a.object) [
   | inr x ↦ fitting x.0 x.1 (record { attached = a; there = e; fits = x.2; wide = x.3; high = x.4 })
 ]
 
-stands : (os : List (Option Object)) (f : FramebufferValue) (point : Point) → Standing os f point
-stands os f point = standing os f point (at_point point f) refl
+standing_at : (os : List (Option Object)) (f : FramebufferValue) (point : Point) → Standing os f point
+standing_at os f point = standing os f point (at_point point f) refl
 
 -- ---- The five verdicts, and where each holds.
 data Verdict : Type 0 where
@@ -251,7 +251,7 @@ unfolding part_at
 wrong_status os f point e = ap (λ b. chosen b (all_absent os f) (any_differ os f) (not (part_at os f Color).present)) (any_of is_incomplete os f point e)
 
 unfit_status : (os : List (Option Object)) (f : FramebufferValue) → HasUnfit os f → status_in os f ≡ GL_FRAMEBUFFER_INCOMPLETE_ATTACHMENT_OES
-unfit_status os f m = by (stands os f m.point)
+unfit_status os f m = by (standing_at os f m.point)
   where
     by : Standing os f m.point → status_in os f ≡ GL_FRAMEBUFFER_INCOMPLETE_ATTACHMENT_OES
     by (empty e) = absurd (none-some m.attached (sym e ∙ m.there))
@@ -341,10 +341,10 @@ found_wrong os f point a e i = record {
   holds = record { point = point; attached = a; there = e; unfit = λ w h m. false≢true (sym (ap is_incomplete (right_part os f point w h m)) ∙ i) };
 }
 
-Fits : List (Option Object) → FramebufferValue → Point → Type 0
-Fits os f point = (w : ℕ) × (h : ℕ) × IsLike os f w h point
+FitsAt : List (Option Object) → FramebufferValue → Point → Type 0
+FitsAt os f point = (w : ℕ) × (h : ℕ) × IsLike os f w h point
 
-by_points : (os : List (Option Object)) (f : FramebufferValue) → Fits os f Color → Fits os f Depth → Fits os f Stencil → (point : Point) → Fits os f point
+by_points : (os : List (Option Object)) (f : FramebufferValue) → FitsAt os f Color → FitsAt os f Depth → FitsAt os f Stencil → (point : Point) → FitsAt os f point
 by_points os f c d e Color = c
 by_points os f c d e Depth = d
 by_points os f c d e Stencil = e
@@ -359,11 +359,11 @@ sides w h x y = elim (cases_eq w x) [
   | inr ne ↦ inr (inl ne)
 ]
 
-moved : (os : List (Option Object)) (f : FramebufferValue) (point : Point) (w h x y : ℕ) → w ≡ x → h ≡ y → MayBeThere os f point x y → MayBeThere os f point w h
-moved os f point w h x y p q m = subst (λ i. MayBeThere os f point i h) (sym p) (subst (λ j. MayBeThere os f point x j) (sym q) m)
+of_sides : (os : List (Option Object)) (f : FramebufferValue) (point : Point) (w h x y : ℕ) → w ≡ x → h ≡ y → MayBeThere os f point x y → MayBeThere os f point w h
+of_sides os f point w h x y p q m = subst (λ i. MayBeThere os f point i h) (sym p) (subst (λ j. MayBeThere os f point x j) (sym q) m)
 
-found_unlike : (os : List (Option Object)) (f : FramebufferValue) → ((point : Point) → Fits os f point) → (p q : Point) (w h x y : ℕ) → MayBeThere os f p w h → MayBeThere os f q x y → (w ≢ x) ⊎ (h ≢ y) → Found os f
-unfolding Means Fits
+found_unlike : (os : List (Option Object)) (f : FramebufferValue) → ((point : Point) → FitsAt os f point) → (p q : Point) (w h x y : ℕ) → MayBeThere os f p w h → MayBeThere os f q x y → (w ≢ x) ⊎ (h ≢ y) → Found os f
+unfolding Means FitsAt
 found_unlike os f fits p q w h x y m n d = record { verdict = unlike; holds = record { fits = fits; first = p; second = q; w = w; h = h; other_w = x; other_h = y; one = m; other = n; differ = d } }
 
 some_there : (os : List (Option Object)) (f : FramebufferValue) (point : Point) (w h : ℕ) → MayBeThere os f point w h → IsBare f → ⊥
@@ -378,7 +378,7 @@ unfolding Means
 found_lacking os f w h c d e n = record { verdict = lacking; holds = record { w = w; h = h; color = c; depth = d; stencil = e; some = n } }
 
 found : (os : List (Option Object)) (f : FramebufferValue) → Standing os f Color → Standing os f Depth → Standing os f Stencil → Found os f
-unfolding Means Fits
+unfolding Means FitsAt
 found os f (wrong a e i) d s = found_wrong os f Color a e i
 found os f c (wrong a e i) s = found_wrong os f Depth a e i
 found os f c d (wrong a e i) = found_wrong os f Stencil a e i
@@ -391,21 +391,21 @@ found os f (empty c) (empty d) (empty s) = record { verdict = bare; holds = λ p
 found os f (empty c) (empty d) (fitting w h s) = found_lacking os f w h c (inl d) (inr s) (some_there os f Stencil w h s)
 found os f (empty c) (fitting w h d) (empty s) = found_lacking os f w h c (inr d) (inl s) (some_there os f Depth w h d)
 found os f (empty c) (fitting w h d) (fitting x y s) = elim (sides w h x y) [
-  | inl e ↦ found_lacking os f w h c (inr d) (inr (moved os f Stencil w h x y e.0 e.1 s)) (some_there os f Depth w h d)
+  | inl e ↦ found_lacking os f w h c (inr d) (inr (of_sides os f Stencil w h x y e.0 e.1 s)) (some_there os f Depth w h d)
   | inr ne ↦ found_unlike os f (by_points os f (0, 0, inl c) (w, h, inr d) (x, y, inr s)) Depth Stencil w h x y d s ne
 ]
 found os f (fitting w h c) (empty d) (empty s) = found_complete os f w h c (inl d) (inl s)
 found os f (fitting w h c) (empty d) (fitting x y s) = elim (sides w h x y) [
-  | inl e ↦ found_complete os f w h c (inl d) (inr (moved os f Stencil w h x y e.0 e.1 s))
+  | inl e ↦ found_complete os f w h c (inl d) (inr (of_sides os f Stencil w h x y e.0 e.1 s))
   | inr ne ↦ found_unlike os f (by_points os f (w, h, inr c) (0, 0, inl d) (x, y, inr s)) Color Stencil w h x y c s ne
 ]
 found os f (fitting w h c) (fitting x y d) (empty s) = elim (sides w h x y) [
-  | inl e ↦ found_complete os f w h c (inr (moved os f Depth w h x y e.0 e.1 d)) (inl s)
+  | inl e ↦ found_complete os f w h c (inr (of_sides os f Depth w h x y e.0 e.1 d)) (inl s)
   | inr ne ↦ found_unlike os f (by_points os f (w, h, inr c) (x, y, inr d) (0, 0, inl s)) Color Depth w h x y c d ne
 ]
 found os f (fitting w h c) (fitting x y d) (fitting i j s) = elim (sides w h x y) [
   | inl e ↦ elim (sides w h i j) [
-    | inl g ↦ found_complete os f w h c (inr (moved os f Depth w h x y e.0 e.1 d)) (inr (moved os f Stencil w h i j g.0 g.1 s))
+    | inl g ↦ found_complete os f w h c (inr (of_sides os f Depth w h x y e.0 e.1 d)) (inr (of_sides os f Stencil w h i j g.0 g.1 s))
     | inr ne ↦ found_unlike os f (by_points os f (w, h, inr c) (x, y, inr d) (i, j, inr s)) Color Stencil w h i j c s ne
   ]
   | inr ne ↦ found_unlike os f (by_points os f (w, h, inr c) (x, y, inr d) (i, j, inr s)) Color Depth w h x y c d ne
@@ -427,7 +427,7 @@ of_code lacking = refl
 
 meant : (os : List (Option Object)) (f : FramebufferValue) (v : Verdict) → status_in os f ≡ code_of v → Means os f v
 meant os f v e =
-    let x = found os f (stands os f Color) (stands os f Depth) (stands os f Stencil) in
+    let x = found os f (standing_at os f Color) (standing_at os f Depth) (standing_at os f Stencil) in
     subst (Means os f) (sym (of_code x.verdict) ∙ ap verdict_of (sym (told os f x.verdict x.holds) ∙ e) ∙ of_code v) x.holds
 
 -- ---- The reply to glCheckFramebufferStatusOES.
@@ -437,7 +437,7 @@ replied n = record { outcome = Done; value = pos n; list = []; bytes = [] }
 reply_of_check : (s : State) (t n : ℕ) (c : CallValue) → IsCheck s t n c → (step s t c).reply ≡ replied (bound_framebuffer s t).status
 reply_of_check s t n c h = ap (λ (z : Stepped). z.reply) (allowed_gl s t n CheckFramebufferStatus c h)
 
-bound_status : (s : State) (t n : ℕ) (f : FramebufferValue) → current_context s t ≡ Some n → IsBoundTo s t n f → (bound_framebuffer s t).status ≡ status_in s.objects f
+bound_status : (s : State) (t n : ℕ) (f : FramebufferValue) → current_context s t ≡ Some n → HasFramebufferBound s t n f → (bound_framebuffer s t).status ≡ status_in s.objects f
 bound_status s t n f i b =
     ap (λ (z : Bool). (cond z (window_framebuffer s t) (object_framebuffer s.objects (unwrap_or (option_and_then (framebuffer_of s) (current_context s t)) fresh))).status) b.named
     ∙ ap (λ o. status_in s.objects (unwrap_or o fresh)) (ap (λ o. option_and_then (framebuffer_of s) o) i ∙ b.value)
@@ -445,58 +445,58 @@ bound_status s t n f i b =
 same_code : (m n : ℕ) → pos m ≡ pos n → m ≡ n
 same_code m n e = cc
 
-answers_verdict : (s : State) (t n : ℕ) (c : CallValue) (f : FramebufferValue) (v : Verdict) → IsCheck s t n c → IsBoundTo s t n f → Means s.objects f v → AnswersStatus s t c (code_of v)
+answers_verdict : (s : State) (t n : ℕ) (c : CallValue) (f : FramebufferValue) (v : Verdict) → IsCheck s t n c → HasFramebufferBound s t n f → Means s.objects f v → AnswersStatus s t c (code_of v)
 answers_verdict s t n c f v h b m = reply_of_check s t n c h ∙ ap replied (bound_status s t n f h.current b ∙ told s.objects f v m)
 
-verdict_answered : (s : State) (t n : ℕ) (c : CallValue) (f : FramebufferValue) (v : Verdict) → IsCheck s t n c → IsBoundTo s t n f → AnswersStatus s t c (code_of v) → Means s.objects f v
+verdict_answered : (s : State) (t n : ℕ) (c : CallValue) (f : FramebufferValue) (v : Verdict) → IsCheck s t n c → HasFramebufferBound s t n f → AnswersStatus s t c (code_of v) → Means s.objects f v
 verdict_answered s t n c f v h b a = meant s.objects f v (sym (bound_status s t n f h.current b) ∙ same_code _ _ (ap (λ (z : ReplyValue). z.value) (sym (reply_of_check s t n c h) ∙ a)))
 
-pub complete_if : (s : State) (t n : ℕ) (c : CallValue) (f : FramebufferValue) → IsCheck s t n c → IsBoundTo s t n f → AnswersStatus s t c GL_FRAMEBUFFER_COMPLETE_OES → IsComplete s.objects f
+pub complete_if : (s : State) (t n : ℕ) (c : CallValue) (f : FramebufferValue) → IsCheck s t n c → HasFramebufferBound s t n f → AnswersStatus s t c GL_FRAMEBUFFER_COMPLETE_OES → IsComplete s.objects f
 unfolding Means code_of
 complete_if s t n c f = verdict_answered s t n c f complete
 
-pub answers_complete : (s : State) (t n : ℕ) (c : CallValue) (f : FramebufferValue) → IsCheck s t n c → IsBoundTo s t n f → IsComplete s.objects f → AnswersStatus s t c GL_FRAMEBUFFER_COMPLETE_OES
+pub answers_complete : (s : State) (t n : ℕ) (c : CallValue) (f : FramebufferValue) → IsCheck s t n c → HasFramebufferBound s t n f → IsComplete s.objects f → AnswersStatus s t c GL_FRAMEBUFFER_COMPLETE_OES
 unfolding Means code_of
 answers_complete s t n c f = answers_verdict s t n c f complete
 
-pub unfit_if : (s : State) (t n : ℕ) (c : CallValue) (f : FramebufferValue) → IsCheck s t n c → IsBoundTo s t n f → AnswersStatus s t c GL_FRAMEBUFFER_INCOMPLETE_ATTACHMENT_OES → HasUnfit s.objects f
+pub unfit_if : (s : State) (t n : ℕ) (c : CallValue) (f : FramebufferValue) → IsCheck s t n c → HasFramebufferBound s t n f → AnswersStatus s t c GL_FRAMEBUFFER_INCOMPLETE_ATTACHMENT_OES → HasUnfit s.objects f
 unfolding Means code_of
 unfit_if s t n c f = verdict_answered s t n c f unfit
 
-pub answers_unfit : (s : State) (t n : ℕ) (c : CallValue) (f : FramebufferValue) → IsCheck s t n c → IsBoundTo s t n f → HasUnfit s.objects f → AnswersStatus s t c GL_FRAMEBUFFER_INCOMPLETE_ATTACHMENT_OES
+pub answers_unfit : (s : State) (t n : ℕ) (c : CallValue) (f : FramebufferValue) → IsCheck s t n c → HasFramebufferBound s t n f → HasUnfit s.objects f → AnswersStatus s t c GL_FRAMEBUFFER_INCOMPLETE_ATTACHMENT_OES
 unfolding Means code_of
 answers_unfit s t n c f = answers_verdict s t n c f unfit
 
-pub bare_if : (s : State) (t n : ℕ) (c : CallValue) (f : FramebufferValue) → IsCheck s t n c → IsBoundTo s t n f → AnswersStatus s t c GL_FRAMEBUFFER_INCOMPLETE_MISSING_ATTACHMENT_OES → IsBare f
+pub bare_if : (s : State) (t n : ℕ) (c : CallValue) (f : FramebufferValue) → IsCheck s t n c → HasFramebufferBound s t n f → AnswersStatus s t c GL_FRAMEBUFFER_INCOMPLETE_MISSING_ATTACHMENT_OES → IsBare f
 unfolding Means code_of
 bare_if s t n c f = verdict_answered s t n c f bare
 
-pub answers_bare : (s : State) (t n : ℕ) (c : CallValue) (f : FramebufferValue) → IsCheck s t n c → IsBoundTo s t n f → IsBare f → AnswersStatus s t c GL_FRAMEBUFFER_INCOMPLETE_MISSING_ATTACHMENT_OES
+pub answers_bare : (s : State) (t n : ℕ) (c : CallValue) (f : FramebufferValue) → IsCheck s t n c → HasFramebufferBound s t n f → IsBare f → AnswersStatus s t c GL_FRAMEBUFFER_INCOMPLETE_MISSING_ATTACHMENT_OES
 unfolding Means code_of
 answers_bare s t n c f = answers_verdict s t n c f bare
 
-pub unlike_if : (s : State) (t n : ℕ) (c : CallValue) (f : FramebufferValue) → IsCheck s t n c → IsBoundTo s t n f → AnswersStatus s t c GL_FRAMEBUFFER_INCOMPLETE_DIMENSIONS_OES → HasUnlike s.objects f
+pub unlike_if : (s : State) (t n : ℕ) (c : CallValue) (f : FramebufferValue) → IsCheck s t n c → HasFramebufferBound s t n f → AnswersStatus s t c GL_FRAMEBUFFER_INCOMPLETE_DIMENSIONS_OES → HasUnlike s.objects f
 unfolding Means code_of
 unlike_if s t n c f = verdict_answered s t n c f unlike
 
-pub answers_unlike : (s : State) (t n : ℕ) (c : CallValue) (f : FramebufferValue) → IsCheck s t n c → IsBoundTo s t n f → HasUnlike s.objects f → AnswersStatus s t c GL_FRAMEBUFFER_INCOMPLETE_DIMENSIONS_OES
+pub answers_unlike : (s : State) (t n : ℕ) (c : CallValue) (f : FramebufferValue) → IsCheck s t n c → HasFramebufferBound s t n f → HasUnlike s.objects f → AnswersStatus s t c GL_FRAMEBUFFER_INCOMPLETE_DIMENSIONS_OES
 unfolding Means code_of
 answers_unlike s t n c f = answers_verdict s t n c f unlike
 
-pub lacking_if : (s : State) (t n : ℕ) (c : CallValue) (f : FramebufferValue) → IsCheck s t n c → IsBoundTo s t n f → AnswersStatus s t c GL_FRAMEBUFFER_UNSUPPORTED_OES → LacksColor s.objects f
+pub lacking_if : (s : State) (t n : ℕ) (c : CallValue) (f : FramebufferValue) → IsCheck s t n c → HasFramebufferBound s t n f → AnswersStatus s t c GL_FRAMEBUFFER_UNSUPPORTED_OES → LacksColor s.objects f
 unfolding Means code_of
 lacking_if s t n c f = verdict_answered s t n c f lacking
 
-pub answers_lacking : (s : State) (t n : ℕ) (c : CallValue) (f : FramebufferValue) → IsCheck s t n c → IsBoundTo s t n f → LacksColor s.objects f → AnswersStatus s t c GL_FRAMEBUFFER_UNSUPPORTED_OES
+pub answers_lacking : (s : State) (t n : ℕ) (c : CallValue) (f : FramebufferValue) → IsCheck s t n c → HasFramebufferBound s t n f → LacksColor s.objects f → AnswersStatus s t c GL_FRAMEBUFFER_UNSUPPORTED_OES
 unfolding Means code_of
 answers_lacking s t n c f = answers_verdict s t n c f lacking
 
 -- ---- The framebuffer of the window system.
-window_bound : (s : State) (t : ℕ) → IsBoundToWindow s t → (bound_framebuffer s t).status ≡ window_status (draw_storage s t)
+window_bound : (s : State) (t : ℕ) → HasWindowBound s t → (bound_framebuffer s t).status ≡ window_status (draw_storage s t)
 window_bound s t b = ap (λ (z : Bool). (cond z (window_framebuffer s t) (object_framebuffer s.objects (unwrap_or (option_and_then (framebuffer_of s) (current_context s t)) fresh))).status) b
 
-pub answers_window : (s : State) (t n : ℕ) (c : CallValue) → IsCheck s t n c → IsBoundToWindow s t → is_some (draw_storage s t) ≡ true → AnswersStatus s t c GL_FRAMEBUFFER_COMPLETE_OES
+pub answers_window : (s : State) (t n : ℕ) (c : CallValue) → IsCheck s t n c → HasWindowBound s t → is_some (draw_storage s t) ≡ true → AnswersStatus s t c GL_FRAMEBUFFER_COMPLETE_OES
 answers_window s t n c h b d = reply_of_check s t n c h ∙ ap replied (window_bound s t b ∙ ap (λ z. if z then GL_FRAMEBUFFER_COMPLETE_OES else GL_FRAMEBUFFER_UNDEFINED_OES) d)
 
-pub answers_surfaceless : (s : State) (t n : ℕ) (c : CallValue) → IsCheck s t n c → IsBoundToWindow s t → draw_storage s t ≡ None → AnswersStatus s t c GL_FRAMEBUFFER_UNDEFINED_OES
+pub answers_surfaceless : (s : State) (t n : ℕ) (c : CallValue) → IsCheck s t n c → HasWindowBound s t → draw_storage s t ≡ None → AnswersStatus s t c GL_FRAMEBUFFER_UNDEFINED_OES
 answers_surfaceless s t n c h b d = reply_of_check s t n c h ∙ ap replied (window_bound s t b ∙ ap window_status d)

@@ -103,13 +103,13 @@ abbrev pub IsCheck : State → ℕ → ℕ → CallValue → Type 0
 IsCheck s t n c = IsAllowedGl s t n CheckFramebufferStatus c
 
 -- the framebuffer that is bound is one of the context's, with this value
-pub record IsBoundTo (s : State) (t n : ℕ) (f : FramebufferValue) : Type 0 where
+pub record HasFramebufferBound (s : State) (t n : ℕ) (f : FramebufferValue) : Type 0 where
   pub named : (current_framebuffer_name s t == 0) ≡ false
   pub value : framebuffer_of s n ≡ Some f
 
 -- or that of the window system
-abbrev pub IsBoundToWindow : State → ℕ → Type 0
-IsBoundToWindow s t = (current_framebuffer_name s t == 0) ≡ true
+abbrev pub HasWindowBound : State → ℕ → Type 0
+HasWindowBound s t = (current_framebuffer_name s t == 0) ≡ true
 
 abbrev pub AnswersStatus : State → ℕ → CallValue → ℕ → Type 0
 AnswersStatus s t c status = (step s t c).reply ≡ record { outcome = Done; value = pos status; list = []; bytes = [] }

@@ -6,7 +6,7 @@ ghost use Rattle.framebuffer_objects.specs.Framebuffers.{FramebufferValue as AFr
 ghost use Rattle.framebuffer_objects.specs.declared.points.Point.{Point as APoint};
 ghost use Rattle.egl_model.specs.Framebuffers.{target_framebuffer};
 ghost use Rattle.egl_names.specs.declared.codes.TheConstants.{GL_FRAMEBUFFER_COMPLETE_OES, GL_FRAMEBUFFER_INCOMPLETE_ATTACHMENT_OES, GL_FRAMEBUFFER_INCOMPLETE_DIMENSIONS_OES, GL_FRAMEBUFFER_INCOMPLETE_MISSING_ATTACHMENT_OES, GL_FRAMEBUFFER_UNDEFINED_OES, GL_FRAMEBUFFER_UNSUPPORTED_OES};
-ghost use Rattle.model_laws.specs.Statuses.{AnswersStatus, HasUnfit, HasUnlike, IsBare, IsBoundTo, IsBoundToWindow, IsCheck, IsComplete, LacksColor};
+ghost use Rattle.model_laws.specs.Statuses.{AnswersStatus, HasUnfit, HasUnlike, IsBare, HasFramebufferBound, HasWindowBound, IsCheck, IsComplete, LacksColor};
 ghost use Rattle.model_laws.specs.Destroyed.{IsRemoved, KeepsCurrents};
 ghost use Rattle.egl_calls.specs.Arguments.{is_zero};
 ghost use Rattle.egl_calls.specs.Calls.{CallValue};
@@ -357,13 +357,13 @@ pub fn a_deletion_leaves_other_contexts()
 
 /// glCheckFramebufferStatusOES tells the first status that holds of a framebuffer object, each exactly where it does (OES_framebuffer_object, "Framebuffer Completeness"): something may not stand where it is attached; nothing is attached; two of what is attached have different sides; no colour is attached; else it is complete. The window system's framebuffer is complete where the thread has a surface, and undefined where it has none (OES_surfaceless_context).
 pub fn a_status_tells_what_is_attached()
-    ensures complete { (s : State) (t n : ℕ) (c : CallValue) (f : AFramebuffer) → IsCheck s t n c → IsBoundTo s t n f → AnswersStatus s t c GL_FRAMEBUFFER_COMPLETE_OES ↔ IsComplete s.objects f }
-    ensures unfit { (s : State) (t n : ℕ) (c : CallValue) (f : AFramebuffer) → IsCheck s t n c → IsBoundTo s t n f → AnswersStatus s t c GL_FRAMEBUFFER_INCOMPLETE_ATTACHMENT_OES ↔ HasUnfit s.objects f }
-    ensures bare { (s : State) (t n : ℕ) (c : CallValue) (f : AFramebuffer) → IsCheck s t n c → IsBoundTo s t n f → AnswersStatus s t c GL_FRAMEBUFFER_INCOMPLETE_MISSING_ATTACHMENT_OES ↔ IsBare f }
-    ensures unlike { (s : State) (t n : ℕ) (c : CallValue) (f : AFramebuffer) → IsCheck s t n c → IsBoundTo s t n f → AnswersStatus s t c GL_FRAMEBUFFER_INCOMPLETE_DIMENSIONS_OES ↔ HasUnlike s.objects f }
-    ensures lacking { (s : State) (t n : ℕ) (c : CallValue) (f : AFramebuffer) → IsCheck s t n c → IsBoundTo s t n f → AnswersStatus s t c GL_FRAMEBUFFER_UNSUPPORTED_OES ↔ LacksColor s.objects f }
-    ensures window { (s : State) (t n : ℕ) (c : CallValue) → IsCheck s t n c → IsBoundToWindow s t → is_some (draw_storage s t) ≡ true → AnswersStatus s t c GL_FRAMEBUFFER_COMPLETE_OES }
-    ensures surfaceless { (s : State) (t n : ℕ) (c : CallValue) → IsCheck s t n c → IsBoundToWindow s t → draw_storage s t ≡ None → AnswersStatus s t c GL_FRAMEBUFFER_UNDEFINED_OES }
+    ensures complete { (s : State) (t n : ℕ) (c : CallValue) (f : AFramebuffer) → IsCheck s t n c → HasFramebufferBound s t n f → AnswersStatus s t c GL_FRAMEBUFFER_COMPLETE_OES ↔ IsComplete s.objects f }
+    ensures unfit { (s : State) (t n : ℕ) (c : CallValue) (f : AFramebuffer) → IsCheck s t n c → HasFramebufferBound s t n f → AnswersStatus s t c GL_FRAMEBUFFER_INCOMPLETE_ATTACHMENT_OES ↔ HasUnfit s.objects f }
+    ensures bare { (s : State) (t n : ℕ) (c : CallValue) (f : AFramebuffer) → IsCheck s t n c → HasFramebufferBound s t n f → AnswersStatus s t c GL_FRAMEBUFFER_INCOMPLETE_MISSING_ATTACHMENT_OES ↔ IsBare f }
+    ensures unlike { (s : State) (t n : ℕ) (c : CallValue) (f : AFramebuffer) → IsCheck s t n c → HasFramebufferBound s t n f → AnswersStatus s t c GL_FRAMEBUFFER_INCOMPLETE_DIMENSIONS_OES ↔ HasUnlike s.objects f }
+    ensures lacking { (s : State) (t n : ℕ) (c : CallValue) (f : AFramebuffer) → IsCheck s t n c → HasFramebufferBound s t n f → AnswersStatus s t c GL_FRAMEBUFFER_UNSUPPORTED_OES ↔ LacksColor s.objects f }
+    ensures window { (s : State) (t n : ℕ) (c : CallValue) → IsCheck s t n c → HasWindowBound s t → is_some (draw_storage s t) ≡ true → AnswersStatus s t c GL_FRAMEBUFFER_COMPLETE_OES }
+    ensures surfaceless { (s : State) (t n : ℕ) (c : CallValue) → IsCheck s t n c → HasWindowBound s t → draw_storage s t ≡ None → AnswersStatus s t c GL_FRAMEBUFFER_UNDEFINED_OES }
 {}
 
 /// eglCreateContext answers EGL_BAD_ALLOC exactly where nothing else is wrong, and no number is left for its handle (section 3.7.1).
