@@ -44,7 +44,7 @@ use Rattle.model_laws.proofs.Keeps.{Acts, Blind, acts_cond, acts_of, acts_self, 
 use Rattle.model_laws.proofs.Moves.{Add, Await, Binds, Bind, Flags, Keep, Name, Note, Change}
 use Rattle.model_laws.proofs.Named.{context_free, found_below, goes_valid, group_goes, is_some-bound_by, surface_free}
 use Rattle.model_laws.proofs.NewObjects.{full-blank, leads-new_texture, stored-new_texture, with_own_pixels, without_pixels}
-use Rattle.model_laws.proofs.Places.{new_kind, old_kind}
+use Rattle.model_laws.proofs.Places.{new_frozen, new_kind, old_kind}
 
 pub acts-error : (s : State) (t : ℕ) (e : EglError) → Acts quiet t s (λ a. set_error a t e)
 acts-error s t e = by_quiet_moves t s (Note e ∷ []) refl (tt, tt) (λ w. (tt, tt))
@@ -87,7 +87,7 @@ acts-pbuffer s t c h r =
     (by_moves t s (Add new ∷ Name (number c 0) a_surface n ∷ []) ((tt, (full-blank (format_of (signed c 1)) _ _ (side_fits (asked_width c)) (side_fits (asked_height c)), tt)), (tt, tt))
     (λ p. let a = (pbuffer_allowed c (pbuffer_facts s c) h r).room in omega (arith, a))
     (λ w. (
-      ((new_kind s.objects new 1 (n + 1) a_storage refl refl, tt), with_own_pixels _ (n + 0) _ (omega arith), (tt, without_pixels _ (n + 1) _ refl refl, tt)),
+      ((new_kind s.objects new 1 (n + 1) a_storage refl refl, tt), with_own_pixels _ (n + 0) _ (omega arith) (new_frozen s.objects new 1 (n + 0 + 1) (omega arith)), (tt, without_pixels _ (n + 1) _ refl refl, tt)),
       λ v. (new_kind s.objects new 0 n a_surface_kind (omega arith) refl, tt),
     )))
 

@@ -220,6 +220,7 @@ stored_image : (s : State) (place k : ℕ) → IsFree (shapes s.objects) k → I
 unfolding image_of
 stored_image s place k f = record {
   own = λ m e. absurd (none-some m e);
+  thawed = λ m e. absurd (none-some m e);
   pixels = λ m h. inr (subst (IsFree (shapes s.objects ++ shapes (image_of k ∷ []))) (only_one m k h) (free_more s.objects (image_of k) k refl f));
 }
 

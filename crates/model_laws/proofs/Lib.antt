@@ -66,6 +66,8 @@ pub mod Locals
 pub mod Framing
 pub mod LateEntry
 pub mod Returns
+pub mod LateDraws
+pub mod OwnedPixels
 pub mod RefLaws
 pub mod FenceLaws
 pub mod SyncCalls

@@ -168,14 +168,14 @@ egl_step-local s t c k l h =
     ∙ ap (after_egl_rules s t (local_refusal c)) (egl_effect-local s t c k h)
     ∙ by_egl_refusal s t (egl_value (part_of s t) k c) (local_refusal c) l
 
-nothing_to_clear : (s : State) (t : ℕ) (f : ImageValue → ImageValue) → draw_storage s t ≡ None → s ≡ put_own s t (record (own_of s t) { draw = option_map f (own_of s t).draw })
+pub nothing_to_draw_on : (s : State) (t : ℕ) (f : ImageValue → ImageValue) → draw_storage s t ≡ None → s ≡ put_own s t (record (own_of s t) { draw = option_map f (own_of s t).draw })
 unfolding at_place
-nothing_to_clear s t f e =
+nothing_to_draw_on s t f e =
     sym (put-own_of s t)
     ∙ ap (λ (i : Option ImageValue). put_own s t (record (own_of s t) { draw = i })) (ap (λ (p : Option ℕ). at_place image_in p s.objects) e ∙ sym (ap (λ (p : Option ℕ). option_map f (at_place image_in p s.objects)) e))
 
 cleared-local : (s : State) (t : ℕ) (q : PartValue) (d : Option ℕ) → draw_storage s t ≡ d → clear_storage (Some q) d s ≡ put_own s t (record (own_of s t) { draw = option_map (cleared_image q) (own_of s t).draw })
-cleared-local s t q None e = nothing_to_clear s t (cleared_image q) e
+cleared-local s t q None e = nothing_to_draw_on s t (cleared_image q) e
 cleared-local s t q (Some m) e = image_as_put s t m (cleared_image q) (cleared q) (λ v. refl) e
 
 either_put : (s : State) (t : ℕ) (b : Bool) (a : State) (x : Own) → a ≡ put_own s t x → cond b a s ≡ put_own s t (cond b x (own_of s t))
@@ -209,7 +209,7 @@ unbound_name q h = by (q.bound.framebuffer == 0) h
     by true h = refl
     by false h = not_local h
 
-bound-local : (s : State) (t n : ℕ) (q : PartValue) → current_context s t ≡ Some n → part_of_context s n ≡ Some q → is_unbound (Some q) ≡ true → bound_framebuffer s t ≡ window_framebuffer s t
+pub bound-local : (s : State) (t n : ℕ) (q : PartValue) → current_context s t ≡ Some n → part_of_context s n ≡ Some q → is_unbound (Some q) ≡ true → bound_framebuffer s t ≡ window_framebuffer s t
 bound-local s t n q h e u =
     ap (λ (m : ℕ). cond (m == 0) (window_framebuffer s t) (object_framebuffer s.objects (unwrap_or (option_and_then (framebuffer_of s) (current_context s t)) fresh)))
     (ap (λ o. framebuffer_name (option_and_then (part_of_context s) o)) h ∙ ap framebuffer_name e)
@@ -258,8 +258,8 @@ pub record HasOwn (s : State) (t : ℕ) : Type 0 where
   pub part : is_some (own_of s t).context ≡ is_some (current_context s t)
   pub image : is_some (own_of s t).draw ≡ is_some (draw_storage s t)
 
--- glClear and glReadPixels where the framebuffer of the window system is bound
-complete-local : (s : State) (t n : ℕ) (q : PartValue) → HasOwn s t → current_context s t ≡ Some n → part_of_context s n ≡ Some q → is_unbound (Some q) ≡ true → is_complete (bound_framebuffer s t) ≡ is_some (own_of s t).draw
+-- what is bound is complete where there are surfaces, if it is the framebuffer of the window system
+pub complete-local : (s : State) (t n : ℕ) (q : PartValue) → HasOwn s t → current_context s t ≡ Some n → part_of_context s n ≡ Some q → is_unbound (Some q) ≡ true → is_complete (bound_framebuffer s t) ≡ is_some (own_of s t).draw
 complete-local s t n q o h e u = ap is_complete (bound-local s t n q h e u) ∙ window_complete (draw_storage s t) ∙ sym o.image
 
 -- a call whose facts look at objects isn't local

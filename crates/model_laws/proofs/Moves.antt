@@ -7,7 +7,7 @@ use Rattle.context_state.specs.Parts.{PartValue}
 use Rattle.pixel_rows.specs.Images.{ImageValue}
 use Rattle.surface_store.specs.WindowTables.{swapped_windows}
 use Rattle.driver_objects.specs.declared.objects.Object.{Object}
-use Rattle.model_laws.specs.Slots.{own_of, slot}
+use Rattle.model_laws.specs.Slots.{is_frozen, own_of, slot}
 use Rattle.display_table.specs.declared.handles.Handle.{Handle}
 use Rattle.display_table.specs.declared.handles.HandleKind.{HandleKind}
 use Rattle.egl_model.specs.declared.records.Bound.{Bound}
@@ -21,7 +21,7 @@ use Rattle.egl_model.specs.Parts.{is_place, set_image, set_part}
 use Rattle.egl_model.specs.Currents.{has_context, has_surface, is_bound}
 use Rattle.egl_model.specs.MakeCurrent.{bind}
 use Rattle.model_laws.specs.Kinds.{named_kind}
-use Rattle.model_laws.specs.Shapes.{Goes, HasKind, IsFree, Leads, Shape, pixels_in, shape_in, shapes, slots_in}
+use Rattle.model_laws.specs.Shapes.{Goes, HasKind, IsFree, Leads, Shape, frozen_at, pixels_in, shape_in, shapes, slots_in}
 use Rattle.egl_model.specs.Waits.{waiting}
 use Rattle.model_laws.specs.Sound.{IsBoundBelowNext, IsWhole}
 use Rattle.egl_model.specs.Sweep.{bytes_in, live_bytes}
@@ -165,9 +165,14 @@ abbrev pub own_in : Option Object → Option ℕ
 own_in None = None
 own_in (Some o) = own_of o
 
--- a new object at a place has no storage of a surface, but that a surface's own storage stands right behind it
+abbrev pub frozen_in : Option Object → Bool
+frozen_in None = false
+frozen_in (Some o) = is_frozen o
+
+-- a new object at a place has no storage of a surface, but that a surface's own storage stands right behind it, and isn't frozen
 pub record IsStored (sh : List (Option Shape)) (place : ℕ) (o : Option Object) : Type 0 where
   pub own : (k : ℕ) → own_in o ≡ Some k → k ≡ place + 1
+  pub thawed : (k : ℕ) → own_in o ≡ Some k → frozen_at sh k ≡ false
   pub pixels : (k : ℕ) → is_in k (pixels_in o) ≡ true → (k ≡ place + 1) ⊎ IsFree sh k
 
 -- new objects, the first of them at base + j

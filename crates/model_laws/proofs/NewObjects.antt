@@ -1,5 +1,5 @@
 -- New objects that have no storage, or a surface's own one.
-use Rattle.std.proofs.Common.{◌≡◌, ℕ, zero, suc, ◌+◌, ◌-◌, ◌*◌, ◌≤◌, inl, inr, List, [], ◌∷◌, ◌++◌, refl, sym, ap, ◌∙◌, arith, length, get_or, Option, None, Some}
+use Rattle.std.proofs.Common.{◌≡◌, ℕ, zero, suc, ◌+◌, ◌-◌, ◌*◌, ◌≤◌, false, inl, inr, List, [], ◌∷◌, ◌++◌, refl, sym, ap, ◌∙◌, arith, length, get_or, Option, None, Some}
 use Rattle.std.specs.Prelude.{replicate}
 use Rattle.std.proofs.lemmas.Bool.{cases_lt}
 use Rattle.driver_objects.specs.Objects.{filled}
@@ -26,20 +26,25 @@ use Rattle.model_laws.proofs.Setters.{length-painted}
 use Rattle.driver_objects.specs.Storages.{copied_image, stored}
 use Rattle.std.proofs.lemmas.List.{length-replicate}
 use Rattle.egl_model.specs.Graph.{is_in}
-use Rattle.model_laws.specs.Shapes.{IsFree, Leads, Shape, own_at, pixels_in, shapes, slots_in}
+use Rattle.model_laws.specs.Shapes.{IsFree, Leads, Shape, frozen_at, own_at, pixels_in, shapes, slots_in}
 use Rattle.model_laws.proofs.Moves.{IsStored, own_in}
 use Rattle.model_laws.proofs.Places.{at_new, at_old, length-shapes, own_at-shapes, shapes-append, within_shapes}
 use Rattle.model_laws.proofs.Slots.{no_edge, only_one, own_is_storage}
 
 pub without_pixels : (sh : List (Option Shape)) (place : ℕ) (o : Option Object) → own_in o ≡ None → pixels_in o ≡ [] → IsStored sh place o
 without_pixels sh place o a b = record {
-  own = λ k e. absurd (let f : None ≡ Some k = sym a ∙ e in cc);
+  own = λ k e. absurd (none k e);
+  thawed = λ k e. absurd (none k e);
   pixels = λ k h. no_edge k (ap (is_in k) (sym b) ∙ h);
 }
+  where
+    none : (k : ℕ) → own_in o ≡ Some k → ⊥
+    none k e = absurd (let f : None ≡ Some k = sym a ∙ e in cc)
 
-pub with_own_pixels : (sh : List (Option Shape)) (place : ℕ) (x : BackedSurface) → x.storage ≡ place + 1 → IsStored sh place (Some (Surface x))
-with_own_pixels sh place x e = record {
+pub with_own_pixels : (sh : List (Option Shape)) (place : ℕ) (x : BackedSurface) → x.storage ≡ place + 1 → frozen_at sh (place + 1) ≡ false → IsStored sh place (Some (Surface x))
+with_own_pixels sh place x e z = record {
   own = λ k h. same k x.storage h ∙ e;
+  thawed = λ k h. ap (frozen_at sh) (same k x.storage h ∙ e) ∙ z;
   pixels = λ k h. inl (sym (only_one k x.storage h) ∙ e);
 }
   where

@@ -1,7 +1,7 @@
 -- Places of lists, and shapes at places.
 use Rattle.std.proofs.Common.{◌≡◌, ℕ, zero, suc, ◌+◌, ◌-◌, ◌<◌, ◌≤◌, inl, inr, true, false, List, [], ◌∷◌, ◌++◌, refl, sym, ap, ◌∙◌, arith, length, Option, None, Some, get_or, set, map, is_some}
 use Rattle.std.specs.Prelude.{replicate}
-use Rattle.std.specs.Option.{option_map, option_and_then}
+use Rattle.std.specs.Option.{option_map, option_map_or, option_and_then}
 use Rattle.std.proofs.lemmas.Bool.{cases_lt}
 use Rattle.std.proofs.lemmas.List.{get_or_append_left, get_or-append-add, get_or_past, map-append}
 use Rattle.std.proofs.Math.ListN.{get_or-map}
@@ -10,8 +10,8 @@ use Rattle.driver_objects.specs.declared.objects.Object.{Object}
 use Rattle.driver_objects.specs.Objects.{kind_of}
 use Rattle.egl_model.specs.declared.records.ThreadRecord.{ThreadRecord}
 use Rattle.egl_model.specs.State.{initial}
-use Rattle.model_laws.specs.Shapes.{HasKind, Shape, kind_at, own_at, shape_in, shapes}
-use Rattle.model_laws.proofs.Moves.{own_in}
+use Rattle.model_laws.specs.Shapes.{HasKind, Shape, frozen_at, kind_at, own_at, shape_in, shapes}
+use Rattle.model_laws.proofs.Moves.{frozen_in, own_in}
 
 -- what holds of each element, and of the one that is written
 pub each_at_set : {X : Type 0} (P : X → Type 0) (xs : List X) (i : ℕ) (y d : X) → P y → ((k : ℕ) → P (get_or xs k d)) → (k : ℕ) → P (get_or (set xs i y) k d)
@@ -112,6 +112,13 @@ own_in_shape (Some o) = refl
 pub own_at-shapes : (os : List (Option Object)) (n : ℕ) → own_at (shapes os) n ≡ own_in (get_or os n None)
 own_at-shapes os n = ap (option_and_then (λ (x : Shape). x.own)) (shape_at os n) ∙ own_in_shape (get_or os n None)
 
+frozen_in_shape : (o : Option Object) → option_map_or (λ (x : Shape). x.frozen) (shape_in o) false ≡ frozen_in o
+frozen_in_shape None = refl
+frozen_in_shape (Some o) = refl
+
+pub frozen_at-shapes : (os : List (Option Object)) (n : ℕ) → frozen_at (shapes os) n ≡ frozen_in (get_or os n None)
+frozen_at-shapes os n = ap (λ (o : Option Shape). option_map_or (λ (x : Shape). x.frozen) o false) (shape_at os n) ∙ frozen_in_shape (get_or os n None)
+
 pub is_some_of : {X A : Type 0} (f : X → A) (o : Option X) (a : A) → option_map f o ≡ Some a → is_some o ≡ true
 is_some_of f None a h = absurd (let e : None ≡ Some a = h in cc)
 is_some_of f (Some x) a h = refl
@@ -129,3 +136,8 @@ pub new_kind : (os new : List (Option Object)) (j n : ℕ) (k : ObjectKind) → 
 new_kind os new j n k e h = record {
   is = ap (option_map (λ (x : Shape). x.kind)) (new_at (shapes os) (shapes new) None j n (let l = length-shapes os in omega (arith, e, l))) ∙ kind_at-shapes new j ∙ h;
 }
+
+-- and are frozen as they say
+pub new_frozen : (os new : List (Option Object)) (j n : ℕ) → n ≡ length os + j → frozen_at (shapes os ++ shapes new) n ≡ frozen_in (get_or new j None)
+new_frozen os new j n e =
+    ap (λ (sh : List (Option Shape)). frozen_at sh n) (sym (shapes-append os new)) ∙ frozen_at-shapes (os ++ new) n ∙ ap frozen_in (new_at os new None j n e)

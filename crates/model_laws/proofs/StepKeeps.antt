@@ -59,7 +59,7 @@ use Rattle.model_laws.proofs.TextureCalls.{acts-crop, acts-parameter, acts-rewri
 use Rattle.model_laws.proofs.FrameMoves.{frame_self, handles_then, objects_then}
 use Rattle.model_laws.proofs.LinkLaws.{exists_marked}
 use Rattle.model_laws.proofs.LitterLaws.{no_litter-opening, no_litter-step}
-use Rattle.model_laws.proofs.Places.{initial_at}
+use Rattle.model_laws.proofs.Places.{frozen_at-shapes, initial_at}
 use Rattle.model_laws.proofs.Slots.{no_edge}
 use Rattle.surface_store.proofs.WindowLaws.{opened_sides}
 use Rattle.model_laws.proofs.Ways.{each_way}
@@ -211,6 +211,7 @@ whole-opening windows ok video = record {
     objects = λ n. tt;
   };
   storages = record { each = λ m n k e h. no_edge k h };
+  thawed = record { each = λ m n e. frozen_at-shapes [] n };
   alone = record { contexts = λ t u n h k. unbound windows ok video t n h; surfaces = λ t u n h k. undrawn windows ok video t n h };
   both = record { draw = at_first (λ (r : ThreadRecord). is_some r.draw ≡ true → is_some r.context ≡ true) (λ r. r) (λ h. h); read = at_first (λ (r : ThreadRecord). is_some r.read ≡ is_some r.draw) (λ r. r) refl };
   numbers = record {

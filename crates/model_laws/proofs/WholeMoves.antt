@@ -1,5 +1,5 @@
 -- Each move that fits leads from a whole state to a whole one, and so does a row of them.
-use Rattle.std.proofs.Common.{◌≡◌, ℕ, zero, suc, ◌+◌, ◌-◌, ◌<◌, ◌≤◌, inl, inr, true, List, [], ◌∷◌, ◌++◌, refl, sym, ap, subst, ◌∙◌, arith, length, Option, None, Some, get_or}
+use Rattle.std.proofs.Common.{◌≡◌, ℕ, zero, suc, ◌+◌, ◌-◌, ◌<◌, ◌≤◌, inl, inr, true, List, [], ◌∷◌, ◌++◌, refl, sym, ap, subst, ◌∙◌, arith, false, length, Option, None, Some, get_or}
 use Rattle.std.proofs.lemmas.Bool.{cases_lt}
 use Rattle.std.proofs.lemmas.List.Elements.{All-filter, All-push, All-weaker}
 use Rattle.driver_objects.specs.declared.kinds.ObjectKind.TheVariants.{Storage as a_storage}
@@ -8,11 +8,11 @@ use Rattle.egl_model.specs.Graph.{is_in}
 use Rattle.egl_model.specs.State.{State, record_of, set_record}
 use Rattle.egl_model.specs.declared.records.ThreadRecord.{ThreadRecord}
 use Rattle.model_laws.specs.Kinds.{KindsFit, NamesItsKind, named_kind}
-use Rattle.model_laws.specs.Shapes.{Leads, Shape, own_at, pixels_in, shapes, slots_in}
+use Rattle.model_laws.specs.Shapes.{Leads, Shape, frozen_at, own_at, pixels_in, shapes, slots_in}
 use Rattle.model_laws.specs.Slots.{held_slots}
-use Rattle.model_laws.specs.Sound.{HasBothOrNone, IsAlone, IsWhole, NumbersAreBelow, StoragesAreOwn}
-use Rattle.model_laws.proofs.Moves.{Await, Body, Resize, Add, AllFit, AllHold, Bind, Change, Fits, Flags, Holds, IsStored, Keep, Move, Name, Note, Post, Stands, Suits, apply, own_in, play, shapes_after}
-use Rattle.model_laws.proofs.Places.{at_new, at_old, each_at_set, each_place_at_set, length-shapes, old_kind, own_at-shapes, shapes-append, shapes-set, within_shapes}
+use Rattle.model_laws.specs.Sound.{HasBothOrNone, IsAlone, IsWhole, NumbersAreBelow, OwnAreThawed, StoragesAreOwn}
+use Rattle.model_laws.proofs.Moves.{Await, Body, Resize, Add, AllFit, AllHold, Bind, Change, Fits, Flags, Holds, IsStored, Keep, Move, Name, Note, Post, Stands, Suits, apply, frozen_in, own_in, play, shapes_after}
+use Rattle.model_laws.proofs.Places.{at_new, at_old, each_at_set, each_place_at_set, frozen_at-shapes, length-shapes, old_kind, own_at-shapes, shapes-append, shapes-set, within_shapes}
 use Rattle.model_laws.proofs.CurrentMoves.{SameBound, alone-bind, alone-record, below-bind, below-keep, below-name, below-record, both-bind, both-record, held-bind, held-record}
 use Rattle.model_laws.proofs.Slots.{leads_more, no_edge, own_is_storage, pixels_are_storages}
 
@@ -33,10 +33,11 @@ below_as s a e f g b = record {
 }
 
 -- a state that differs in its objects or flags
-objects_whole : (sh ti : List (Option Shape)) (s a : State) → a.handles ≡ s.handles → a.next_handle ≡ s.next_handle → a.threads ≡ s.threads → KindsFit ti a → StoragesAreOwn ti a → IsWhole sh s → IsWhole ti a
-objects_whole sh ti s a e f g k o w = record {
+objects_whole : (sh ti : List (Option Shape)) (s a : State) → a.handles ≡ s.handles → a.next_handle ≡ s.next_handle → a.threads ≡ s.threads → KindsFit ti a → StoragesAreOwn ti a → OwnAreThawed ti → IsWhole sh s → IsWhole ti a
+objects_whole sh ti s a e f g k o th w = record {
   kinds = k;
   storages = o;
+  thawed = th;
   alone = alone_as s a g w.alone;
   both = both_as s a g w.both;
   numbers = below_as s a e f g w.numbers;
@@ -58,7 +59,7 @@ whole-change t n f s u w = objects_whole (shapes s.objects) (shapes s.objects) s
           ])
           (λ y h. w.storages.each m y k e h) x;
     })
-    w
+    w.thawed w
 
 -- ---- New objects.
 record StandsAt (sh : List (Option Shape)) (place : ℕ) (o : Option Object) : Type 0 where
@@ -66,7 +67,10 @@ record StandsAt (sh : List (Option Shape)) (place : ℕ) (o : Option Object) : T
   pub stored : IsStored sh place o
 
 none_stands : (sh : List (Option Shape)) (place : ℕ) → StandsAt sh place None
-none_stands sh place = record { leads = tt; stored = record { own = λ k e. absurd (let f : None ≡ Some k = e in cc); pixels = λ k h. no_edge k h } }
+none_stands sh place = record { leads = tt; stored = record { own = λ k e. absurd (none_own k e); thawed = λ k e. absurd (none_own k e); pixels = λ k h. no_edge k h } }
+  where
+    none_own : (k : ℕ) → own_in None ≡ Some k → ⊥
+    none_own k e = absurd (let f : None ≡ Some k = e in cc)
 
 stands_at : (sh : List (Option Shape)) (base j : ℕ) (os : List (Option Object)) (i place : ℕ) → place ≡ base + (j + i) → Stands sh base j os → StandsAt sh place (get_or os i None)
 stands_at sh base j [] i place e h = none_stands sh place
@@ -81,6 +85,9 @@ old_storage s n k w h = let l = length-shapes s.objects in let b = within_shapes
 
 old_own : (s : State) (m k : ℕ) → IsWhole (shapes s.objects) s → own_in (get_or s.objects m None) ≡ Some k → k < length s.objects
 old_own s m k w h = let l = length-shapes s.objects in let b = within_shapes (shapes s.objects) a_storage k (own_is_storage (shapes s.objects) (get_or s.objects m None) k (w.kinds.objects m) h) in omega (arith, l, b)
+
+fresh : (s : State) (new : List (Option Object)) → Stands (shapes (s.objects ++ new)) (length s.objects) 0 new → (x : ℕ) → length s.objects ≤ x → IsStored (shapes (s.objects ++ new)) x (get_or new (x - length s.objects) None)
+fresh s new st x b = (stands_at (shapes (s.objects ++ new)) (length s.objects) 0 new (x - length s.objects) x (omega (arith, b)) st).stored
 
 IsOf : List (Option Object) → ℕ → ℕ → ℕ → Type 0
 IsOf os m x k = own_in (get_or os m None) ≡ Some k → is_in k (pixels_in (get_or os x None)) ≡ true → x ≡ m
@@ -107,14 +114,22 @@ own-add s new w st m x k e h = elim (cases_lt m (length s.objects)) [
         ]
       ]
 ]
-  where
-    fresh : (s : State) (new : List (Option Object)) → Stands (shapes (s.objects ++ new)) (length s.objects) 0 new → (x : ℕ) → length s.objects ≤ x → IsStored (shapes (s.objects ++ new)) x (get_or new (x - length s.objects) None)
-    fresh s new st x b = (stands_at (shapes (s.objects ++ new)) (length s.objects) 0 new (x - length s.objects) x (omega (arith, b)) st).stored
 
 own_shaped : (s : State) (new : List (Option Object)) → IsWhole (shapes s.objects) s → Stands (shapes (s.objects ++ new)) (length s.objects) 0 new →
     (m x k : ℕ) → own_at (shapes (s.objects ++ new)) m ≡ Some k → is_in k (pixels_in (get_or (s.objects ++ new) x None)) ≡ true → x ≡ m
 unfolding IsOf
 own_shaped s new w st m x k e h = own-add s new w st m x k (sym (own_at-shapes (s.objects ++ new) m) ∙ e) h
+
+thawed-add : (s : State) (new : List (Option Object)) → IsWhole (shapes s.objects) s → Stands (shapes (s.objects ++ new)) (length s.objects) 0 new → (m k : ℕ) → own_in (get_or (s.objects ++ new) m None) ≡ Some k → frozen_at (shapes (s.objects ++ new)) k ≡ false
+thawed-add s new w st m k e = elim (cases_lt m (length s.objects)) [
+  | inl a ↦
+      let f : own_in (get_or s.objects m None) ≡ Some k = ap own_in (sym (at_old s.objects new None m a)) ∙ e in
+      frozen_at-shapes (s.objects ++ new) k ∙ ap frozen_in (at_old s.objects new None k (old_own s m k w f)) ∙ sym (frozen_at-shapes s.objects k) ∙ w.thawed.each m k (own_at-shapes s.objects m ∙ f)
+  | inr a ↦ (fresh s new st m a).thawed k (ap own_in (sym (at_new s.objects new None m a)) ∙ e)
+]
+
+thawed_shaped : (s : State) (new : List (Option Object)) → IsWhole (shapes s.objects) s → Stands (shapes (s.objects ++ new)) (length s.objects) 0 new → OwnAreThawed (shapes (s.objects ++ new))
+thawed_shaped s new w st = record { each = λ m k e. thawed-add s new w st m k (sym (own_at-shapes (s.objects ++ new) m) ∙ e) }
 
 leads-add : (s : State) (new : List (Option Object)) → IsWhole (shapes s.objects) s → Stands (shapes (s.objects ++ new)) (length s.objects) 0 new → (n : ℕ) → Leads (shapes (s.objects ++ new)) (slots_in (get_or (s.objects ++ new) n None))
 leads-add s new w st n = elim (cases_lt n (length s.objects)) [
@@ -134,6 +149,7 @@ whole-add t new s st w =
       objects = λ n. subst (λ sh. Leads sh (slots_in (get_or (s.objects ++ new) n None))) (shapes-append s.objects new) (leads-add s new w st' n);
     })
     (record { each = λ m x k e h. own_shaped s new w st' m x k (ap (λ (sh : List (Option Shape)). own_at sh m) (shapes-append s.objects new) ∙ e) h })
+    (subst OwnAreThawed (shapes-append s.objects new) (thawed_shaped s new w st'))
     w
 
 -- ---- Another error or wait.
@@ -141,6 +157,7 @@ whole-record : (t : ℕ) (s : State) (r : ThreadRecord) → SameBound s t r → 
 whole-record t s r e l w = record {
   kinds = record { handles = w.kinds.handles; threads = held-record (shapes s.objects) s t r l w.kinds.threads; objects = w.kinds.objects };
   storages = record { each = w.storages.each };
+  thawed = w.thawed;
   alone = alone-record s t r e w.alone;
   both = both-record s t r e w.both;
   numbers = below-record s t r e w.numbers;
@@ -149,9 +166,9 @@ whole-record t s r e l w = record {
 -- ---- Any move.
 whole-apply : (t : ℕ) (m : Move) (s : State) → Fits t (shapes s.objects) s m → IsWhole (shapes s.objects) s → IsWhole (shapes_after (shapes s.objects) m) (apply t m s)
 whole-apply t (Flags a b) s f w = objects_whole (shapes s.objects) (shapes s.objects) s _ refl refl refl
-    (record { handles = w.kinds.handles; threads = w.kinds.threads; objects = w.kinds.objects }) (record { each = w.storages.each }) w
+    (record { handles = w.kinds.handles; threads = w.kinds.threads; objects = w.kinds.objects }) (record { each = w.storages.each }) w.thawed w
 whole-apply t (Post id i) s f w = objects_whole (shapes s.objects) (shapes s.objects) s _ refl refl refl
-    (record { handles = w.kinds.handles; threads = w.kinds.threads; objects = w.kinds.objects }) (record { each = w.storages.each }) w
+    (record { handles = w.kinds.handles; threads = w.kinds.threads; objects = w.kinds.objects }) (record { each = w.storages.each }) w.thawed w
 whole-apply t (Note e) s f w = whole-record t s (record (record_of s t) { error = e }) (record { context = refl; draw = refl; read = refl }) (w.kinds.threads t) w
 whole-apply t (Await x) s f w =
     let h = w.kinds.threads t in
@@ -159,6 +176,7 @@ whole-apply t (Await x) s f w =
 whole-apply t (Bind c d r) s f w = record {
   kinds = record { handles = w.kinds.handles; threads = held-bind t (shapes s.objects) s c d r f w.kinds.threads; objects = w.kinds.objects };
   storages = record { each = w.storages.each };
+  thawed = w.thawed;
   alone = alone-bind t (shapes s.objects) s c d r f w.alone;
   both = both-bind t (shapes s.objects) s c d r f w.both;
   numbers = below-bind t (shapes s.objects) s c d r f w.numbers;
@@ -169,6 +187,7 @@ whole-apply t (Add os) s f w = whole-add t os s f w
 whole-apply t (Name d k n) s f w = record {
   kinds = record { handles = All-push (NamesItsKind (shapes s.objects)) s.handles _ w.kinds.handles f; threads = w.kinds.threads; objects = w.kinds.objects };
   storages = record { each = w.storages.each };
+  thawed = w.thawed;
   alone = alone_as s _ refl w.alone;
   both = both_as s _ refl w.both;
   numbers = below-name t s d k n w.numbers;
@@ -176,6 +195,7 @@ whole-apply t (Name d k n) s f w = record {
 whole-apply t (Keep p) s f w = record {
   kinds = record { handles = All-filter p (NamesItsKind (shapes s.objects)) s.handles w.kinds.handles; threads = w.kinds.threads; objects = w.kinds.objects };
   storages = record { each = w.storages.each };
+  thawed = w.thawed;
   alone = alone_as s _ refl w.alone;
   both = both_as s _ refl w.both;
   numbers = below-keep t s p w.numbers;

@@ -22,13 +22,13 @@ use Rattle.egl_model.specs.Graph.{is_in}
 use Rattle.egl_model.specs.State.{State, initial, object_at, record_of, has_object}
 use Rattle.model_laws.specs.Kinds.{KindsFit, NamesItsKind, named_kind}
 use Rattle.egl_model.specs.Links.{IsLinked, is_root, rank_in, refers}
-use Rattle.model_laws.specs.Shapes.{Goes, HasKind, Leads, Shape, kind_at, pixels_in, shapes, slots_in}
-use Rattle.model_laws.specs.Sound.{IsWhole, StoragesAreOwn}
+use Rattle.model_laws.specs.Shapes.{Goes, HasKind, Leads, Shape, kind_at, own_at, pixels_in, shapes, slots_in}
+use Rattle.model_laws.specs.Sound.{IsWhole, OwnAreThawed, StoragesAreOwn}
 use Rattle.egl_model.specs.Sweep.{bound_object, edges_at, edges_in, held_by, is_reached, roots, roots_of, sweep}
 use Rattle.model_laws.proofs.GraphLaws.{or_first}
 use Rattle.model_laws.proofs.LinkLaws.{reached_on, root_marked, same_object}
-use Rattle.model_laws.proofs.Moves.{own_in}
-use Rattle.model_laws.proofs.Places.{kind_at-shapes, own_at-shapes}
+use Rattle.model_laws.proofs.Moves.{frozen_in, own_in}
+use Rattle.model_laws.proofs.Places.{frozen_at-shapes, kind_at-shapes, own_at-shapes}
 use Rattle.model_laws.proofs.Slots.{LedTo, in_cases, in_left, in_right, led_object, no_edge, only_one}
 use Rattle.model_laws.proofs.SweepLaws.{object_at-sweep}
 
@@ -227,6 +227,17 @@ own-sweep s o = record {
       (pixels_before (is_reached s n) (object_at s n) k (ap (λ (x : Option Object). is_in k (pixels_in x)) (sym (object_at-sweep s n)) ∙ h));
 }
 
+thawed_kept : (b : Bool) (o : Option Object) → frozen_in o ≡ false → frozen_in (cond b o None) ≡ false
+thawed_kept true o h = h
+thawed_kept false o h = refl
+
+thawed-sweep : (s : State) → OwnAreThawed (shapes s.objects) → OwnAreThawed (shapes (sweep s).objects)
+thawed-sweep s o = record {
+  each = λ m k e.
+      let before : own_at (shapes s.objects) m ≡ Some k = own_at-shapes s.objects m ∙ own_before (is_reached s m) (object_at s m) k (ap own_in (sym (object_at-sweep s m)) ∙ sym (own_at-shapes (sweep s).objects m) ∙ e) in
+      frozen_at-shapes (sweep s).objects k ∙ ap frozen_in (object_at-sweep s k) ∙ thawed_kept (is_reached s k) (object_at s k) (sym (frozen_at-shapes s.objects k) ∙ o.each m k before);
+}
+
 pub whole-sweep : (s : State) → IsWhole (shapes s.objects) s → IsWhole (shapes (sweep s).objects) (sweep s)
 unfolding named_by
 whole-sweep s w = record {
@@ -236,6 +247,7 @@ whole-sweep s w = record {
     objects = objects-sweep s w;
   };
   storages = own-sweep s w.storages;
+  thawed = thawed-sweep s w.thawed;
   alone = record { contexts = w.alone.contexts; surfaces = w.alone.surfaces };
   both = record { draw = w.both.draw; read = w.both.read };
   numbers = record { handles = w.numbers.handles; apart = w.numbers.apart; context = w.numbers.context; draw = w.numbers.draw; read = w.numbers.read };

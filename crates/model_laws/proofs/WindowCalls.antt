@@ -41,7 +41,7 @@ use Rattle.model_laws.proofs.Blinds.{blind-length, blind-live_bytes, blind-own_s
 use Rattle.model_laws.proofs.Keeps.{Acts, Blind, acts_of, acts_self, by_full_moves, by_quiet_moves}
 use Rattle.model_laws.proofs.Moves.{Add, Change, Name, Post}
 use Rattle.model_laws.proofs.NewObjects.{full-blank, with_own_pixels, without_pixels}
-use Rattle.model_laws.proofs.Places.{new_kind}
+use Rattle.model_laws.proofs.Places.{new_frozen, new_kind}
 use Rattle.model_laws.proofs.Puts.{blind-surface}
 use Rattle.model_laws.proofs.Setters.{KeepsForm, setter-image, suits-image}
 use Rattle.model_laws.proofs.Writes.{IsBlind, blind-written, sum-written}
@@ -98,7 +98,7 @@ acts-window s t c h r =
     (λ f. let a = named_sides s c f in ((tt, (full-blank (format_of (signed c 1)) spec.w spec.h a.0 a.1, tt)), (tt, tt)))
     (λ p. let a = (window_allowed c (window_facts s c) h r).room in omega (arith, a))
     (λ w. (
-      ((new_kind s.objects new 1 (n + 1) a_storage refl refl, tt), with_own_pixels _ (n + 0) _ (omega arith), (tt, without_pixels _ (n + 1) _ refl refl, tt)),
+      ((new_kind s.objects new 1 (n + 1) a_storage refl refl, tt), with_own_pixels _ (n + 0) _ (omega arith) (new_frozen s.objects new 1 (n + 0 + 1) (omega arith)), (tt, without_pixels _ (n + 1) _ refl refl, tt)),
       λ v. (new_kind s.objects new 0 n a_surface_kind (omega arith) refl, tt),
     )))
 

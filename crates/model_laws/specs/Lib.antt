@@ -13,6 +13,7 @@ pub mod Full
 pub mod Extents
 pub mod Hidden
 pub mod Local
+pub mod Late
 pub mod Frame
 pub mod Refs
 pub mod Deleted

@@ -1,19 +1,20 @@
 -- What of an object stays as long as it exists, and what slots ask of what they lead to.
-use Rattle.std.specs.Prelude.{◌≡◌, ℕ, List, [], ◌∷◌, map, slice_index_or, Option, None, Some}
-use Rattle.std.specs.Option.{option_map, option_and_then}
+use Rattle.std.specs.Prelude.{◌≡◌, ℕ, Bool, false, List, [], ◌∷◌, map, slice_index_or, Option, None, Some}
+use Rattle.std.specs.Option.{option_map, option_map_or, option_and_then}
 use Rattle.driver_objects.specs.declared.kinds.ObjectKind.{ObjectKind}
 use Rattle.driver_objects.specs.declared.objects.Object.{Object}
 use Rattle.driver_objects.specs.Objects.{kind_of}
-use Rattle.model_laws.specs.Slots.{Slot, home_of, own_of, pixels_of, slots_of}
+use Rattle.model_laws.specs.Slots.{Slot, home_of, is_frozen, own_of, pixels_of, slots_of}
 
--- its kind, the storage that is its own, and its display, if it has one
+-- its kind, the storage that is its own, its display, if it has one, and whether it is a storage of frozen pixels
 pub record Shape : Type 0 where
   pub kind : ObjectKind
   pub own : Option ℕ
   pub home : Option ℕ
+  pub frozen : Bool
 
 abbrev pub shape_of : Object → Shape
-shape_of o = record { kind = kind_of o; own = own_of o; home = home_of o }
+shape_of o = record { kind = kind_of o; own = own_of o; home = home_of o; frozen = is_frozen o }
 
 abbrev pub shape_in : Option Object → Option Shape
 shape_in None = None
@@ -36,6 +37,9 @@ kind_at sh n = option_map (λ x. x.kind) (slice_index_or sh n None)
 
 abbrev pub own_at : List (Option Shape) → ℕ → Option ℕ
 own_at sh n = option_and_then (λ x. x.own) (slice_index_or sh n None)
+
+abbrev pub frozen_at : List (Option Shape) → ℕ → Bool
+frozen_at sh n = option_map_or (λ x. x.frozen) (slice_index_or sh n None) false
 
 -- an object of this number exists, and is of this kind
 pub record HasKind (sh : List (Option Shape)) (k : ObjectKind) (n : ℕ) : Type 0 where

@@ -1,5 +1,5 @@
 -- States that are sound, as each step leaves them.
-use Rattle.std.specs.Prelude.{◌≡◌, ◌≢◌, ℕ, ◌<◌, List, true, All, AllPairs, is_some, Option, Some, IfSome}
+use Rattle.std.specs.Prelude.{◌≡◌, ◌≢◌, ℕ, ◌<◌, List, true, false, All, AllPairs, is_some, Option, Some, IfSome}
 use Rattle.egl_model.specs.declared.records.Bound.{Bound}
 use Rattle.egl_model.specs.State.{State, object_at, record_of}
 use Rattle.egl_model.specs.Currents.{has_context, has_surface}
@@ -7,7 +7,7 @@ use Rattle.model_laws.specs.Laws.{HasNoLitter}
 use Rattle.model_laws.specs.Kinds.{KindsFit}
 use Rattle.egl_model.specs.Graph.{is_in}
 use Rattle.egl_model.specs.Links.{IsLinked}
-use Rattle.model_laws.specs.Shapes.{Shape, own_at, pixels_in, shapes}
+use Rattle.model_laws.specs.Shapes.{Shape, frozen_at, own_at, pixels_in, shapes}
 use Rattle.model_laws.specs.Full.{IsFull}
 use Rattle.model_laws.specs.Wants.{PixelsFit}
 
@@ -41,10 +41,15 @@ pub record NumbersAreBelow (s : State) : Type 0 where
 pub record StoragesAreOwn (sh : List (Option Shape)) (s : State) : Type 0 where
   pub each : (m n k : ℕ) → own_at sh m ≡ Some k → is_in k (pixels_in (object_at s n)) ≡ true → n ≡ m
 
+-- and its pixels aren't frozen: nothing shares them
+pub record OwnAreThawed (sh : List (Option Shape)) : Type 0 where
+  pub each : (m n : ℕ) → own_at sh m ≡ Some n → frozen_at sh n ≡ false
+
 -- what each change of a state keeps, seen with the shapes of its objects
 pub record IsWhole (sh : List (Option Shape)) (s : State) : Type 0 where
   pub kinds : KindsFit sh s
   pub storages : StoragesAreOwn sh s
+  pub thawed : OwnAreThawed sh
   pub alone : IsAlone s
   pub both : HasBothOrNone s
   pub numbers : NumbersAreBelow s

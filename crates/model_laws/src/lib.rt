@@ -5,5 +5,6 @@
 //! Its tests are in `play_rows`.
 #![tactic(auto)]
 
+pub mod late_laws;
 pub mod laws;
 pub mod part_laws;
