@@ -1,6 +1,6 @@
 -- A draw that comes late changes only what is out.
 use Rattle.std.proofs.Common.{◌≡◌, ◌≢◌, ◌==◌, ℕ, pos, Bool, true, false, cond, not, List, [], ◌∷◌, inl, inr, refl, sym, ap, ◌∙◌, Option, None, Some, is_some}
-use Rattle.std.specs.Option.{option_and_then, option_map}
+use Rattle.std.specs.Option.{option_map}
 use Rattle.std.proofs.lemmas.Bool.{and_parts, cases_eq}
 use Rattle.std.proofs.lemmas.Option.{none-some}
 use Rattle.pixel_rows.specs.Images.{ImageValue}
@@ -18,8 +18,8 @@ use Rattle.context_state.specs.Parts.{PartValue, noted}
 use Rattle.driver_objects.specs.Storages.{drawn_image, drawn_storage}
 use Rattle.egl_model.specs.Currents.{current_context, draw_storage, part_of_context}
 use Rattle.egl_model.specs.Draws.{draw_into, drawn, drawn_rect, sampler}
-use Rattle.egl_model.specs.Effects.{Effect, valued}
-use Rattle.egl_model.specs.Framebuffers.{BoundFramebuffer, bound_framebuffer}
+use Rattle.egl_model.specs.Effects.{valued}
+use Rattle.egl_model.specs.Framebuffers.{BoundFramebuffer}
 use Rattle.egl_model.specs.GlEffects.{gl_effect}
 use Rattle.egl_model.specs.GlFacts.{framebuffer_facts, gl_refusal}
 use Rattle.egl_model.specs.Parts.{Kept, Own, Private, at_place, kept_of, own_of, part_in, part_of, places, put_own}
