@@ -5,6 +5,7 @@ ghost use Rattle.driver_core.specs.Releases.{links, releases};
 ghost use Rattle.egl_model.specs.Sweep.{sweep};
 ghost use Rattle.thread_part.specs.Memory.{clears_nothing};
 ghost use Rattle.driver_core.specs.Memory.{egl_takes_no_memory, gl_takes_no_memory, takes_no_memory, is_bare, is_bare_on};
+ghost use Rattle.context_state.specs.Kinds.{context_gl_call};
 ghost use Rattle.egl_calls.specs.declared.kinds.Kind.TheVariants.{Egl as EglCall, Gl as GlCall};
 ghost use Rattle.egl_calls.specs.Ranges.{IsNumber};
 ghost use Rattle.attrib_lists.specs.Lists.{bad_place};
