@@ -4,8 +4,10 @@ It is written from the pages of EGL 1.5 and of OpenGL ES 1.1, and from docs/MODE
 """
 from dataclasses import dataclass, field
 
-# By a config's id: bits of red, green, blue and alpha, bytes of a pixel, and depth and stencil.
-CONFIGS = {1: ((5, 6, 5, 0), 2, (0, 0)), 2: ((5, 6, 5, 0), 2, (16, 0)), 3: ((8, 8, 8, 0), 3, (0, 0)), 4: ((8, 8, 8, 8), 4, (0, 0)), 5: ((8, 8, 8, 8), 4, (24, 8)), 6: ((4, 4, 4, 4), 2, (0, 0)), 7: ((5, 5, 5, 1), 2, (0, 0)), 8: ((8, 8, 8, 8), 4, (0, 0))}
+# How pixels that are drawn to are kept: a format and a type.
+RGB565, RGB888, RGBA8888, RGBA4444, RGBA5551 = ("GL_RGB", "GL_UNSIGNED_SHORT_5_6_5"), ("GL_RGB", "GL_UNSIGNED_BYTE"), ("GL_RGBA", "GL_UNSIGNED_BYTE"), ("GL_RGBA", "GL_UNSIGNED_SHORT_4_4_4_4"), ("GL_RGBA", "GL_UNSIGNED_SHORT_5_5_5_1")
+# By a config's id: how its surfaces keep their pixels, and depth and stencil.
+CONFIGS = {1: (RGB565, (0, 0)), 2: (RGB565, (16, 0)), 3: (RGB888, (0, 0)), 4: (RGBA8888, (0, 0)), 5: (RGBA8888, (24, 8)), 6: (RGBA4444, (0, 0)), 7: (RGBA5551, (0, 0)), 8: (RGBA8888, (0, 0))}
 WITHOUT_WINDOWS = 8
 VIDEO = 67_108_864
 ONE = 0x10000
@@ -22,6 +24,8 @@ COMPONENTS = {"GL_ALPHA": ["a"], "GL_RGB": ["r", "g", "b"], "GL_RGBA": ["r", "g"
 # By a type whose components share two bytes: their bits, the highest first.
 SHORTS = {"GL_UNSIGNED_SHORT_5_6_5": (5, 6, 5), "GL_UNSIGNED_SHORT_4_4_4_4": (4, 4, 4, 4), "GL_UNSIGNED_SHORT_5_5_5_1": (5, 5, 5, 1)}
 FORMATS = {form for form, _ in FORMS}
+# The formats of pixels that are drawn to and read from.
+RENDERABLE = ["GL_RGB", "GL_RGBA"]
 TYPES = {kind for _, kind in FORMS}
 LEVELS = 11
 LONGEST = 1_024
@@ -40,10 +44,17 @@ ENVIRONMENTS = ["GL_MODULATE", "GL_REPLACE"]
 # By a target of buffers the name of its binding.
 BUFFER_BINDINGS = {"GL_ARRAY_BUFFER": "GL_ARRAY_BUFFER_BINDING", "GL_ELEMENT_ARRAY_BUFFER": "GL_ELEMENT_ARRAY_BUFFER_BINDING"}
 USAGES = ["GL_STATIC_DRAW", "GL_DYNAMIC_DRAW"]
-# By an internal format of renderbuffers the bytes of a pixel; none of depth and stencil, which have no pixels.
-INTERNAL_FORMATS = {"GL_RGB565_OES": 2, "GL_RGBA4_OES": 2, "GL_RGB5_A1_OES": 2, "GL_RGBA8_OES": 4, "GL_DEPTH_COMPONENT16_OES": None, "GL_STENCIL_INDEX8_OES": None}
-RENDERBUFFER, LONGEST_STORED = "GL_RENDERBUFFER_OES", 2_048
+# The points of a framebuffer, and by an internal format of renderbuffers the point and how pixels are kept; depth and stencil have none.
+COLOR, DEPTH, STENCIL = POINTS = ["GL_COLOR_ATTACHMENT0_OES", "GL_DEPTH_ATTACHMENT_OES", "GL_STENCIL_ATTACHMENT_OES"]
+INTERNAL_FORMATS = {"GL_RGB565_OES": (COLOR, RGB565), "GL_RGBA4_OES": (COLOR, RGBA4444), "GL_RGB5_A1_OES": (COLOR, RGBA5551), "GL_RGBA8_OES": (COLOR, RGBA8888), "GL_DEPTH_COMPONENT16_OES": (DEPTH, None), "GL_STENCIL_INDEX8_OES": (STENCIL, None)}
+RENDERBUFFER, FRAMEBUFFERS, LONGEST_STORED = "GL_RENDERBUFFER_OES", "GL_FRAMEBUFFER_OES", 2_048
 SIDES = {"GL_RENDERBUFFER_WIDTH_OES": 0, "GL_RENDERBUFFER_HEIGHT_OES": 1}
+OBJECT_TYPE, OBJECT_NAME = "GL_FRAMEBUFFER_ATTACHMENT_OBJECT_TYPE_OES", "GL_FRAMEBUFFER_ATTACHMENT_OBJECT_NAME_OES"
+COMPLETE, UNDEFINED, UNATTACHABLE, MISSING, DIFFERENT, UNSUPPORTED = (f"GL_FRAMEBUFFER_{word}_OES" for word in ("COMPLETE", "UNDEFINED", "INCOMPLETE_ATTACHMENT", "INCOMPLETE_MISSING_ATTACHMENT", "INCOMPLETE_DIMENSIONS", "UNSUPPORTED"))
+# By what an image may be of: which names of a group mean those.
+IMAGE_SOURCES = {"EGL_GL_TEXTURE_2D": "names", "EGL_GL_RENDERBUFFER": "renderbuffers"}
+# By an attribute of an image its values, or None for any number.
+IMAGE_ATTRIBUTES = {"EGL_IMAGE_PRESERVED": [0, 1], "EGL_GL_TEXTURE_LEVEL": None}
 ENUM, VALUE, OPERATION, MEMORY, FRAMEBUFFER = "GL_INVALID_ENUM", "GL_INVALID_VALUE", "GL_INVALID_OPERATION", "GL_OUT_OF_MEMORY", "GL_INVALID_FRAMEBUFFER_OPERATION_OES"
 
 
@@ -62,10 +73,10 @@ def clamped(number):
     return min(max(number, 0), ONE)
 
 
-def stored(colour, config):
-    """A colour in fixed point as a config's surfaces keep it, read at 8 bits a component: halves go upward."""
+def stored(colour, form, kind):
+    """A colour in fixed point as pixels of this form keep it, read at 8 bits a component: halves go upward."""
     read = []
-    for place, (number, bits) in enumerate(zip(colour, CONFIGS[config][0])):
+    for place, (number, bits) in enumerate(zip(colour, [*SHORTS.get(kind, [8] * len(COMPONENTS[form])), 0])):
         most = (1 << bits) - 1
         kept = (2 * number * most + ONE) // (2 * ONE)
         read.append((2 * kept * 255 + most) // (2 * most) if bits else 255 * (place == 3))
@@ -189,17 +200,36 @@ class Window:
 
 @dataclass(eq=False)
 class Storage:
-    """Pixels of 8 bits a component, row by row from below; those of a texture have a format and a type."""
+    """Pixels of 8 bits a component, row by row from below, as a format and a type keep them; zeros at first."""
 
     width: int
     height: int
-    pixel_bytes: int
-    base: str = None
-    kind: str = None
-    pixels: list = field(default_factory=list)
+    base: str
+    kind: str
+    pixels: list = None
 
     def bytes(self):
-        return self.width * self.height * self.pixel_bytes
+        return self.width * self.height * FORMS[self.base, self.kind]
+
+    def blank(self):
+        """Each pixel becomes zeros."""
+        self.pixels = [stored((0, 0, 0, 0), self.base, self.kind)] * (self.width * self.height)
+
+    def fill(self, colour, covers, mask):
+        """Each pixel that is covered takes the components of the colour that the mask has; a component without bits stays."""
+        written, width = stored(colour, self.base, self.kind), self.width
+        self.pixels = [bytes(new if on else old for new, old, on in zip(written, pixel, mask)) if covers(k % width, k // width) else pixel for k, pixel in enumerate(self.pixels)]
+
+    def write(self, k, pixel, mask):
+        """Writes the components of a pixel that a mask has, as this form keeps them."""
+        self.pixels[k] = bytes(new if on else old for new, old, on in zip(kept(pixel, self.base, self.kind), self.pixels[k], mask))
+
+    def pixel(self, x, y):
+        """A pixel of 8 bits a component; zeros outside."""
+        return self.pixels[y * self.width + x] if 0 <= x < self.width and 0 <= y < self.height else bytes(4)
+
+    def has_alpha(self):
+        return "a" in COMPONENTS[self.base]
 
 
 @dataclass(eq=False)
@@ -209,25 +239,6 @@ class Surface:
     window: Window = None
     render_buffer: str = "EGL_BACK_BUFFER"
     behavior: str = BEHAVIORS[0]
-
-    def blank(self):
-        """Each pixel becomes zeros."""
-        self.storage.pixels = [stored((0, 0, 0, 0), self.config)] * (self.storage.width * self.storage.height)
-
-    def fill(self, colour, covers, mask):
-        """Each pixel that is covered takes the components of the colour that the mask has; a component without bits stays."""
-        written, width = stored(colour, self.config), self.storage.width
-        self.storage.pixels = [bytes(new if on else old for new, old, on in zip(written, pixel, mask)) if covers(k % width, k // width) else pixel for k, pixel in enumerate(self.storage.pixels)]
-
-    def write(self, k, pixel, mask):
-        """Writes the components of a pixel that a mask has, as the config keeps them."""
-        bits, former = CONFIGS[self.config][0], self.storage.pixels[k]
-        self.storage.pixels[k] = bytes((narrowed(new, b) if b else 255 * (place == 3)) if on else old for place, (new, old, on, b) in enumerate(zip(pixel, former, mask, bits)))
-
-    def pixel(self, x, y):
-        """A pixel of 8 bits a component; zeros outside."""
-        storage = self.storage
-        return storage.pixels[y * storage.width + x] if 0 <= x < storage.width and 0 <= y < storage.height else bytes(4)
 
 
 @dataclass(eq=False)
@@ -268,42 +279,85 @@ class Buffer:
 
 
 @dataclass(eq=False)
-class Zeros:
-    """The pixels of a renderbuffer, to which nothing is drawn."""
+class Renderbuffer:
+    """Where it may be attached once it has storage, and its sides; pixels only where that is the colour."""
 
-    size: int
+    point: str = None
+    sides: tuple = (0, 0)
+    pixels: Storage = None
 
-    def bytes(self):
-        return self.size
+
+def levels_of(thing):
+    """The storages of a texture's levels, or that of a renderbuffer; None where there is none."""
+    return thing.levels if isinstance(thing, Texture) else [thing.pixels] if thing else []
+
+
+def sides_at(point, thing):
+    """The sides of a texture or a renderbuffer that is attached at a point; None where it may not be."""
+    sides = (0, 0)
+    if point == COLOR:
+        pixels = levels_of(thing)[0]
+        sides = (pixels.width, pixels.height) if pixels and pixels.base in RENDERABLE else sides
+    elif isinstance(thing, Renderbuffer) and thing.point == point:
+        sides = thing.sides
+    return sides if all(sides) else None
 
 
 @dataclass(eq=False)
-class Renderbuffer:
-    sides: tuple = (0, 0)
-    pixels: Zeros = None
+class Framebuffer:
+    """By each point at which something is attached its name, and the texture or the renderbuffer."""
+
+    attached: dict = field(default_factory=dict)
+
+    def status(self):
+        parts = [sides_at(point, thing) for point, (_, thing) in self.attached.items()]
+        if None in parts:
+            return UNATTACHABLE
+        if not parts:
+            return MISSING
+        if len(set(parts)) > 1:
+            return DIFFERENT
+        return COMPLETE if COLOR in self.attached else UNSUPPORTED
+
+    def pixels(self):
+        """What is drawn to and read from, where it is complete."""
+        return levels_of(self.attached[COLOR][1])[0]
+
+    def detach(self, thing):
+        self.attached = {point: named for point, named in self.attached.items() if named[1] is not thing}
+
+
+@dataclass(eq=False)
+class Image:
+    """It shares the pixels of what it was made of."""
+
+    storage: Storage
 
 
 @dataclass(eq=False)
 class Group:
-    """By each used name its texture, or None; and the same of buffers and of renderbuffers."""
+    """By each used name its texture, or None; and the same of buffers, of renderbuffers and of framebuffers."""
 
     names: dict = field(default_factory=dict)
     buffers: dict = field(default_factory=dict)
     renderbuffers: dict = field(default_factory=dict)
+    framebuffers: dict = field(default_factory=dict)
 
 
 @dataclass(eq=False)
 class Context:
     config: int
     group: Group
+    display: int
     texture: Texture = field(default_factory=Texture)
     # The name and the texture that are bound; its own texture is bound where that is None.
     name: int = 0
     bound: Texture = None
     # By each target of buffers the name and the buffer that are bound to it, where one is.
     buffers: dict = field(default_factory=dict)
-    # The name and the renderbuffer that are bound.
+    # The name and the renderbuffer that are bound, and those of the framebuffer.
     renderbuffer: tuple = (0, None)
+    framebuffer: tuple = (0, None)
     colour: tuple = (0, 0, 0, 0)
     error: str = "GL_NO_ERROR"
     pack: int = 4
@@ -328,19 +382,24 @@ class Context:
         """The texture on which calls work."""
         return self.bound or self.texture
 
+    def detach(self, thing):
+        """Detaches a texture or a renderbuffer that is deleted from the framebuffer that is bound."""
+        if self.framebuffer[1]:
+            self.framebuffer[1].detach(thing)
+
 
 def referred(thing):
     """What an object refers to."""
     if isinstance(thing, Context):
-        found = [thing.group, thing.texture, thing.bound, *(buffer for _, buffer in thing.buffers.values()), thing.renderbuffer[1]]
+        found = [thing.group, thing.texture, thing.bound, *(buffer for _, buffer in thing.buffers.values()), thing.renderbuffer[1], thing.framebuffer[1]]
     elif isinstance(thing, Group):
-        found = [*thing.names.values(), *thing.buffers.values(), *thing.renderbuffers.values()]
-    elif isinstance(thing, Texture):
-        found = thing.levels
-    elif isinstance(thing, Renderbuffer):
-        found = [thing.pixels]
+        found = [*thing.names.values(), *thing.buffers.values(), *thing.renderbuffers.values(), *thing.framebuffers.values()]
+    elif isinstance(thing, Framebuffer):
+        found = [attached for _, attached in thing.attached.values()]
+    elif isinstance(thing, (Texture, Renderbuffer)):
+        found = levels_of(thing)
     else:
-        found = [thing.storage] if isinstance(thing, Surface) else []
+        found = [thing.storage] if isinstance(thing, (Surface, Image)) else []
     return [other for other in found if other]
 
 
@@ -358,9 +417,24 @@ class Objects:
     def context(self):
         return self.current[0][0] if self.current else None
 
-    def is_surfaceless(self):
-        """Whether the current context has no surface, and so no complete framebuffer."""
-        return not self.current[1][0]
+    def status(self):
+        """The status of the framebuffer that the current context has bound; its surfaces are one where it has none."""
+        framebuffer = self.context().framebuffer[1]
+        return framebuffer.status() if framebuffer else COMPLETE if self.current[1][0] else UNDEFINED
+
+    def is_incomplete(self):
+        return self.status() != COMPLETE
+
+    def pixels(self, which):
+        """What is drawn to, or with 2 what is read from, where the status is that it is complete."""
+        framebuffer = self.context().framebuffer[1]
+        return framebuffer.pixels() if framebuffer else self.current[which][0].storage
+
+    def drawn_to(self):
+        return self.pixels(1)
+
+    def read_from(self):
+        return self.pixels(2)
 
     def alive(self, kind):
         """The objects of a kind that are reached from handles and from what is current."""
@@ -373,15 +447,19 @@ class Objects:
         return {thing for thing in reached if isinstance(thing, kind)}
 
     def live(self):
-        return sum(thing.bytes() for thing in self.alive((Storage, Zeros, Buffer)))
+        return sum(thing.bytes() for thing in self.alive((Storage, Buffer)))
 
     def wants(self, thing):
         """Whether there are no bytes left for new pixels or new contents; those that they replace still count."""
         return self.live() + thing.bytes() > self.video
 
     def census(self):
-        contexts, groups, textures, buffers, renderbuffers, surfaces, storages = (len(self.alive(kind)) for kind in (Context, Group, Texture, Buffer, Renderbuffer, Surface, (Storage, Zeros)))
-        return [contexts, groups, textures, buffers, renderbuffers, 0, surfaces, storages, 0, 0, self.live()]
+        kinds = Context, Group, Texture, Buffer, Renderbuffer, Framebuffer, Surface, Storage, Image
+        return [*(len(self.alive(kind)) for kind in kinds), 0, self.live()]
+
+    def references(self, storage):
+        """How many objects have a storage."""
+        return sum(other is storage for thing in self.alive(object) for other in referred(thing))
 
     def of(self, display, number, kind):
         home, thing = self.handles.get(number, (None, None))
@@ -407,26 +485,26 @@ class EglCalls(Objects):
 
     def create_surface(self, display, surface):
         refuse((self.wants(surface.storage), "EGL_BAD_ALLOC"))
-        surface.blank()
+        surface.storage.blank()
         return self.named(display, surface)
 
     def eglCreateWindowSurface(self, display, config, number, attributes):
         self.display(display)
         window = self.window(number)
         refuse((config not in CONFIGS, "EGL_BAD_CONFIG"), (attributes not in RENDER_BUFFERS, "EGL_BAD_ATTRIBUTE"), (config == WITHOUT_WINDOWS, "EGL_BAD_MATCH"), (not window, "EGL_BAD_NATIVE_WINDOW"), (any(surface.window is window for surface in self.alive(Surface)), "EGL_BAD_ALLOC"))
-        return self.create_surface(display, Surface(config, Storage(window.width, window.height, CONFIGS[config][1]), window, RENDER_BUFFERS[attributes]))
+        return self.create_surface(display, Surface(config, Storage(window.width, window.height, *CONFIGS[config][0]), window, RENDER_BUFFERS[attributes]))
 
     def eglCreatePbufferSurface(self, display, config, sides):
         self.display(display)
         refuse((config not in CONFIGS, "EGL_BAD_CONFIG"))
-        return self.create_surface(display, Surface(config, Storage(*sides, CONFIGS[config][1])))
+        return self.create_surface(display, Surface(config, Storage(*sides, *CONFIGS[config][0])))
 
     def eglCreateContext(self, display, config, share, attributes):
         self.display(display)
         shared = self.of_any(share, Context)
         refuse((config not in CONFIGS, "EGL_BAD_CONFIG"), (attributes not in VERSIONS, "EGL_BAD_ATTRIBUTE"), (share != 0 and not shared, "EGL_BAD_CONTEXT"), (share != 0 and not self.of(display, share, Context), "EGL_BAD_MATCH"))
         refuse((VERSIONS[attributes], VERSIONS[attributes]))
-        return self.named(display, Context(config, shared.group if shared else Group()))
+        return self.named(display, Context(config, shared.group if shared else Group(), display))
 
     def eglDestroySurface(self, display, number):
         self.display(display)
@@ -476,7 +554,7 @@ class EglCalls(Objects):
         if surface.window:
             surface.window.front = list(surface.storage.pixels)
             if surface.behavior != BEHAVIORS[0]:
-                surface.blank()
+                surface.storage.blank()
         return 1
 
     def eglInitialize(self, display):
@@ -488,6 +566,25 @@ class EglCalls(Objects):
         refuse((display not in (1, 2), "EGL_BAD_DISPLAY"))
         self.initialized.discard(display)
         self.handles = {number: (home, thing) for number, (home, thing) in self.handles.items() if home != display}
+        return 1
+
+    def eglCreateImage(self, display, number, source, name, attributes):
+        self.display(display)
+        context = self.of(display, number, Context)
+        asked = attributes[1:-1].split(",") if attributes != "[]" else []
+        pairs = [(which, int(value)) for which, value in zip(asked[::2], asked[1::2])]
+        is_allowed = all(which in IMAGE_ATTRIBUTES and (IMAGE_ATTRIBUTES[which] is None or value in IMAGE_ATTRIBUTES[which]) for which, value in pairs)
+        refuse((not context, "EGL_BAD_CONTEXT"), (source not in IMAGE_SOURCES, "EGL_BAD_PARAMETER"), (not is_allowed, "EGL_BAD_PARAMETER"))
+        thing, level = getattr(context.group, IMAGE_SOURCES[source]).get(name), dict(pairs).get("EGL_GL_TEXTURE_LEVEL", 0)
+        levels = {k: storage for k, storage in enumerate(levels_of(thing)) if storage and storage.width and storage.height}
+        refuse((not levels, "EGL_BAD_PARAMETER"), (any(levels.get(k) for k in range(1, LEVELS)) and not thing.is_complete(), "EGL_BAD_PARAMETER"), (level not in levels, "EGL_BAD_MATCH"))
+        refuse((self.references(levels[level]) > 1, "EGL_BAD_ACCESS"))
+        return self.named(display, Image(levels[level]))
+
+    def eglDestroyImage(self, display, number):
+        self.display(display)
+        refuse((not self.of(display, number, Image), "EGL_BAD_PARAMETER"))
+        del self.handles[number]
         return 1
 
     def eglReleaseThread(self):
@@ -556,16 +653,16 @@ class GlCalls(Objects):
         return 0
 
     def glClear(self, context, mask):
-        refuse((mask not in CLEARED, VALUE), (self.is_surfaceless(), FRAMEBUFFER))
+        refuse((mask not in CLEARED, VALUE), (self.is_incomplete(), FRAMEBUFFER))
         if "COLOR" in mask:
-            self.current[1][0].fill(context.colour, context.covers, context.mask)
+            self.drawn_to().fill(context.colour, context.covers, context.mask)
         return 0
 
     def glReadPixels(self, context, left, bottom, width, height, form, kind):
         is_known = form in ("GL_RGBA", "GL_RGB") and kind in ("GL_UNSIGNED_BYTE", "GL_UNSIGNED_SHORT_5_6_5")
-        refuse((any(not 0 <= side <= LONGEST_READ for side in (width, height)), VALUE), (not is_known, ENUM), ((form == "GL_RGBA") != (kind == "GL_UNSIGNED_BYTE"), OPERATION), (self.is_surfaceless(), FRAMEBUFFER))
+        refuse((any(not 0 <= side <= LONGEST_READ for side in (width, height)), VALUE), (not is_known, ENUM), ((form == "GL_RGBA") != (kind == "GL_UNSIGNED_BYTE"), OPERATION), (self.is_incomplete(), FRAMEBUFFER))
         spelled = bytes if form == "GL_RGBA" else packed
-        rows = [b"".join(spelled(self.current[2][0].pixel(x, y)) for x in range(left, left + width)) for y in range(bottom, bottom + height)]
+        rows = [b"".join(spelled(self.read_from().pixel(x, y)) for x in range(left, left + width)) for y in range(bottom, bottom + height)]
         return 0, [], b"".join(row + bytes(-len(row) % context.pack) for row in rows)
 
     def glPixelStorei(self, context, which, number):
@@ -580,7 +677,7 @@ class GlCalls(Objects):
         values = dict(context.boxes)
         values |= {"GL_PACK_ALIGNMENT": [context.pack], "GL_UNPACK_ALIGNMENT": [context.unpack], "GL_MAX_TEXTURE_SIZE": [LONGEST], "GL_TEXTURE_BINDING_2D": [context.name]}
         values |= {binding: [context.buffers.get(target, (0, None))[0]] for target, binding in BUFFER_BINDINGS.items()}
-        values |= {"GL_RENDERBUFFER_BINDING_OES": [context.renderbuffer[0]], "GL_FRAMEBUFFER_BINDING_OES": [0]}
+        values |= {"GL_RENDERBUFFER_BINDING_OES": [context.renderbuffer[0]], "GL_FRAMEBUFFER_BINDING_OES": [context.framebuffer[0]]}
         refuse((which not in values, ENUM))
         refuse((not 0 <= index < len(values[which]), VALUE))
         return values[which][index]
@@ -607,6 +704,8 @@ class TextureCalls(Objects):
     def glDeleteTextures(self, context, names):
         for name in names:
             texture = context.group.names.pop(name, None)
+            if texture:
+                context.detach(texture)
             if texture and texture is context.bound:
                 context.name, context.bound = 0, None
         return 0
@@ -634,7 +733,7 @@ class TextureCalls(Objects):
 
     def glTexImage2D(self, context, target, level, internal, width, height, border, form, kind, payload):
         refuse((target != "GL_TEXTURE_2D", ENUM), (form not in FORMATS or kind not in TYPES, ENUM), (internal not in FORMATS, VALUE), (not 0 <= level < LEVELS, VALUE), (is_no_side(width, level) or is_no_side(height, level), VALUE), (border != 0, VALUE), (internal != form, OPERATION), ((form, kind) not in FORMS, OPERATION))
-        storage = Storage(width, height, FORMS[form, kind], form, kind)
+        storage = Storage(width, height, form, kind)
         refuse((self.wants(storage), MEMORY))
         storage.pixels = transferred(payload, width, height, form, kind, context.unpack)
         context.target().levels[level] = storage if width and height else None
@@ -651,19 +750,15 @@ class TextureCalls(Objects):
                 storage.pixels[y * storage.width + x] = kept(next(given), storage.base, storage.kind)
         return 0
 
-    def has_alpha(self):
-        """Whether the read surface has alpha."""
-        return CONFIGS[self.current[2][0].config][0][3] > 0
-
     def copied(self, left, bottom, width, height, base, kind):
-        """The pixels of a rectangle of the read surface as a storage of this form keeps them, row by row; zeros outside."""
-        surface = self.current[2][0]
-        return [kept(surface.pixel(x, y), base, kind) for y in range(bottom, bottom + height) for x in range(left, left + width)]
+        """The pixels of a rectangle of what is read from as a storage of this form keeps them, row by row; zeros outside."""
+        source = self.read_from()
+        return [kept(source.pixel(x, y), base, kind) for y in range(bottom, bottom + height) for x in range(left, left + width)]
 
     def glCopyTexImage2D(self, context, target, level, internal, left, bottom, width, height, border):
-        refuse((target != "GL_TEXTURE_2D", ENUM), (internal not in FORMATS, VALUE), (not 0 <= level < LEVELS, VALUE), (is_no_side(width, level) or is_no_side(height, level), VALUE), (border != 0, VALUE), (self.is_surfaceless(), FRAMEBUFFER))
-        refuse(("a" in COMPONENTS[internal] and not self.has_alpha(), OPERATION))
-        storage = Storage(width, height, FORMS[internal, "GL_UNSIGNED_BYTE"], internal, "GL_UNSIGNED_BYTE")
+        refuse((target != "GL_TEXTURE_2D", ENUM), (internal not in FORMATS, VALUE), (not 0 <= level < LEVELS, VALUE), (is_no_side(width, level) or is_no_side(height, level), VALUE), (border != 0, VALUE), (self.is_incomplete(), FRAMEBUFFER))
+        refuse(("a" in COMPONENTS[internal] and not self.read_from().has_alpha(), OPERATION))
+        storage = Storage(width, height, internal, "GL_UNSIGNED_BYTE")
         refuse((self.wants(storage), MEMORY))
         storage.pixels = self.copied(left, bottom, width, height, internal, "GL_UNSIGNED_BYTE")
         context.target().levels[level] = storage if width and height else None
@@ -673,8 +768,8 @@ class TextureCalls(Objects):
         refuse((target != "GL_TEXTURE_2D", ENUM), (not 0 <= level < LEVELS, VALUE))
         storage = context.target().levels[level]
         refuse((not storage, OPERATION))
-        refuse((is_outside(left, width, storage.width) or is_outside(bottom, height, storage.height), VALUE), (self.is_surfaceless(), FRAMEBUFFER))
-        refuse(("a" in COMPONENTS[storage.base] and not self.has_alpha(), OPERATION))
+        refuse((is_outside(left, width, storage.width) or is_outside(bottom, height, storage.height), VALUE), (self.is_incomplete(), FRAMEBUFFER))
+        refuse(("a" in COMPONENTS[storage.base] and not self.read_from().has_alpha(), OPERATION))
         copied = iter(self.copied(from_left, from_bottom, width, height, storage.base, storage.kind))
         for y in range(bottom, bottom + height):
             for x in range(left, left + width):
@@ -689,16 +784,16 @@ class TextureCalls(Objects):
 
     def draw(self, context, left, bottom, width, height):
         """Draws a rectangle in fixed point: each pixel whose centre it covers shows the colour, or what the environment makes of that and a texel from before the draw."""
-        refuse((width < 1 or height < 1, VALUE), (self.is_surfaceless(), FRAMEBUFFER))
-        surface, texture = self.current[1][0], context.target()
+        refuse((width < 1 or height < 1, VALUE), (self.is_incomplete(), FRAMEBUFFER))
+        target, texture = self.drawn_to(), context.target()
         level = texture.sampled(width, height) if "GL_TEXTURE_2D" in context.on and texture.is_complete() else None
         drawn = {}
-        for k in range(surface.storage.width * surface.storage.height):
-            y, x = divmod(k, surface.storage.width)
+        for k in range(target.width * target.height):
+            y, x = divmod(k, target.width)
             if is_covered(left, width, x) and is_covered(bottom, height, y) and context.covers(x, y):
                 drawn[k] = combined(context, level, texel(texture, level, (left, bottom), (width, height), x, y)) if level else context.fragment()
         for k, fragment in drawn.items():
-            surface.write(k, fragment, context.mask)
+            target.write(k, fragment, context.mask)
         return 0
 
 
@@ -765,6 +860,8 @@ class RenderbufferCalls(Objects):
     def glDeleteRenderbuffersOES(self, context, names):
         for name in names:
             renderbuffer = context.group.renderbuffers.pop(name, None)
+            if renderbuffer:
+                context.detach(renderbuffer)
             if renderbuffer and context.renderbuffer[1] is renderbuffer:
                 context.renderbuffer = 0, None
         return 0
@@ -782,11 +879,12 @@ class RenderbufferCalls(Objects):
 
     def glRenderbufferStorageOES(self, context, target, internal, width, height):
         refuse((target != RENDERBUFFER, ENUM), (internal not in INTERNAL_FORMATS, ENUM), (not (0 <= width <= LONGEST_STORED and 0 <= height <= LONGEST_STORED), VALUE), (not context.renderbuffer[0], OPERATION))
-        size = INTERNAL_FORMATS[internal]
-        pixels = None if size is None else Zeros(width * height * size)
+        point, form = INTERNAL_FORMATS[internal]
+        pixels = Storage(width, height, *form) if form else None
         refuse((pixels and self.wants(pixels), MEMORY))
-        renderbuffer = context.renderbuffer[1]
-        renderbuffer.sides, renderbuffer.pixels = (width, height), pixels
+        if pixels:
+            pixels.blank()
+        context.renderbuffer[1].point, context.renderbuffer[1].sides, context.renderbuffer[1].pixels = point, (width, height), pixels
         return 0
 
     def glGetRenderbufferParameterivOES(self, context, target, which):
@@ -794,7 +892,81 @@ class RenderbufferCalls(Objects):
         return context.renderbuffer[1].sides[SIDES[which]]
 
 
-class Model(EglCalls, GlCalls, TextureCalls, BufferCalls, RenderbufferCalls):
+class FramebufferCalls(Objects):
+    """The calls on names of framebuffers and on framebuffers."""
+
+    def glGenFramebuffersOES(self, context, count):
+        return generated(context.group.framebuffers, count)
+
+    def glDeleteFramebuffersOES(self, context, names):
+        for name in names:
+            framebuffer = context.group.framebuffers.pop(name, None)
+            if framebuffer and context.framebuffer[1] is framebuffer:
+                context.framebuffer = 0, None
+        return 0
+
+    def glIsFramebufferOES(self, context, name):
+        return 1 if context.group.framebuffers.get(name) else 0
+
+    def glBindFramebufferOES(self, context, target, name):
+        refuse((target != FRAMEBUFFERS, ENUM), (name < 0, VALUE))
+        names = context.group.framebuffers
+        if name and not names.get(name):
+            names[name] = Framebuffer()
+        context.framebuffer = name, names[name] if name else None
+        return 0
+
+    def attach(self, context, point, name, thing):
+        """Attaches what has a name, or with 0 nothing."""
+        attached = context.framebuffer[1].attached
+        attached.pop(point, None)
+        if name:
+            attached[point] = name, thing
+        return 0
+
+    def glFramebufferTexture2DOES(self, context, target, point, of, name, level):
+        texture = context.group.names.get(name)
+        refuse((target != FRAMEBUFFERS, ENUM), (point not in POINTS, ENUM), (not context.framebuffer[0], OPERATION))
+        if name:
+            refuse((of != "GL_TEXTURE_2D", ENUM), (not texture, OPERATION), (level != 0, VALUE))
+        return self.attach(context, point, name, texture)
+
+    def glFramebufferRenderbufferOES(self, context, target, point, of, name):
+        renderbuffer = context.group.renderbuffers.get(name)
+        refuse((target != FRAMEBUFFERS, ENUM), (point not in POINTS, ENUM), (of != RENDERBUFFER, ENUM), (not context.framebuffer[0], OPERATION), (name != 0 and not renderbuffer, OPERATION))
+        return self.attach(context, point, name, renderbuffer)
+
+    def glCheckFramebufferStatusOES(self, context, target):
+        refuse((target != FRAMEBUFFERS, ENUM))
+        return self.status()
+
+    def glGetFramebufferAttachmentParameterivOES(self, context, target, point, which):
+        refuse((target != FRAMEBUFFERS, ENUM), (point not in POINTS, ENUM), (not context.framebuffer[0], OPERATION), (which not in (OBJECT_TYPE, OBJECT_NAME), ENUM))
+        name, thing = context.framebuffer[1].attached.get(point, (0, None))
+        refuse((which == OBJECT_NAME and not thing, ENUM))
+        if which == OBJECT_NAME:
+            return name
+        return "GL_NONE_OES" if not thing else "GL_TEXTURE" if isinstance(thing, Texture) else RENDERBUFFER
+
+
+class ImageTargetCalls(Objects):
+    """The calls by which a texture or a renderbuffer takes an image's pixels."""
+
+    def glEGLImageTargetTexture2DOES(self, context, target, number):
+        image = self.of(context.display, number, Image)
+        refuse((target != "GL_TEXTURE_2D", ENUM), (not image, VALUE))
+        context.target().levels = [image.storage] + [None] * (LEVELS - 1)
+        return 0
+
+    def glEGLImageTargetRenderbufferStorageOES(self, context, target, number):
+        image, renderbuffer = self.of(context.display, number, Image), context.renderbuffer[1]
+        refuse((target != RENDERBUFFER, ENUM), (not image, VALUE), (not renderbuffer, OPERATION))
+        refuse((image.storage.base not in RENDERABLE, OPERATION))
+        renderbuffer.point, renderbuffer.sides, renderbuffer.pixels = COLOR, (image.storage.width, image.storage.height), image.storage
+        return 0
+
+
+class Model(EglCalls, GlCalls, TextureCalls, BufferCalls, RenderbufferCalls, FramebufferCalls, ImageTargetCalls):
     """What a driver answers, call by call."""
 
     def readFront(self, number):

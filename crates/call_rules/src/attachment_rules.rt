@@ -45,10 +45,7 @@ fn attaches(call: &Call) -> bool
 fn not_named(call: &Call, facts: &GlFacts) -> (bool, GlError)
     ensures { result ≡ named_row call.now facts.now }
 {
-    (
-        attaches(call) && !facts.is_named,
-        GlError::InvalidOperation,
-    )
+    (attaches(call) && !facts.is_named, GlError::InvalidOperation)
 }
 
 fn wrong_attached_texture(call: &Call) -> (bool, GlError)

@@ -1,5 +1,5 @@
 //! When each call of EGL is refused.
-ghost use Rattle.std.specs.Prelude.{◌≡◌, ◌+◌, nat_lt, true, not, ◌<◌};
+ghost use Rattle.std.specs.Prelude.{◌≡◌, ◌+◌, nat_lt, not, ◌<◌};
 ghost use Rattle.egl_calls.specs.Arguments.{is_zero};
 ghost use Rattle.egl_calls.specs.declared.kinds.EglKind.TheVariants.{CreateWindowSurface, CreatePbufferSurface, SurfaceAttrib, CreateContext, MakeCurrent, CreateSync, WaitSync, CreateImage};
 ghost use Rattle.egl_calls.specs.declared.errors.EglError.TheVariants.{NotInitialized, BadSurface, BadContext, BadParameter};
@@ -8,7 +8,9 @@ ghost use Rattle.call_rules.specs.EglRules.{egl_refusal, egl_rows, display_row, 
 
 use crate::egl_facts::EglFacts;
 use egl_calls::arguments::{is_zero, number};
-use egl_calls::places::{API, ATTRIBUTE, CONTEXT, DRAW, FLAGS, IMAGE_SOURCE, READ, READDRAW, SYNC_TYPE, VALUE};
+use egl_calls::places::{
+    API, ATTRIBUTE, CONTEXT, DRAW, FLAGS, IMAGE_SOURCE, READ, READDRAW, SYNC_TYPE, VALUE,
+};
 use egl_calls::{Call, EglError, EglKind, Kind};
 use egl_names::codes::{
     EGL_BUFFER_DESTROYED, EGL_BUFFER_PRESERVED, EGL_DRAW, EGL_GL_RENDERBUFFER, EGL_GL_TEXTURE_2D,

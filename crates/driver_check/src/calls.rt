@@ -2,7 +2,6 @@
 ghost use Rattle.std.specs.Prelude.{◌≡◌, ◌<◌, true, IfOk};
 ghost use Rattle.egl_calls.specs.declared.kinds.Kind.TheVariants.{Egl};
 
-use call_rules::is_built;
 use driver_core::Driver;
 use egl_calls::{Call, EglKind, Kind, NoMemory, Numbers, Outcome, Reply};
 use egl_names::codes::EGL_SUCCESS;
@@ -37,9 +36,6 @@ fn holds(alloc: Global, driver: &mut Driver, kind: EglKind, number: u32, value: 
     requires made { 0 < driver.old.made }
     ensures made { driver.new.made ≡ driver.old.made }
 {
-    if !is_built(Kind::Egl(kind)) {
-        return false;
-    }
     match play(alloc, driver, kind, number) {
         Ok(reply) => reply.outcome == Outcome::Done && reply.value == value,
         Err(_) => false,

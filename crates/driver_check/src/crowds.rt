@@ -3,7 +3,7 @@ ghost use Rattle.std.specs.Prelude.{All, vec_len, vec_capacity, ◌+◌, ◌<◌
 ghost use Rattle.egl_model.specs.Waits.{is_wait_end};
 ghost use Rattle.shared_driver.specs.Tokens.{IsOf};
 
-use crate::draws::{Draws, built_call, display_call, own_call};
+use crate::draws::{Draws, any_call, display_call, own_call};
 use egl_calls::{Call, Journal, Reply};
 use shared_driver::{AttachError, Closed, Opened, Shared, Thread};
 use std::alloc::Global;
@@ -25,7 +25,7 @@ pub fn opened<R: Abort>(rt: &R, alloc: Global, video: u64) -> Opened
     }
 }
 
-// The display's call, or one of any kind that is built, or of any that a thread's part may answer.
+// The display's call, or one of any kind, or of any that a thread's part may answer.
 fn call_of(alloc: Global, draws: &mut Draws, any: bool, own: bool) -> Call
     ensures kind { is_wait_end result.kind ≡ false }
 {
@@ -33,7 +33,7 @@ fn call_of(alloc: Global, draws: &mut Draws, any: bool, own: bool) -> Call
         return own_call(alloc, draws);
     }
     if any {
-        return built_call(alloc, draws);
+        return any_call(alloc, draws);
     }
     display_call(alloc)
 }
@@ -66,7 +66,7 @@ fn made<R: Abort + Wait>(
     }
 }
 
-// Calls of one thread: the display's; or any that are built, drawn by the token's number, of which half are such as its part may answer.
+// Calls of one thread: the display's; or any, drawn by the token's number, of which half are such as its part may answer.
 fn calls<R: Abort + Wait>(
     rt: &R,
     alloc: Global,
@@ -122,7 +122,7 @@ fn join_all<R: Wait>(rt: &R, shared: &Shared, thread: &mut Thread, mut tokens: V
     tokens.destroy_empty();
 }
 
-/// Makes so many calls in each of so many threads, with tokens that it joins in the end: eglGetDisplay, or any that are built. It answers how many of them the threads' parts answered.
+/// Makes so many calls in each of so many threads, with tokens that it joins in the end: eglGetDisplay, or any. It answers how many of them the threads' parts answered.
 pub fn crowd<R: Abort + Threads + Wait + Sync>(
     rt: &R,
     alloc: Global,

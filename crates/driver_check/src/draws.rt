@@ -5,9 +5,12 @@ ghost use Rattle.egl_model.specs.Waits.{is_wait_end};
 
 use egl_calls::{Call, EglKind, GlKind, Kind, Numbers, Outcome, OwnKind, Reply, set_argument};
 use egl_names::codes::{
-    EGL_HEIGHT, EGL_SYNC_FENCE, EGL_WIDTH, GL_ARRAY_BUFFER, GL_BUFFER_SIZE,
-    GL_ELEMENT_ARRAY_BUFFER, GL_NEAREST, GL_PACK_ALIGNMENT, GL_RGBA, GL_STATIC_DRAW, GL_TEXTURE_2D,
-    GL_TEXTURE_BINDING_2D, GL_TEXTURE_CROP_RECT_OES, GL_TEXTURE_MIN_FILTER, GL_UNSIGNED_BYTE,
+    EGL_GL_TEXTURE_2D, EGL_HEIGHT, EGL_SYNC_FENCE, EGL_WIDTH, GL_ARRAY_BUFFER, GL_BUFFER_SIZE,
+    GL_COLOR_ATTACHMENT0_OES, GL_DEPTH_ATTACHMENT_OES, GL_ELEMENT_ARRAY_BUFFER,
+    GL_FRAMEBUFFER_ATTACHMENT_OBJECT_TYPE_OES, GL_FRAMEBUFFER_OES, GL_NEAREST, GL_PACK_ALIGNMENT,
+    GL_RENDERBUFFER_OES, GL_RENDERBUFFER_WIDTH_OES, GL_RGBA, GL_RGBA8_OES, GL_STATIC_DRAW,
+    GL_TEXTURE_2D, GL_TEXTURE_BINDING_2D, GL_TEXTURE_CROP_RECT_OES, GL_TEXTURE_MIN_FILTER,
+    GL_UNSIGNED_BYTE,
 };
 use std::alloc::Global;
 
@@ -18,6 +21,7 @@ pub struct Draws {
     surface: u32,
     context: u32,
     sync: u32,
+    image: u32,
 }
 
 impl Draws {
@@ -27,6 +31,7 @@ impl Draws {
             surface: 0,
             context: 0,
             sync: 0,
+            image: 0,
         }
     }
 
@@ -42,6 +47,7 @@ impl Draws {
             Kind::Egl(EglKind::CreatePbufferSurface) => self.surface = made,
             Kind::Egl(EglKind::CreateContext) => self.context = made,
             Kind::Egl(EglKind::CreateSync) => self.sync = made,
+            Kind::Egl(EglKind::CreateImage) => self.image = made,
             _ => {}
         }
     }
@@ -58,7 +64,7 @@ impl Draws {
     }
 }
 
-// The kinds that are built, but for the end of a wait.
+// Kinds of calls, but for the end of a wait.
 fn kind_of(place: u32) -> Kind
     ensures kind { is_wait_end result ≡ false }
 {
@@ -120,6 +126,24 @@ fn kind_of(place: u32) -> Kind
         55 => Kind::Gl(GlKind::BufferSubData),
         56 => Kind::Gl(GlKind::GetBufferParameteriv),
         57 => Kind::Own(OwnKind::ReadBuffer),
+        58 => Kind::Gl(GlKind::GenRenderbuffers),
+        59 => Kind::Gl(GlKind::DeleteRenderbuffers),
+        60 => Kind::Gl(GlKind::IsRenderbuffer),
+        61 => Kind::Gl(GlKind::BindRenderbuffer),
+        62 => Kind::Gl(GlKind::RenderbufferStorage),
+        63 => Kind::Gl(GlKind::GetRenderbufferParameteriv),
+        64 => Kind::Gl(GlKind::GenFramebuffers),
+        65 => Kind::Gl(GlKind::DeleteFramebuffers),
+        66 => Kind::Gl(GlKind::IsFramebuffer),
+        67 => Kind::Gl(GlKind::BindFramebuffer),
+        68 => Kind::Gl(GlKind::FramebufferTexture2d),
+        69 => Kind::Gl(GlKind::FramebufferRenderbuffer),
+        70 => Kind::Gl(GlKind::CheckFramebufferStatus),
+        71 => Kind::Gl(GlKind::GetFramebufferAttachmentParameteriv),
+        72 => Kind::Gl(GlKind::ImageTargetTexture2d),
+        73 => Kind::Gl(GlKind::ImageTargetRenderbufferStorage),
+        74 => Kind::Egl(EglKind::CreateImage),
+        75 => Kind::Egl(EglKind::DestroyImage),
         _ => Kind::Egl(EglKind::GetDisplay),
     }
 }
@@ -127,13 +151,15 @@ fn kind_of(place: u32) -> Kind
 const TERMINATE: u32 = 2;
 
 // Half of the calls are of the kinds that make something, draw, or make current.
-const FREQUENT: [u32; 12] = [1, 7, 13, 15, 15, 23, 32, 33, 42, 45, 53, 54];
+const FREQUENT: [u32; 17] = [
+    1, 7, 13, 15, 15, 23, 32, 33, 42, 45, 53, 54, 61, 62, 67, 68, 74,
+];
 
 fn drawn_kind(draws: &mut Draws) -> Kind
     ensures kind { is_wait_end result ≡ false }
 {
-    let any = draws.next(58);
-    let frequent = FREQUENT[draws.next(12) as usize];
+    let any = draws.next(76);
+    let frequent = FREQUENT[draws.next(17) as usize];
     // A display is terminated seldom, so that objects live for a while.
     if draws.next(2) == 0 && (any != TERMINATE || draws.next(16) == 0) {
         kind_of(any)
@@ -241,6 +267,41 @@ fn buffer_numbers(draws: &mut Draws, kind: Kind) -> [u32; 8] {
     }
 }
 
+// The numbers of a call on renderbuffers, framebuffers or images: few names, two points, and the image that its thread made last.
+fn framebuffer_numbers(draws: &mut Draws, kind: GlKind) -> [u32; 8] {
+    let [framebuffer, renderbuffer] = [GL_FRAMEBUFFER_OES as u32, GL_RENDERBUFFER_OES as u32];
+    let [color, depth] = [
+        GL_COLOR_ATTACHMENT0_OES as u32,
+        GL_DEPTH_ATTACHMENT_OES as u32,
+    ];
+    let point = [color, depth][draws.next(2) as usize];
+    let [width, height] = [SMALL[draws.next(4) as usize], SMALL[draws.next(4) as usize]];
+    let [name, texture] = [draws.next(8), GL_TEXTURE_2D as u32];
+    let [kind_asked, width_asked] = [
+        GL_FRAMEBUFFER_ATTACHMENT_OBJECT_TYPE_OES as u32,
+        GL_RENDERBUFFER_WIDTH_OES as u32,
+    ];
+    match kind {
+        GlKind::GenRenderbuffers | GlKind::GenFramebuffers => [width, 0, 0, 0, 0, 0, 0, 0],
+        GlKind::IsRenderbuffer | GlKind::IsFramebuffer => [name, 0, 0, 0, 0, 0, 0, 0],
+        GlKind::BindRenderbuffer => [renderbuffer, name, 0, 0, 0, 0, 0, 0],
+        GlKind::BindFramebuffer => [framebuffer, name, 0, 0, 0, 0, 0, 0],
+        GlKind::RenderbufferStorage => {
+            [renderbuffer, GL_RGBA8_OES as u32, width, height, 0, 0, 0, 0]
+        }
+        GlKind::GetRenderbufferParameteriv => [renderbuffer, width_asked, 0, 0, 0, 0, 0, 0],
+        GlKind::FramebufferTexture2d => [framebuffer, color, texture, name, 0, 0, 0, 0],
+        GlKind::FramebufferRenderbuffer => [framebuffer, point, renderbuffer, name, 0, 0, 0, 0],
+        GlKind::CheckFramebufferStatus => [framebuffer, 0, 0, 0, 0, 0, 0, 0],
+        GlKind::GetFramebufferAttachmentParameteriv => {
+            [framebuffer, point, kind_asked, 0, 0, 0, 0, 0]
+        }
+        GlKind::ImageTargetTexture2d => [texture, draws.image, 0, 0, 0, 0, 0, 0],
+        GlKind::ImageTargetRenderbufferStorage => [renderbuffer, draws.image, 0, 0, 0, 0, 0, 0],
+        _ => texture_numbers(draws, kind),
+    }
+}
+
 // Those of the other calls of OpenGL ES.
 fn gl_numbers(draws: &mut Draws, kind: GlKind) -> [u32; 8] {
     let [one, two, three, four] = [
@@ -262,7 +323,7 @@ fn gl_numbers(draws: &mut Draws, kind: GlKind) -> [u32; 8] {
         | GlKind::BufferData
         | GlKind::BufferSubData
         | GlKind::GetBufferParameteriv => buffer_numbers(draws, Kind::Gl(kind)),
-        _ => texture_numbers(draws, kind),
+        _ => framebuffer_numbers(draws, kind),
     }
 }
 
@@ -278,7 +339,8 @@ fn share_of(draws: &mut Draws) -> u32 {
 // The numbers of a call: on what its thread made last, where it asks for such a thing, or small ones.
 fn numbers_of(draws: &mut Draws, kind: Kind) -> [u32; 8] {
     let [one, two, three] = [draws.next(64), draws.next(64), draws.next(16)];
-    let [surface, context, sync] = [draws.surface, draws.context, draws.sync];
+    let [surface, context] = [draws.surface, draws.context];
+    let [sync, image] = [draws.sync, draws.image];
     match kind {
         Kind::Egl(EglKind::CreatePbufferSurface) => [1, 4, 0, 0, 0, 0, 0, 0],
         Kind::Egl(EglKind::CreateContext) => [1, 4, share_of(draws), 0, 0, 0, 0, 0],
@@ -288,6 +350,17 @@ fn numbers_of(draws: &mut Draws, kind: Kind) -> [u32; 8] {
         Kind::Egl(EglKind::QueryContext) => [1, context, one, 0, 0, 0, 0, 0],
         Kind::Egl(EglKind::ClientWaitSync) => [1, sync, 0, 0, 0, 0, 0, 0],
         Kind::Egl(EglKind::WaitSync) => [1, sync, 0, 0, 0, 0, 0, 0],
+        Kind::Egl(EglKind::CreateImage) => [
+            1,
+            context,
+            EGL_GL_TEXTURE_2D as u32,
+            three,
+            0,
+            0,
+            0,
+            0,
+        ],
+        Kind::Egl(EglKind::DestroyImage) => [1, image, 0, 0, 0, 0, 0, 0],
         Kind::Gl(kind) => gl_numbers(draws, kind),
         Kind::Own(OwnKind::ReadBuffer) => buffer_numbers(draws, kind),
         _ => [1, one, two, three, 0, 0, 0, 0],
@@ -304,9 +377,12 @@ fn list_of(alloc: Global, draws: &mut Draws, kind: Kind) -> Numbers
             draws.next(16),
             draws.next(16),
         ),
-        Kind::Gl(GlKind::DeleteTextures | GlKind::DeleteBuffers) => {
-            four_numbers(alloc, [draws.next(8), draws.next(8), 0, 0])
-        }
+        Kind::Gl(
+            GlKind::DeleteTextures
+            | GlKind::DeleteBuffers
+            | GlKind::DeleteRenderbuffers
+            | GlKind::DeleteFramebuffers,
+        ) => four_numbers(alloc, [draws.next(8), draws.next(8), 0, 0]),
         Kind::Gl(GlKind::TexParameteriv) => four_numbers(alloc, [0, 0, 4, 4]),
         _ => Numbers::new(alloc),
     }
@@ -324,8 +400,8 @@ pub fn own_call(alloc: Global, draws: &mut Draws) -> Call
     call_with(kind, numbers, Numbers::new(alloc))
 }
 
-/// A call of a kind that the driver plays, on the first display, with numbers and sizes that are small.
-pub fn built_call(alloc: Global, draws: &mut Draws) -> Call
+/// A call of any kind but the end of a wait, on the first display, with numbers and sizes that are small.
+pub fn any_call(alloc: Global, draws: &mut Draws) -> Call
     ensures kind { is_wait_end result.kind ≡ false }
 {
     let kind = drawn_kind(draws);

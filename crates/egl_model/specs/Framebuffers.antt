@@ -1,6 +1,6 @@
 -- Framebuffers (OES_framebuffer_object).
 use Rattle.std.specs.Prelude.{ℕ, ℤ, pos, Bool, true, false, ◌==◌, List, if◌then◌else◌, is_some, slice_index_or, unwrap_or, Option, None, Some}
-use Rattle.std.specs.Option.{option_and_then, option_map, option_map_or}
+use Rattle.std.specs.Option.{option_and_then, option_map_or}
 use Rattle.egl_calls.specs.Calls.{CallValue}
 use Rattle.egl_calls.specs.declared.places.TheConstants.{ATTACHED_NAME, ATTACHMENT, ATTACHMENT_PNAME}
 use Rattle.egl_names.specs.declared.codes.TheConstants.{GL_FRAMEBUFFER_ATTACHMENT_OBJECT_NAME_OES, GL_FRAMEBUFFER_COMPLETE_OES, GL_FRAMEBUFFER_UNDEFINED_OES, GL_NONE_OES, GL_RENDERBUFFER_OES, GL_TEXTURE}

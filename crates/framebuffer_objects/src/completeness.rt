@@ -3,12 +3,12 @@ ghost use Rattle.std.specs.Prelude.{◌≡◌, pos};
 ghost use Rattle.egl_calls.specs.Ranges.{IsNumber};
 ghost use Rattle.framebuffer_objects.specs.Completeness.{color_part, differ, is_color_renderable, is_incomplete, no_part, part_at, status, unattachable};
 
-use pixel_formats::{Base, Format, base_of};
 use egl_names::codes::{
     GL_FRAMEBUFFER_COMPLETE_OES, GL_FRAMEBUFFER_INCOMPLETE_ATTACHMENT_OES,
     GL_FRAMEBUFFER_INCOMPLETE_DIMENSIONS_OES, GL_FRAMEBUFFER_INCOMPLETE_MISSING_ATTACHMENT_OES,
     GL_FRAMEBUFFER_UNSUPPORTED_OES,
 };
+use pixel_formats::{Base, Format, base_of};
 
 /// What stands at a point of a framebuffer: whether anything is attached there, whether that may be there, and its sides in pixels. Where nothing is attached only `present` counts.
 #[derive(Clone, Copy, Debug, PartialEq, Eq, Drop)]

@@ -11,13 +11,13 @@ use Rattle.driver_objects.specs.declared.objects.Object.TheVariants.{Context, Re
 use Rattle.share_group.specs.declared.names.NameKind.{NameKind}
 use Rattle.share_group.specs.declared.names.NameKind.TheVariants.{Renderbuffer as renderbuffers, Texture as textures}
 use Rattle.egl_model.specs.Arguments.{number}
-use Rattle.egl_model.specs.Framebuffers.{attached, attachment_of, called_point, given_attachment, attached_as, target_framebuffer}
+use Rattle.egl_model.specs.Framebuffers.{attached, attached_as, attachment_of, called_point, given_attachment, target_framebuffer}
 use Rattle.egl_model.specs.Names.{group_of, object_named}
 use Rattle.egl_model.specs.Objects.{change_framebuffer, with_framebuffer}
 use Rattle.egl_model.specs.Parts.{put_own}
 use Rattle.egl_model.specs.State.{State, object_at}
 use Rattle.model_laws.specs.Extents.{quiet}
-use Rattle.model_laws.specs.Shapes.{Goes, shapes}
+use Rattle.model_laws.specs.Shapes.{Goes, Shape, kind_at, shapes}
 use Rattle.model_laws.specs.Slots.{attached_kind}
 use Rattle.model_laws.specs.Sound.{IsWhole}
 use Rattle.model_laws.proofs.Blinds.{blind-object}
@@ -25,9 +25,9 @@ use Rattle.model_laws.proofs.BoundFramebuffers.{blind-framebuffer_of, blind-targ
 use Rattle.model_laws.proofs.Keeps.{Acts, Blind, acts_of, acts_self, by_quiet_moves}
 use Rattle.model_laws.proofs.LinkSetters.{setter-framebuffer, suits-point}
 use Rattle.model_laws.proofs.Moves.{Change}
-use Rattle.model_laws.proofs.Writes.{IsBlind}
-use Rattle.model_laws.proofs.Places.{kind_at-shapes}
 use Rattle.model_laws.proofs.NameCalls.{blind-group_of, blind-named}
+use Rattle.model_laws.proofs.Places.{kind_at-shapes}
+use Rattle.model_laws.proofs.Writes.{IsBlind}
 
 -- ---- What is attached.
 pub blind-attachment_of : (t n : ℕ) (c : CallValue) (s : State) → Blind t s (λ a. attachment_of a n c)
@@ -37,35 +37,38 @@ blind-attachment_of t n c s w v x ne = ap (λ o. option_and_then (at_point (call
 pub blind-called_object : (t n : ℕ) (k : NameKind) (name : ℕ) (s : State) → Blind t s (λ a. object_named a (group_of a n) k name)
 blind-called_object t n k name s w v x ne = ap (λ g. object_named (put_own s v x) g k name) (blind-group_of t n s w v x ne) ∙ blind-named t (group_of s n) k name s w v x ne
 
-attached_as-blind : (name y : ℕ) → IsBlind (attached_as name y)
-attached_as-blind name y (Some (Context c)) = refl
-attached_as-blind name y (Some (Storage v)) = refl
-attached_as-blind name y o = refl
+as-blind : (name x : ℕ) → IsBlind (attached_as name x)
+as-blind name x (Some (Context c)) = refl
+as-blind name x (Some (Storage v)) = refl
+as-blind name x o = refl
 
-blind-as : (t name : ℕ) (o : Option ℕ) (s : State) → Blind t s (λ a. option_and_then (λ y. attached_as name y (object_at a y)) o)
+blind-as : (t name : ℕ) (o : Option ℕ) (s : State) → Blind t s (λ a. option_and_then (λ x. attached_as name x (object_at a x)) o)
 blind-as t name None s w v x ne = refl
-blind-as t name (Some y) s w v x ne = blind-object (attached_as name y) (attached_as-blind name y) t y s w v x ne
+blind-as t name (Some n) s w v x ne = blind-object (attached_as name n) (as-blind name n) t n s w v x ne
 
 blind-given : (t n : ℕ) (k : NameKind) (c : CallValue) (s : State) → Blind t s (λ a. given_attachment k a n c)
-blind-given t n k c s w v x ne = ap (λ o. option_and_then (λ y. attached_as (number c 3) y (object_at (put_own s v x) y)) o) (blind-called_object t n k (number c 3) s w v x ne) ∙ blind-as t (number c 3) (object_named s (group_of s n) k (number c 3)) s w v x ne
+blind-given t n k c s w v x ne =
+    ap (λ o. option_and_then (λ y. attached_as (number c 3) y (object_at (put_own s v x) y)) o) (blind-called_object t n k (number c 3) s w v x ne)
+    ∙ blind-as t (number c 3) (object_named s (group_of s n) k (number c 3)) s w v x ne
 
 -- ---- glFramebufferTexture2DOES and glFramebufferRenderbufferOES.
--- an attachment tells the kind of what is attached
-goes_as : (s : State) (name y : ℕ) (o : Option Object) → object_at s y ≡ o → Goes (shapes s.objects) (attached_kind (attached_as name y o)) (object_of (attached_as name y o))
-goes_as s name y (Some (Texture x)) e = record { is = kind_at-shapes s.objects y ∙ ap (option_map kind_of) e }
-goes_as s name y (Some (Renderbuffer x)) e = record { is = kind_at-shapes s.objects y ∙ ap (option_map kind_of) e }
-goes_as s name y o e = tt
+-- an attachment tells the kind of what has the name
+goes_as : (sh : List (Option Shape)) (name x : ℕ) (o : Option Object) → kind_at sh x ≡ option_map kind_of o → Goes sh (attached_kind (attached_as name x o)) (object_of (attached_as name x o))
+goes_as sh name x (Some (Texture y)) h = record { is = h }
+goes_as sh name x (Some (Renderbuffer y)) h = record { is = h }
+goes_as sh name x o h = tt
 
-goes_given : (s : State) (name : ℕ) (o : Option ℕ) → Goes (shapes s.objects) (attached_kind (option_and_then (λ y. attached_as name y (object_at s y)) o)) (object_of (option_and_then (λ y. attached_as name y (object_at s y)) o))
+goes_given : (s : State) (name : ℕ) (o : Option ℕ) →
+    Goes (shapes s.objects) (attached_kind (option_and_then (λ x. attached_as name x (object_at s x)) o)) (object_of (option_and_then (λ x. attached_as name x (object_at s x)) o))
 goes_given s name None = tt
-goes_given s name (Some y) = goes_as s name y (object_at s y) refl
+goes_given s name (Some x) = goes_as (shapes s.objects) name x (object_at s x) (kind_at-shapes s.objects x)
 
 acts-attached_to : (s : State) (t : ℕ) (point : Point) (a : Option Attached) (o : Option ℕ) → (IsWhole (shapes s.objects) s → Goes (shapes s.objects) (attached_kind a) (object_of a)) → Acts quiet t s (λ z. attached point a o z)
 unfolding change_framebuffer
 acts-attached_to s t point a None g = acts_self t s
 acts-attached_to s t point a (Some b) g = by_quiet_moves t s (Change b (with_framebuffer (with_point point a)) ∷ []) refl (setter-framebuffer (with_point point a), tt) (λ w. (suits-point t (shapes s.objects) s b point a (g w), tt))
 
-pub acts-attached_named : (s : State) (t n : ℕ) (k : NameKind) (c : CallValue) → Acts quiet t s (λ a. attached (called_point c) (given_attachment k a n c) (target_framebuffer a n) a)
+acts-attached_named : (s : State) (t n : ℕ) (k : NameKind) (c : CallValue) → Acts quiet t s (λ a. attached (called_point c) (given_attachment k a n c) (target_framebuffer a n) a)
 acts-attached_named s t n k c = acts_of quiet t s (λ a. given_attachment k a n c) (λ b a. attached (called_point c) b (target_framebuffer a n) a) (blind-given t n k c s)
     (acts_of quiet t s (λ a. target_framebuffer a n) (λ o a. attached (called_point c) (given_attachment k s n c) o a) (blind-target_framebuffer t n s)
     (acts-attached_to s t (called_point c) (given_attachment k s n c) (target_framebuffer s n) (λ w. goes_given s (number c 3) (object_named s (group_of s n) k (number c 3)))))

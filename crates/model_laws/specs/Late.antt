@@ -17,7 +17,7 @@ use Rattle.rect_pipeline.specs.Samplers.{SamplerValue}
 use Rattle.egl_model.specs.Currents.{current_context}
 use Rattle.egl_model.specs.Draws.{drawn_rect, sampler}
 use Rattle.egl_model.specs.GlFacts.{framebuffer_facts}
-use Rattle.egl_model.specs.Parts.{Own, Private, own_of, part_of, put_own}
+use Rattle.egl_model.specs.Parts.{Own, Private, own_of, put_own}
 use Rattle.egl_model.specs.State.{State}
 use Rattle.egl_model.specs.Step.{Stepped, bare}
 use Rattle.model_laws.specs.Local.{has_framebuffer}

@@ -5,12 +5,17 @@ ghost use Rattle.framebuffer_objects.specs.InternalFormats.{is_internal};
 
 use crate::pictures::seen;
 use egl_names::codes::{
-    GL_DEPTH_COMPONENT16_OES, GL_FRAMEBUFFER_COMPLETE_OES,
+    GL_COLOR_ATTACHMENT0_OES, GL_DEPTH_ATTACHMENT_OES, GL_DEPTH_COMPONENT16_OES,
+    GL_FRAMEBUFFER_COMPLETE_OES,
     GL_FRAMEBUFFER_INCOMPLETE_ATTACHMENT_OES, GL_FRAMEBUFFER_INCOMPLETE_DIMENSIONS_OES,
     GL_FRAMEBUFFER_INCOMPLETE_MISSING_ATTACHMENT_OES, GL_FRAMEBUFFER_UNSUPPORTED_OES,
-    GL_RGB5_A1_OES, GL_RGB565_OES, GL_RGBA4_OES, GL_RGBA8_OES, GL_STENCIL_INDEX8_OES,
+    GL_FRAMEBUFFER_OES, GL_RGB5_A1_OES, GL_RGB565_OES, GL_RGBA4_OES, GL_RGBA8_OES,
+    GL_STENCIL_ATTACHMENT_OES, GL_STENCIL_INDEX8_OES,
 };
-use framebuffer_objects::{Attached, Framebuffer, Part, Point, Renderbuffer, status};
+use framebuffer_objects::{
+    Attached, Framebuffer, Part, Point, Renderbuffer, attachment_point, is_attachment,
+    is_color_renderable, status,
+};
 use pixel_formats::Format;
 use pixel_rows::Image;
 use std::alloc::Global;
@@ -358,13 +363,11 @@ fn status_is_the_first_that_holds(rt: HostRuntime) {
 
 /// The status of a framebuffer that has a renderbuffer attached as its colour, or nothing.
 fn status_with(framebuffer: &Framebuffer, renderbuffer: &Renderbuffer) -> i64 {
-    let colour = Part {
-        present: framebuffer.attached(Point::Color).is_some(),
-        attachable: renderbuffer.point() == Some(Point::Color),
-        w: renderbuffer.width(),
-        h: renderbuffer.height(),
+    let colour = match framebuffer.attached(Point::Color) {
+        Some(_) => renderbuffer.part(Point::Color),
+        None => Part::none(),
     };
-    status(&[colour, part_of(&Nothing), part_of(&Nothing)])
+    status(&[colour, Part::none(), Part::none()])
 }
 
 #[test]
@@ -378,4 +381,92 @@ fn attached_renderbuffer_makes_a_framebuffer_complete(rt: HostRuntime) {
     assert!(rt; status_with(&framebuffer, &renderbuffer) == COMPLETE);
     assert!(rt; framebuffer.detach(Point::Color) == Some(4));
     assert!(rt; framebuffer.attached(Point::Color).is_none());
+}
+
+/// The name of a point, and whether it is one.
+static POINT_NAMES: [(u64, bool, Point); 5] = [
+    (GL_COLOR_ATTACHMENT0_OES, true, Point::Color),
+    (GL_DEPTH_ATTACHMENT_OES, true, Point::Depth),
+    (GL_STENCIL_ATTACHMENT_OES, true, Point::Stencil),
+    (GL_FRAMEBUFFER_OES, false, Point::Color),
+    (0, false, Point::Color),
+];
+
+#[test]
+fn three_names_are_those_of_points(rt: HostRuntime) {
+    for (code, is_name, point) in POINT_NAMES.iter() {
+        assert!(rt; is_attachment(*code) == *is_name, "{code}");
+        assert!(rt; attachment_point(*code) == *point, "{code}");
+    }
+}
+
+/// A format, and whether it may be drawn to.
+static DRAWABLE: [(Format, bool); 8] = [
+    (Format::Rgb565, true),
+    (Format::Rgb888, true),
+    (Format::Rgba8888, true),
+    (Format::Rgba4444, true),
+    (Format::Rgba5551, true),
+    (Format::A8, false),
+    (Format::L8, false),
+    (Format::La88, false),
+];
+
+/// Whether pixels of a format with these sides may be attached as colour.
+fn is_attachable(format: Format, w: u32, h: u32) -> bool {
+    status(&[Part::color(format, w, h), Part::none(), Part::none()]) == COMPLETE
+}
+
+#[test]
+fn pixels_with_red_green_and_blue_are_colours(rt: HostRuntime) {
+    for (format, may) in DRAWABLE.iter() {
+        assert!(rt; is_color_renderable(*format) == *may, "{format:?}");
+        assert!(rt; is_attachable(*format, 1, u32::MAX) == *may, "{format:?}");
+        assert!(rt; !is_attachable(*format, 0, 1), "{format:?}");
+        assert!(rt; !is_attachable(*format, 1, 0), "{format:?}");
+    }
+}
+
+/// The internal format of a renderbuffer's storage, and its sides, and the one point for which it is.
+static STORED: [(i64, (u32, u32), Option<Point>); 6] = [
+    (RGB565, (2, 1), Some(Point::Color)),
+    (RGBA8, (0, 1), None),
+    (DEPTH, (2, 2_048), Some(Point::Depth)),
+    (DEPTH, (2, 0), None),
+    (STENCIL, (1, 1), Some(Point::Stencil)),
+    (STENCIL, (0, 0), None),
+];
+
+#[test]
+fn storage_is_for_one_point(rt: HostRuntime) {
+    for (code, (w, h), only) in STORED.iter() {
+        let mut renderbuffer = Renderbuffer::new();
+        stored(&rt, rt.alloc(), &mut renderbuffer, *code, (*w, *h));
+        for point in POINTS.iter() {
+            let part = Part {
+                present: true,
+                attachable: Some(*point) == *only,
+                w: *w,
+                h: *h,
+            };
+            assert!(rt; renderbuffer.part(*point) == part, "{point:?}");
+        }
+    }
+}
+
+#[test]
+fn a_renderbuffer_without_storage_is_for_no_point(rt: HostRuntime) {
+    for point in POINTS.iter() {
+        assert!(rt; Renderbuffer::new().part(*point) == Part::unattachable());
+    }
+}
+
+#[test]
+fn a_target_is_for_the_colour(rt: HostRuntime) {
+    let mut renderbuffer = Renderbuffer::new();
+    renderbuffer.target(3, 2);
+    for point in POINTS.iter() {
+        let is_colour = *point == Point::Color;
+        assert!(rt; renderbuffer.part(*point).attachable == is_colour, "{point:?}");
+    }
 }

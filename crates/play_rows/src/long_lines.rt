@@ -6,10 +6,10 @@ use std::alloc::Global;
 const KEPT: u64 = 1_997;
 
 /// How many times a surface and a context come and go.
-const ROUNDS: u64 = 3_266;
+const ROUNDS: u64 = 2_333;
 
 /// How many lines are left up to 100,000.
-const REST: u64 = 7;
+const REST: u64 = 1;
 
 /// How many pairs of an attribute and its value a long list has.
 const PAIRS: u64 = 512;
@@ -28,6 +28,16 @@ const FIRST: [&str; 12] = [
     "glReadPixels 0 0 4 4 GL_RGBA GL_UNSIGNED_BYTE",
     "eglMakeCurrent $d $small $big $c",
     "glReadPixels 2044 2044 8 4 GL_RGBA GL_UNSIGNED_BYTE",
+];
+
+const STORAGE: [&str; 2] = [
+    "glBindRenderbufferOES GL_RENDERBUFFER_OES 1",
+    "glRenderbufferStorageOES GL_RENDERBUFFER_OES GL_RGBA8_OES 2 1",
+];
+
+const ATTACHED: [&str; 2] = [
+    "glFramebufferRenderbufferOES GL_FRAMEBUFFER_OES GL_COLOR_ATTACHMENT0_OES GL_RENDERBUFFER_OES 1",
+    "glClear GL_COLOR_BUFFER_BIT",
 ];
 
 const LAST: [&str; 3] = ["eglReleaseThread", "eglTerminate $d", "census"];
@@ -83,6 +93,23 @@ fn put_texture(alloc: Global, out: &mut String, k: u64) -> Result<()> {
     Ok(())
 }
 
+/// A framebuffer stays, to which the texture is attached. It is drawn by a renderbuffer that goes, whose pixels it has taken over from an image that goes as well.
+fn put_framebuffer(alloc: Global, out: &mut String, k: u64) -> Result<()> {
+    let framebuffer = k.wrapping_add(1);
+    put_lines(out, &STORAGE)?;
+    out.push_str(&format!(in alloc; "0 glBindFramebufferOES GL_FRAMEBUFFER_OES {framebuffer}\n")?)?;
+    put_lines(out, &ATTACHED)?;
+    out.push_str(&format!(in alloc; "0 $i{k} = eglCreateImage $d $e{k} EGL_GL_RENDERBUFFER 1 []\n")?)?;
+    out.push_str(&format!(in alloc; "0 glEGLImageTargetTexture2DOES GL_TEXTURE_2D $i{k}\n")?)?;
+    put_line(out, "glDeleteRenderbuffersOES [1]")?;
+    out.push_str(&format!(in alloc; "0 eglDestroyImage $d $i{k}\n")?)?;
+    out.push_str(&format!(in alloc;
+        "0 glFramebufferTexture2DOES GL_FRAMEBUFFER_OES GL_COLOR_ATTACHMENT0_OES GL_TEXTURE_2D $n{k}.1 0\n"
+    )?)?;
+    put_line(out, "glReadPixels 0 0 2 1 GL_RGBA GL_UNSIGNED_BYTE")?;
+    put_line(out, "glBindFramebufferOES GL_FRAMEBUFFER_OES 0")
+}
+
 /// What is asked of them.
 fn put_questions(alloc: Global, out: &mut String, k: u64) -> Result<()> {
     let id = k % 8 + 1;
@@ -125,6 +152,7 @@ fn put_rounds(alloc: Global, out: &mut String) -> Result<()> {
     for k in 0..ROUNDS {
         put_drawing(alloc, out, k)?;
         put_texture(alloc, out, k)?;
+        put_framebuffer(alloc, out, k)?;
         put_questions(alloc, out, k)?;
         put_end(alloc, out, k)?;
     }
@@ -138,7 +166,7 @@ fn put_rest(out: &mut String) -> Result<()> {
     Ok(())
 }
 
-/// The trace: one large surface and a small one, many that are kept, others that come and go, and textures that stay.
+/// The trace: one large surface and a small one, many that are kept, others that come and go, and textures and framebuffers that stay.
 pub fn trace(alloc: Global) -> Result<String> {
     let mut out = String::from_str(alloc, "egl-trace 1 1\n")?;
     put_lines(&mut out, &FIRST)?;

@@ -1,4 +1,4 @@
-//! A long run: a trace of 100,000 lines over the calls of displays, configs, pbuffers, contexts that share, threads, names, textures and pixels.
+//! A long run: a trace of 100,000 lines over the calls of displays, configs, pbuffers, contexts that share, threads, names, textures, renderbuffers, framebuffers, images and pixels.
 //!
 //! It prints the sum of the trace and that of its recording, which `bench/long_run_model` works out apart from the driver.
 use crate::long_lines::trace;

@@ -27,7 +27,7 @@ use Rattle.trace_model.specs.Serial.{state_behind, next_call, entry_of}
 use Rattle.trace_model.specs.Follows.{IsNextOf, PlaysAs}
 use Rattle.trace_model.proofs.FollowsLaws.{plays_none, plays_others, plays_turn}
 use Rattle.trace_session.specs.Sessions.{Knows, SessionValue}
-use Rattle.trace_session.proofs.KnownLaws.{built_known, no_halt_known}
+use Rattle.trace_session.proofs.KnownLaws.{no_halt_known}
 use Rattle.trace_session.proofs.TraceFacts.{facts_of}
 use Rattle.shared_driver.specs.Cores.{entry, halt_call, of_number}
 use Rattle.shared_driver.specs.Picks.{IsAnswer, IsAtTurn, picked_entries}
@@ -187,13 +187,6 @@ more_lone t n before (x ∷ xs) e h p = let P : List Entry → Type 0 = λ es. P
 
 module _ (u v : Token) (p q : LinePicker) (l : Line) (reply : ReplyValue) (same : u.number ≡ p.thread) (facts : HasFacts p.session.trace) (below : p.thread < p.session.trace.threads)
     (h : HasLearnt p (mine u) u.seen) (lone : IsLone p.session.trace h.learned p.thread l) where
-  -- the driver has its call
-  pub lone_built : is_built l.call.kind ≡ true
-  lone_built = built_known p.session facts h.learned h.knows p.thread l.number l.call below (ap (option_map (λ x. x.number)) lone.next) (λ m next.
-      let both : Some l ≡ Some m = sym lone.next ∙ next in
-      let other : l ≡ m = cc in
-      sym (call_of_lone p.session.trace h.learned p.thread l lone) ∙ ap (next_call p.session.trace.lines h.learned p.thread) other)
-
   module _ (seen : v.seen ≡ u.seen) (tail : v.tail ≡ u.tail ++ entry u.number l.number l.call reply ∷ []) (own : mine v ≡ mine u ++ entry u.number l.number l.call reply ∷ []) where
     pub lone_played : PlayLone p.session.trace p.thread u.seen u.tail → PlayLone p.session.trace p.thread v.seen v.tail
     lone_played before =

@@ -10,7 +10,6 @@ ghost use Rattle.trace_session.specs.Answers.{IsLone};
 ghost use Rattle.trace_session.specs.Facts.{HasFacts};
 ghost use Rattle.trace_session.specs.Sessions.{Knows};
 ghost use Rattle.shared_driver.specs.Cores.{entry, of_number};
-ghost use Rattle.shared_driver.specs.Picks.{IsBuiltPick};
 ghost use Rattle.play_threads.specs.Picks.{HasLearnt, IsPickOf, MayLook, MayRest, Picks, have_others_halted};
 
 use crate::needs::Needs;
@@ -121,11 +120,9 @@ impl<'a> LinePicker<'a> {
     fn picked(&self, driver: &Driver) -> Result<Pick, NoMemory>
         requires thread { self.now.thread < self.now.session.trace.threads }
         requires made { self.now.thread < driver.now.made }
-        ensures built { (es : List AnEntry) → Knows es self.now.session → IfOk result IsBuiltPick }
         ensures pick { (es : List AnEntry) → Knows es self.now.session → self.now.halted ≡ have_others_halted self.now.thread es → IfOk result (IsPickOf self.now.session.trace es driver.now.state self.now.thread) }
         ensures rests { (es : List AnEntry) → Knows es self.now.session → IfOk result (MayRest self.now.session.trace es driver.now) }
     {
-        self.session.facts();
         if self.halted {
             return Ok(Pick::Stop);
         }
@@ -149,7 +146,7 @@ impl<'a> LinePicker<'a> {
         self.session.next(self.thread)
     }
 
-    /// The thread's next line, where it waits for nobody. Its call is built and is no Halt.
+    /// The thread's next line, where it waits for nobody. Its call is no Halt.
     pub(crate) fn lone_line(&self) -> Option<&'a Line>
         requires { self.now.thread < self.now.session.trace.threads }
         ensures facts { HasFacts self.now.session.trace }

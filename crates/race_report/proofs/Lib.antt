@@ -3,4 +3,5 @@ pub mod RaceLaws
 pub mod OneList
 pub mod EventLaws
 pub mod WordLaws
+pub mod DetachLaws
 pub mod WriteLaws

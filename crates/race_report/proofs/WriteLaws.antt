@@ -1,5 +1,5 @@
--- What a call changes of textures, storages and windows is among what it writes.
-use Rattle.std.proofs.Common.{◌≡◌, ℕ, ◌<◌, ◌≤◌, ◌⊎◌, inl, inr, ℤ, pos, Bool, true, false, List, [], ◌∷◌, ◌++◌, length, get_or, set, refl, sym, ap, ◌∙◌, arith, subst, Option, None, Some}
+-- What a call changes of objects and windows is among what it writes.
+use Rattle.std.proofs.Common.{◌≡◌, ℕ, zero, suc, ◌<◌, ◌≤◌, ◌⊎◌, inl, inr, ℤ, pos, Bool, true, false, List, [], ◌∷◌, ◌++◌, length, get_or, set, refl, sym, ap, ◌∙◌, arith, subst, Option, None, Some}
 use Rattle.std.specs.Prelude.{if◌then◌else◌, ◌==◌, ◌&&◌, not}
 use Rattle.std.specs.List.{Contains}
 use Rattle.std.specs.Option.{option_map_or}
@@ -14,9 +14,9 @@ use Rattle.egl_calls.specs.declared.errors.Outcome.TheVariants.{Done, Waiting}
 use Rattle.egl_calls.specs.declared.kinds.Kind.{Kind}
 use Rattle.egl_calls.specs.declared.kinds.Kind.TheVariants.{Egl, Gl, Own}
 use Rattle.egl_calls.specs.declared.kinds.EglKind.{EglKind}
-use Rattle.egl_calls.specs.declared.kinds.EglKind.TheVariants.{ClientWaitSync, CreateContext, CreatePbufferSurface, CreateSync, CreateWindowSurface, MakeCurrent, ReleaseThread, SurfaceAttrib, SwapBuffers, WaitClient, WaitSync}
+use Rattle.egl_calls.specs.declared.kinds.EglKind.TheVariants.{ClientWaitSync, CreateContext, CreateImage, CreatePbufferSurface, CreateSync, CreateWindowSurface, MakeCurrent, ReleaseThread, SurfaceAttrib, SwapBuffers, WaitClient, WaitSync}
 use Rattle.egl_calls.specs.declared.kinds.GlKind.{GlKind}
-use Rattle.egl_calls.specs.declared.kinds.GlKind.TheVariants.{BindTexture, Clear, CopyTexImage2d, CopyTexSubImage2d, DeleteTextures, DrawTexi, DrawTexx, Finish, Flush, GenTextures, ReadPixels, TexImage2d, TexParameterx, TexParameteriv, TexSubImage2d, GenBuffers, DeleteBuffers, BindBuffer, BufferData, BufferSubData, GenRenderbuffers, DeleteRenderbuffers, BindRenderbuffer, RenderbufferStorage}
+use Rattle.egl_calls.specs.declared.kinds.GlKind.TheVariants.{BindTexture, Clear, CopyTexImage2d, CopyTexSubImage2d, DeleteTextures, DrawTexi, DrawTexx, Finish, Flush, GenTextures, ReadPixels, TexImage2d, TexParameterx, TexParameteriv, TexSubImage2d, GenBuffers, DeleteBuffers, BindBuffer, BufferData, BufferSubData, GenRenderbuffers, DeleteRenderbuffers, BindRenderbuffer, RenderbufferStorage, GenFramebuffers, DeleteFramebuffers, BindFramebuffer, FramebufferTexture2d, FramebufferRenderbuffer, ImageTargetTexture2d, ImageTargetRenderbufferStorage}
 use Rattle.egl_calls.specs.declared.kinds.OwnKind.{OwnKind}
 use Rattle.egl_calls.specs.declared.kinds.OwnKind.TheVariants.{ReadBuffer, WaitEnd}
 use Rattle.call_rules.specs.EglRules.{is_release}
@@ -26,7 +26,7 @@ use Rattle.context_state.specs.declared.kinds.ContextCall.{ContextCall}
 use Rattle.context_state.specs.Parts.{PartValue, noted}
 use Rattle.share_group.specs.Groups.{GroupValue}
 use Rattle.share_group.specs.declared.names.NameKind.{NameKind}
-use Rattle.share_group.specs.declared.names.NameKind.TheVariants.{Texture as textures, Buffer as buffers, Renderbuffer as renderbuffers}
+use Rattle.share_group.specs.declared.names.NameKind.TheVariants.{Texture as textures, Buffer as buffers, Renderbuffer as renderbuffers, Framebuffer as framebuffers}
 use Rattle.surface_store.specs.Surfaces.{SurfaceValue}
 use Rattle.surface_store.specs.Windows.{WindowValue, posted}
 use Rattle.surface_store.specs.WindowTables.{fits, no_window, place_of, posted_to, swapped_windows, window_at}
@@ -34,15 +34,19 @@ use Rattle.driver_objects.specs.Storages.{StorageValue, shown_by}
 use Rattle.driver_objects.specs.declared.contexts.Context.{Context as ContextObject}
 use Rattle.driver_objects.specs.declared.fences.Fence.{Fence}
 use Rattle.driver_objects.specs.declared.objects.Object.{Object}
-use Rattle.driver_objects.specs.declared.objects.Object.TheVariants.{Context, Group, Texture, Buffer, Renderbuffer, Surface, Storage, Sync}
+use Rattle.driver_objects.specs.declared.objects.Object.TheVariants.{Context, Group, Surface, Sync}
 use Rattle.driver_objects.specs.declared.surfaces.BackedSurface.{BackedSurface}
 use Rattle.buffer_objects.specs.Buffers.{BufferValue}
+use Rattle.framebuffer_objects.specs.Framebuffers.{FramebufferValue}
 use Rattle.framebuffer_objects.specs.Renderbuffers.{RenderbufferValue}
+use Rattle.framebuffer_objects.specs.declared.framebuffers.Attached.{Attached}
+use Rattle.framebuffer_objects.specs.declared.points.Point.{Point}
+use Rattle.egl_image.specs.declared.images.EglImage.{EglImage}
 use Rattle.driver_objects.specs.declared.renderbuffers.BackedRenderbuffer.{BackedRenderbuffer}
 use Rattle.egl_model.specs.Renderbuffers.{new_kind, new_pixels, stored_as, target_renderbuffer}
 use Rattle.driver_objects.specs.Targets.{buffer_target, name_kind}
 use Rattle.driver_objects.specs.declared.targets.BindTarget.{BindTarget}
-use Rattle.driver_objects.specs.declared.targets.BindTarget.TheVariants.{Texture as TextureTarget, Renderbuffer as RenderbufferTarget}
+use Rattle.driver_objects.specs.declared.targets.BindTarget.TheVariants.{Texture as TextureTarget, Renderbuffer as RenderbufferTarget, Framebuffer as FramebufferTarget}
 use Rattle.driver_objects.specs.declared.textures.BackedTexture.{BackedTexture}
 use Rattle.display_table.specs.declared.handles.Handle.{Handle}
 use Rattle.pixel_rows.specs.Images.{ImageValue}
@@ -51,7 +55,7 @@ use Rattle.rect_pipeline.specs.Samplers.{SamplerValue}
 use Rattle.egl_model.specs.Copies.{copied_from, copied_level, copied_part_from, copies_nothing, read_image}
 use Rattle.egl_model.specs.Draws.{draw_into, drawn_rect, sampler}
 use Rattle.egl_model.specs.Arguments.{number}
-use Rattle.egl_model.specs.Currents.{bound_surface, current_context, draw_storage, part_of_context}
+use Rattle.egl_model.specs.Currents.{bound_surface, current_context, part_of_context}
 use Rattle.egl_model.specs.Drawing.{clear_storage, clears_colour}
 use Rattle.egl_model.specs.EglEffects.{egl_effect}
 use Rattle.egl_model.specs.EglFacts.{egl_refusal}
@@ -61,10 +65,12 @@ use Rattle.egl_model.specs.GlEffects.{effect_by, gl_effect, object_effect}
 use Rattle.egl_model.specs.GlFacts.{gl_refusal}
 use Rattle.egl_model.specs.Graph.{reached}
 use Rattle.egl_model.specs.MakeCurrent.{bind, bound_anew, bound_by, context_handle, draw_handle, first_use, read_handle, unbound}
-use Rattle.egl_model.specs.Bindings.{bound_named, bound_object, deleted_in, deleted_name, freed, unbound_in}
+use Rattle.egl_model.specs.Bindings.{bound_framebuffer_in, bound_named, bound_object, deleted_in, deleted_name, detached_from, detached_on, freed, unbound_in}
 use Rattle.egl_model.specs.Buffers.{set_data, set_part_of, target_buffer}
+use Rattle.egl_model.specs.Framebuffers.{attached, bound_framebuffer, called_point, given_attachment, target_framebuffer}
+use Rattle.egl_model.specs.Images.{add_image, levels_dropped, renderbuffer_of_image, source_storage, target_image, texture_of_image}
 use Rattle.egl_model.specs.Names.{group_of, object_named}
-use Rattle.egl_model.specs.Objects.{as_buffer, as_renderbuffer, as_storage, as_texture, change_buffer, change_renderbuffer, change_context, change_fence, change_group, change_part, change_storage, change_surface, change_texture, with_context, with_fence, with_group, with_part, with_surface}
+use Rattle.egl_model.specs.Objects.{as_buffer, as_framebuffer, as_renderbuffer, as_storage, as_texture, change_buffer, change_framebuffer, change_renderbuffer, change_context, change_fence, change_group, change_part, change_storage, change_surface, change_texture, framebuffer_in, with_context, with_fence, with_framebuffer, with_group, with_part, with_surface}
 use Rattle.egl_model.specs.OwnCalls.{buffer_effect, buffer_refusal}
 use Rattle.egl_model.specs.State.{State, record_of}
 use Rattle.egl_model.specs.Step.{Stepped, after_egl_rules, after_gl_rules, buffer_step_on, egl_step, gl_step, gl_step_on, own_step, step, step_by, step_in, wait_step}
@@ -77,86 +83,58 @@ use Rattle.egl_model.specs.Waits.{is_signalled, is_wait_end, waiting}
 use Rattle.egl_model.specs.Windows.{swapped_surface, swapped_with}
 use Rattle.model_laws.proofs.SweepLaws.{length-swept, object_at-swept}
 use Rattle.race_report.specs.Leading.{is_done}
-use Rattle.race_report.specs.Touches.{buffer_touches_on, egl_touches, front, gl_touches, gl_touches_on, nothing, object, object_touches, own_touches, swap_of, swap_with, touches_by, touches_by_class, touches_of, writing}
-use Rattle.race_report.specs.Writes.{IsAsItWas, IsWrittenBy, Shows, Spares}
+use Rattle.race_report.specs.Touches.{buffer_touches_on, drawing, egl_touches, front, gl_touches, gl_touches_on, is_attached, nothing, object, object_touches, own_touches, swap_of, swap_with, target_objects, touches_by, touches_by_class, touches_of}
+use Rattle.race_report.specs.Writes.{IsAsItWas, IsWrittenBy, Shows, Spares, StaysOrGoes}
 use Rattle.race_report.specs.declared.touched.Touches.{Touches}
+use Rattle.race_report.proofs.DetachLaws.{CountsDetached, counts_all, counts_later, unattached}
 use Rattle.race_report.proofs.WordLaws.{contains_first, contains_later}
 
 -- ---- One object.
 as_it_was : (o : Option Object) → IsAsItWas o o
-as_it_was o = (inl refl, (inl refl, (inl refl, inl refl)))
+as_it_was o = (inl refl, inl refl, inl refl, inl refl, inl refl)
 
-one_then : {A : Type 0} (x y z : Option A) → (y ≡ x) ⊎ (y ≡ None) → (z ≡ y) ⊎ (z ≡ None) → (z ≡ x) ⊎ (z ≡ None)
+one_then : {A : Type 0} (x y z : Option A) → StaysOrGoes x y → StaysOrGoes y z → StaysOrGoes x z
 one_then x y z f g = elim g [
   | inl e ↦ (elim f [ inl d ↦ inl (e ∙ d) | inr d ↦ inr (e ∙ d) ])
   | inr e ↦ inr e
 ]
 
 was_then : (o p q : Option Object) → IsAsItWas o p → IsAsItWas p q → IsAsItWas o q
-was_then o p q f g = (one_then (as_texture o) (as_texture p) (as_texture q) f.0 g.0, (one_then (as_storage o) (as_storage p) (as_storage q) f.1.0 g.1.0, (one_then (as_buffer o) (as_buffer p) (as_buffer q) f.1.1.0 g.1.1.0, one_then (as_renderbuffer o) (as_renderbuffer p) (as_renderbuffer q) f.1.1.1 g.1.1.1)))
+was_then o p q f g = (
+  one_then (as_texture o) (as_texture p) (as_texture q) f.0 g.0,
+  one_then (as_storage o) (as_storage p) (as_storage q) f.1 g.1,
+  one_then (as_buffer o) (as_buffer p) (as_buffer q) f.2 g.2,
+  one_then (as_renderbuffer o) (as_renderbuffer p) (as_renderbuffer q) f.3 g.3,
+  one_then (as_framebuffer o) (as_framebuffer p) (as_framebuffer q) f.4 g.4,
+)
 
 gone_or_not : (b : Bool) (o : Option Object) → IsAsItWas o (if b then o else None)
 gone_or_not true o = as_it_was o
-gone_or_not false o = (inr refl, (inr refl, (inr refl, inr refl)))
+gone_or_not false o = (inr refl, inr refl, inr refl, inr refl, inr refl)
 
--- no change of an object of another kind is one of a texture, a storage, a buffer or a renderbuffer
+-- no change of an object of another kind is one of a texture, a storage, a buffer, a renderbuffer or a framebuffer
 abbrev Spared : (Option Object → Option Object) → Type 0
 Spared f = (o : Option Object) → IsAsItWas o (f o)
 
 spared-context : (f : ContextObject → ContextObject) → Spared (with_context f)
-spared-context f None = (inl refl, (inl refl, (inl refl, inl refl)))
-spared-context f (Some (Context x)) = (inl refl, (inl refl, (inl refl, inl refl)))
-spared-context f (Some (Group x)) = (inl refl, (inl refl, (inl refl, inl refl)))
-spared-context f (Some (Texture x)) = (inl refl, (inl refl, (inl refl, inl refl)))
-spared-context f (Some (Buffer x)) = (inl refl, (inl refl, (inl refl, inl refl)))
-spared-context f (Some (Renderbuffer x)) = (inl refl, (inl refl, (inl refl, inl refl)))
-spared-context f (Some (Surface x)) = (inl refl, (inl refl, (inl refl, inl refl)))
-spared-context f (Some (Storage x)) = (inl refl, (inl refl, (inl refl, inl refl)))
-spared-context f (Some (Sync x)) = (inl refl, (inl refl, (inl refl, inl refl)))
+spared-context f (Some (Context x)) = as_it_was (Some (Context x))
+spared-context f o = as_it_was o
 
 spared-part : (f : PartValue → PartValue) → Spared (with_part f)
-spared-part f None = (inl refl, (inl refl, (inl refl, inl refl)))
-spared-part f (Some (Context x)) = (inl refl, (inl refl, (inl refl, inl refl)))
-spared-part f (Some (Group x)) = (inl refl, (inl refl, (inl refl, inl refl)))
-spared-part f (Some (Texture x)) = (inl refl, (inl refl, (inl refl, inl refl)))
-spared-part f (Some (Buffer x)) = (inl refl, (inl refl, (inl refl, inl refl)))
-spared-part f (Some (Renderbuffer x)) = (inl refl, (inl refl, (inl refl, inl refl)))
-spared-part f (Some (Surface x)) = (inl refl, (inl refl, (inl refl, inl refl)))
-spared-part f (Some (Storage x)) = (inl refl, (inl refl, (inl refl, inl refl)))
-spared-part f (Some (Sync x)) = (inl refl, (inl refl, (inl refl, inl refl)))
+spared-part f (Some (Context x)) = as_it_was (Some (Context x))
+spared-part f o = as_it_was o
 
 spared-group : (f : GroupValue → GroupValue) → Spared (with_group f)
-spared-group f None = (inl refl, (inl refl, (inl refl, inl refl)))
-spared-group f (Some (Context x)) = (inl refl, (inl refl, (inl refl, inl refl)))
-spared-group f (Some (Group x)) = (inl refl, (inl refl, (inl refl, inl refl)))
-spared-group f (Some (Texture x)) = (inl refl, (inl refl, (inl refl, inl refl)))
-spared-group f (Some (Buffer x)) = (inl refl, (inl refl, (inl refl, inl refl)))
-spared-group f (Some (Renderbuffer x)) = (inl refl, (inl refl, (inl refl, inl refl)))
-spared-group f (Some (Surface x)) = (inl refl, (inl refl, (inl refl, inl refl)))
-spared-group f (Some (Storage x)) = (inl refl, (inl refl, (inl refl, inl refl)))
-spared-group f (Some (Sync x)) = (inl refl, (inl refl, (inl refl, inl refl)))
+spared-group f (Some (Group x)) = as_it_was (Some (Group x))
+spared-group f o = as_it_was o
 
 spared-fence : (f : Fence → Fence) → Spared (with_fence f)
-spared-fence f None = (inl refl, (inl refl, (inl refl, inl refl)))
-spared-fence f (Some (Context x)) = (inl refl, (inl refl, (inl refl, inl refl)))
-spared-fence f (Some (Group x)) = (inl refl, (inl refl, (inl refl, inl refl)))
-spared-fence f (Some (Texture x)) = (inl refl, (inl refl, (inl refl, inl refl)))
-spared-fence f (Some (Buffer x)) = (inl refl, (inl refl, (inl refl, inl refl)))
-spared-fence f (Some (Renderbuffer x)) = (inl refl, (inl refl, (inl refl, inl refl)))
-spared-fence f (Some (Surface x)) = (inl refl, (inl refl, (inl refl, inl refl)))
-spared-fence f (Some (Storage x)) = (inl refl, (inl refl, (inl refl, inl refl)))
-spared-fence f (Some (Sync x)) = (inl refl, (inl refl, (inl refl, inl refl)))
+spared-fence f (Some (Sync x)) = as_it_was (Some (Sync x))
+spared-fence f o = as_it_was o
 
 spared-surface : (f : SurfaceValue → SurfaceValue) → Spared (with_surface f)
-spared-surface f None = (inl refl, (inl refl, (inl refl, inl refl)))
-spared-surface f (Some (Context x)) = (inl refl, (inl refl, (inl refl, inl refl)))
-spared-surface f (Some (Group x)) = (inl refl, (inl refl, (inl refl, inl refl)))
-spared-surface f (Some (Texture x)) = (inl refl, (inl refl, (inl refl, inl refl)))
-spared-surface f (Some (Buffer x)) = (inl refl, (inl refl, (inl refl, inl refl)))
-spared-surface f (Some (Renderbuffer x)) = (inl refl, (inl refl, (inl refl, inl refl)))
-spared-surface f (Some (Surface x)) = (inl refl, (inl refl, (inl refl, inl refl)))
-spared-surface f (Some (Storage x)) = (inl refl, (inl refl, (inl refl, inl refl)))
-spared-surface f (Some (Sync x)) = (inl refl, (inl refl, (inl refl, inl refl)))
+spared-surface f (Some (Surface x)) = as_it_was (Some (Surface x))
+spared-surface f o = as_it_was o
 
 -- ---- Objects.
 record Kept (ws : List ℤ) (os ps : List (Option Object)) : Type 0 where
@@ -243,6 +221,20 @@ kept-pixels : (ws : List ℤ) (k : ℕ) (o : Option ℕ) (n : ℕ) (os : List (O
 unfolding change_pixels
 kept-pixels ws k o n os w = kept_set ws os n _ (inl w)
 
+kept-framebuffer : (ws : List ℤ) (f : FramebufferValue → FramebufferValue) (n : ℕ) (os : List (Option Object)) → Contains ws (pos n) → Kept ws os (change_framebuffer f n os)
+unfolding change_framebuffer
+kept-framebuffer ws f n os w = kept_set ws os n _ (inl w)
+
+-- and what isn't attached to a framebuffer leaves it as it is
+kept-detached : (ws : List ℤ) (o : Option ℕ) (x : ℕ) (os : List (Option Object)) → ((b : ℕ) → o ≡ Some b → is_attached (framebuffer_in os b) (Some x) ≡ true → Contains ws (pos b)) → Kept ws os (detached_on o x os)
+unfolding change_framebuffer
+kept-detached ws None x os h = kept_self ws os
+kept-detached ws (Some b) x os h = kept_set ws os b (with_framebuffer (detached_from x) (get_or os b None)) (by (is_attached (framebuffer_in os b) (Some x)) refl)
+  where
+    by : (w : Bool) → is_attached (framebuffer_in os b) (Some x) ≡ w → Contains ws (pos b) ⊎ IsAsItWas (get_or os b None) (with_framebuffer (detached_from x) (get_or os b None))
+    by true e = inl (h b refl e)
+    by false e = inr (subst (λ p. IsAsItWas (get_or os b None) p) (sym (unattached x (get_or os b None) e)) (as_it_was (get_or os b None)))
+
 kept-flush : (ws : List ℤ) (o : Option ℕ) (os : List (Option Object)) → Kept ws os (flush_in o os)
 kept-flush ws None os = kept_self ws os
 kept-flush ws (Some n) os = kept-context ws _ n os
@@ -307,6 +299,10 @@ told-serve : (s : State) (o : Option Handle) → Told [] s (serve o s)
 told-serve s None = tells_self [] s.objects s.windows
 told-serve s (Some h) = with_objects [] s.objects _ s.windows (kept-fence [] _ h.object s.objects)
 
+told-image : (s : State) (d : ℕ) (o : Option ℕ) → Told [] s (option_map_or (add_image s d) o s)
+told-image s d None = tells_self [] s.objects s.windows
+told-image s d (Some k) = with_objects [] s.objects _ s.windows (kept_more [] s.objects _)
+
 kept-first_use : (o draw : Option Handle) (os : List (Option Object)) → Kept [] os (first_use o draw os)
 kept-first_use None draw os = kept_self [] os
 kept-first_use (Some h) draw os = kept-part [] _ h.object os
@@ -341,6 +337,7 @@ told-egl s t c WaitClient = with_objects [] s.objects _ s.windows (kept-flush []
 told-egl s t c CreateSync = told-sync s (number c 0) (current_context s t)
 told-egl s t c ClientWaitSync = told-client s c t (sync_handle s c)
 told-egl s t c WaitSync = told-serve s (sync_handle s c)
+told-egl s t c CreateImage = told-image s (number c 0) (source_storage s c)
 told-egl s t c ReleaseThread = with_objects [] s.objects _ s.windows (kept-flush [] (current_context s t) s.objects)
 told-egl s t c k = tells_self [] s.objects s.windows
 
@@ -348,11 +345,11 @@ told-egl s t c k = tells_self [] s.objects s.windows
 has_object : (n : ℕ) → Contains (object (Some n)) (pos n)
 has_object n = contains_first (pos n) []
 
-told-clear : (s : State) (p : Option PartValue) (o : Option ℕ) (b : Bool) → Told (if b then writing (object o) else nothing).writes s (if b then clear_storage p o s else s)
-told-clear s p o false = tells_self [] s.objects s.windows
-told-clear s None o true = tells_self (object o) s.objects s.windows
-told-clear s (Some p) None true = tells_self [] s.objects s.windows
-told-clear s (Some p) (Some n) true = with_objects (object (Some n)) s.objects _ s.windows (kept-storage (object (Some n)) _ n s.objects (has_object n))
+told-clear : (s : State) (p : Option PartValue) (xs : List ℤ) (o : Option ℕ) (b : Bool) → Told (if b then drawing xs o else nothing).writes s (if b then clear_storage p o s else s)
+told-clear s p xs o false = tells_self [] s.objects s.windows
+told-clear s None xs o true = tells_self (object o) s.objects s.windows
+told-clear s (Some p) xs None true = tells_self [] s.objects s.windows
+told-clear s (Some p) xs (Some n) true = with_objects (object (Some n)) s.objects _ s.windows (kept-storage (object (Some n)) _ n s.objects (has_object n))
 
 kept-bound : (ws : List ℤ) (b : BindTarget) (n : ℕ) (o : Option ℕ) (name : ℕ) (os : List (Option Object)) → Kept ws os (bound_object b n o name os)
 kept-bound ws b n o name os = kept_then ws os _ _ (kept-context ws _ n os) (kept-context ws _ n _)
@@ -365,21 +362,21 @@ told-bind : (s : State) (b : BindTarget) (n name : ℕ) (is_zero : Bool) → Tol
 told-bind s b n name true = with_objects [] s.objects _ s.windows (kept-bound [] b n None 0 s.objects)
 told-bind s b n name false = told-named s b (group_of s n) n name (object_named s (group_of s n) (name_kind b) name)
 
-kept-unbound : (ws : List ℤ) (k : NameKind) (n : ℕ) (o : Option ℕ) (os : List (Option Object)) → Kept ws os (unbound_in k n o os)
-kept-unbound ws k n None os = kept_self ws os
-kept-unbound ws k n (Some x) os = kept-context ws _ n os
+kept-unbound : (ws : List ℤ) (k : NameKind) (n : ℕ) (o : Option ℕ) (os : List (Option Object)) → ((b : ℕ) → bound_framebuffer_in n os ≡ Some b → is_attached (framebuffer_in os b) o ≡ true → Contains ws (pos b)) → Kept ws os (unbound_in k n o os)
+kept-unbound ws k n None os h = kept_self ws os
+kept-unbound ws k n (Some x) os h = kept_then ws os _ _ (kept-detached ws (bound_framebuffer_in n os) x os h) (kept-context ws _ n _)
 
-kept-freed : (ws : List ℤ) (k : NameKind) (g n name : ℕ) (o : Option ℕ) (os : List (Option Object)) → Kept ws os (freed k g n name o os)
-kept-freed ws k g n name o os = kept_then ws os _ _ (kept-unbound ws k n o os) (kept-group ws _ g _)
+kept-freed : (ws : List ℤ) (k : NameKind) (g n name : ℕ) (o : Option ℕ) (os : List (Option Object)) → ((b : ℕ) → bound_framebuffer_in n os ≡ Some b → is_attached (framebuffer_in os b) o ≡ true → Contains ws (pos b)) → Kept ws os (freed k g n name o os)
+kept-freed ws k g n name o os h = kept_then ws os _ _ (kept-unbound ws k n o os h) (kept-group ws _ g _)
 
 tells_before : (ws : List ℤ) (os ps qs : List (Option Object)) (vs us : List WindowValue) → Kept ws os ps → Tells ws ps vs qs us → Tells ws os vs qs us
 tells_before ws os ps qs vs us k f = record { kept = kept_then ws os ps qs k f.kept; shows = f.shows }
 
-told-deleted : (ws : List ℤ) (k : NameKind) (g n : ℕ) (xs : List ℤ) (s : State) → Told ws s (deleted_in k g n xs s)
-told-deleted ws k g n [] s = tells_self ws s.objects s.windows
-told-deleted ws k g n (x ∷ xs) s =
+told-deleted : (ws : List ℤ) (k : NameKind) (g n : ℕ) (xs : List ℤ) (s : State) → CountsDetached ws k g n xs s → Told ws s (deleted_in k g n xs s)
+told-deleted ws k g n [] s f = tells_self ws s.objects s.windows
+told-deleted ws k g n (x ∷ xs) s f =
     let a = deleted_name k g n (unsigned x) s in
-    tells_before ws s.objects a.objects _ s.windows _ (kept-freed ws k g n (unsigned x) (object_named s g k (unsigned x)) s.objects) (told-deleted ws k g n xs a)
+    tells_before ws s.objects a.objects _ s.windows _ (kept-freed ws k g n (unsigned x) (object_named s g k (unsigned x)) s.objects f.0) (told-deleted ws k g n xs a (counts_later ws k g n (unsigned x) xs s f.1))
 
 told-data : (s : State) (c : CallValue) (o : Option ℕ) → Told (object o) s (set_data c o s)
 told-data s c None = tells_self [] s.objects s.windows
@@ -410,6 +407,26 @@ told-stored s r v None = tells_self [] s.objects s.windows
 told-stored s r v (Some x) = with_objects (object (Some x)) s.objects _ s.windows
     (kept_then (object (Some x)) s.objects _ _ (kept-renderbuffer (object (Some x)) _ x s.objects (has_object x)) (kept-specified 0 v x _))
 
+told-attached : (s : State) (p : Point) (a : Option Attached) (o : Option ℕ) → Told (object o) s (attached p a o s)
+told-attached s p a None = tells_self [] s.objects s.windows
+told-attached s p a (Some b) = with_objects (object (Some b)) s.objects _ s.windows (kept-framebuffer (object (Some b)) _ b s.objects (has_object b))
+
+kept-dropped : (ws : List ℤ) (k x : ℕ) (os : List (Option Object)) → Contains ws (pos x) → Kept ws os (levels_dropped k x os)
+kept-dropped ws zero x os w = kept_self ws os
+kept-dropped ws (suc k) x os w = kept_then ws os _ _ (kept-dropped ws k x os w) (kept-pixels ws (suc k) None x _ w)
+
+told-texture_image : (s : State) (i : Option EglImage) (o : Option ℕ) → Told (object o) s (texture_of_image i o s)
+told-texture_image s (Some i) (Some x) = with_objects (object (Some x)) s.objects _ s.windows
+    (kept_then (object (Some x)) s.objects _ _ (kept-dropped (object (Some x)) 10 x s.objects (has_object x)) (kept-pixels (object (Some x)) 0 _ x _ (has_object x)))
+told-texture_image s (Some i) None = tells_self [] s.objects s.windows
+told-texture_image s None o = tells_self (object o) s.objects s.windows
+
+told-renderbuffer_image : (s : State) (i : Option EglImage) (o : Option ℕ) → Told (object o) s (renderbuffer_of_image i o s)
+told-renderbuffer_image s (Some i) (Some x) = with_objects (object (Some x)) s.objects _ s.windows
+    (kept_then (object (Some x)) s.objects _ _ (kept-renderbuffer (object (Some x)) _ x s.objects (has_object x)) (kept-pixels (object (Some x)) 0 _ x _ (has_object x)))
+told-renderbuffer_image s (Some i) None = tells_self [] s.objects s.windows
+told-renderbuffer_image s None o = tells_self (object o) s.objects s.windows
+
 told-rewritten : (s : State) (c : CallValue) (align : ℕ) (o : Option ℕ) → Told (object o) s (calls.rewritten_part c align o s)
 told-rewritten s c align None = tells_self [] s.objects s.windows
 told-rewritten s c align (Some n) = with_objects (object (Some n)) s.objects _ s.windows (kept-storage (object (Some n)) _ n s.objects (has_object n))
@@ -434,27 +451,34 @@ told-part ws s n f = with_objects ws s.objects _ s.windows (kept-part ws f n s.o
 told-object : (s : State) (t n : ℕ) (c : CallValue) (k : GlKind) → Told (object_touches s t n k c).writes s (object_effect s t n k c).state
 told-object s t n c Flush = with_objects [] s.objects _ s.windows (kept-flush [] (Some n) s.objects)
 told-object s t n c Finish = with_objects [] s.objects _ s.windows (kept-flush [] (Some n) s.objects)
-told-object s t n c Clear = told-clear s (part_of_context s n) (draw_storage s t) (clears_colour c)
+told-object s t n c Clear = told-clear s (part_of_context s n) (target_objects s n) (bound_framebuffer s t).draw (clears_colour c)
 told-object s t n c GenTextures = with_objects [] s.objects _ s.windows (kept-group [] _ (group_of s n) s.objects)
-told-object s t n c DeleteTextures = told-deleted _ textures (group_of s n) n c.list s
+told-object s t n c DeleteTextures = told-deleted _ textures (group_of s n) n c.list s (counts_all textures s n c.list)
 told-object s t n c BindTexture = told-bind s TextureTarget n (number c 1) (number c 1 == 0)
 told-object s t n c TexParameterx = told-parameter s (number c 1) (number c 2) (calls.target_texture s n)
 told-object s t n c TexParameteriv = told-crop s c.list (calls.target_texture s n)
 told-object s t n c TexImage2d = told-specified s (calls.level_of c) (calls.new_level c (calls.unpack_alignment s n)) (calls.target_texture s n)
 told-object s t n c TexSubImage2d = told-rewritten s c (calls.unpack_alignment s n) (calls.level_storage s n (calls.level_of c))
-told-object s t n c DrawTexi = told-draw s (part_of_context s n) (draw_storage s t) (sampler s n (drawn_rect DrawTexi c)) (drawn_rect DrawTexi c)
-told-object s t n c DrawTexx = told-draw s (part_of_context s n) (draw_storage s t) (sampler s n (drawn_rect DrawTexx c)) (drawn_rect DrawTexx c)
+told-object s t n c DrawTexi = told-draw s (part_of_context s n) (bound_framebuffer s t).draw (sampler s n (drawn_rect DrawTexi c)) (drawn_rect DrawTexi c)
+told-object s t n c DrawTexx = told-draw s (part_of_context s n) (bound_framebuffer s t).draw (sampler s n (drawn_rect DrawTexx c)) (drawn_rect DrawTexx c)
 told-object s t n c CopyTexImage2d = told-copied s c (copies_nothing c) (read_image s t) (calls.target_texture s n)
 told-object s t n c CopyTexSubImage2d = told-copied_part s c (read_image s t) (calls.level_storage s n (calls.level_of c))
 told-object s t n c GenBuffers = with_objects [] s.objects _ s.windows (kept-group [] _ (group_of s n) s.objects)
-told-object s t n c DeleteBuffers = told-deleted _ buffers (group_of s n) n c.list s
+told-object s t n c DeleteBuffers = told-deleted _ buffers (group_of s n) n c.list s (counts_all buffers s n c.list)
 told-object s t n c BindBuffer = told-bind s (buffer_target (number c 0)) n (number c 1) (number c 1 == 0)
 told-object s t n c BufferData = told-data s c (target_buffer s n c)
 told-object s t n c BufferSubData = told-part_of s c (target_buffer s n c)
 told-object s t n c GenRenderbuffers = with_objects [] s.objects _ s.windows (kept-group [] _ (group_of s n) s.objects)
-told-object s t n c DeleteRenderbuffers = told-deleted _ renderbuffers (group_of s n) n c.list s
+told-object s t n c DeleteRenderbuffers = told-deleted _ renderbuffers (group_of s n) n c.list s (counts_all renderbuffers s n c.list)
 told-object s t n c BindRenderbuffer = told-bind s RenderbufferTarget n (number c 1) (number c 1 == 0)
 told-object s t n c RenderbufferStorage = told-stored s (new_kind c) (new_pixels c) (target_renderbuffer s n)
+told-object s t n c GenFramebuffers = with_objects [] s.objects _ s.windows (kept-group [] _ (group_of s n) s.objects)
+told-object s t n c DeleteFramebuffers = told-deleted _ framebuffers (group_of s n) n c.list s (counts_all framebuffers s n c.list)
+told-object s t n c BindFramebuffer = told-bind s FramebufferTarget n (number c 1) (number c 1 == 0)
+told-object s t n c FramebufferTexture2d = told-attached s (called_point c) (given_attachment textures s n c) (target_framebuffer s n)
+told-object s t n c FramebufferRenderbuffer = told-attached s (called_point c) (given_attachment renderbuffers s n c) (target_framebuffer s n)
+told-object s t n c ImageTargetTexture2d = told-texture_image s (target_image s n c) (calls.target_texture s n)
+told-object s t n c ImageTargetRenderbufferStorage = told-renderbuffer_image s (target_image s n c) (target_renderbuffer s n)
 told-object s t n c k = tells_self _ s.objects s.windows
 
 told_by-gl : (o : Option ContextCall) (s : State) (t n : ℕ) (c : CallValue) (k : GlKind) → Told (touches_by_class o s t n k c).writes s (effect_by o s t n k c).state

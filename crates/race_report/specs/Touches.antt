@@ -1,7 +1,7 @@
 -- What a call reads and writes, beside what its thread has for itself: objects, and what windows show.
-use Rattle.std.specs.Prelude.{ℕ, ℤ, pos, neg_ℤ, List, [], ◌∷◌, ◌++◌, map, if◌then◌else◌, is_some, option_to_list, Option, None, Some}
-use Rattle.std.specs.List.{filter_map}
-use Rattle.std.specs.Option.{option_map_or}
+use Rattle.std.specs.Prelude.{ℕ, ℤ, pos, neg_ℤ, Bool, false, ◌||◌, List, [], ◌∷◌, ◌++◌, map, if◌then◌else◌, is_some, option_to_list, Option, None, Some}
+use Rattle.std.specs.List.{filter_map, list_any}
+use Rattle.std.specs.Option.{option_and_then, option_map_or}
 use Rattle.egl_calls.specs.Calls.{CallValue}
 use Rattle.egl_calls.specs.Ranges.{unsigned}
 use Rattle.egl_calls.specs.declared.kinds.Kind.{Kind}
@@ -9,23 +9,26 @@ use Rattle.egl_calls.specs.declared.kinds.Kind.TheVariants.{Egl, Gl, Own}
 use Rattle.egl_calls.specs.declared.kinds.EglKind.{EglKind}
 use Rattle.egl_calls.specs.declared.kinds.EglKind.TheVariants.{SwapBuffers}
 use Rattle.egl_calls.specs.declared.kinds.GlKind.{GlKind}
-use Rattle.egl_calls.specs.declared.kinds.GlKind.TheVariants.{Flush, Finish, Clear, ReadPixels, DrawTexi, DrawTexx, GenTextures, DeleteTextures, IsTexture, BindTexture, TexParameterx, TexParameteriv, TexImage2d, TexSubImage2d, CopyTexImage2d, CopyTexSubImage2d, GenBuffers, DeleteBuffers, IsBuffer, BindBuffer, BufferData, BufferSubData, GetBufferParameteriv, GenRenderbuffers, DeleteRenderbuffers, IsRenderbuffer, BindRenderbuffer, RenderbufferStorage, GetRenderbufferParameteriv}
+use Rattle.egl_calls.specs.declared.kinds.GlKind.TheVariants.{Flush, Finish, Clear, ReadPixels, DrawTexi, DrawTexx, GenTextures, DeleteTextures, IsTexture, BindTexture, TexParameterx, TexParameteriv, TexImage2d, TexSubImage2d, CopyTexImage2d, CopyTexSubImage2d, GenBuffers, DeleteBuffers, IsBuffer, BindBuffer, BufferData, BufferSubData, GetBufferParameteriv, GenRenderbuffers, DeleteRenderbuffers, IsRenderbuffer, BindRenderbuffer, RenderbufferStorage, GetRenderbufferParameteriv, GenFramebuffers, DeleteFramebuffers, IsFramebuffer, BindFramebuffer, FramebufferTexture2d, FramebufferRenderbuffer, CheckFramebufferStatus, GetFramebufferAttachmentParameteriv, ImageTargetTexture2d, ImageTargetRenderbufferStorage}
 use Rattle.egl_calls.specs.declared.kinds.OwnKind.{OwnKind}
 use Rattle.egl_calls.specs.declared.kinds.OwnKind.TheVariants.{ReadBuffer, ReadFront}
 use Rattle.egl_calls.specs.declared.places.TheConstants.{FRONT}
 use Rattle.context_state.specs.Kinds.{context_gl_call}
 use Rattle.context_state.specs.Parts.{PartValue}
 use Rattle.context_state.specs.declared.kinds.ContextCall.{ContextCall}
-use Rattle.share_group.specs.declared.names.NameKind.TheVariants.{Texture as textures, Buffer as buffers, Renderbuffer as renderbuffers}
+use Rattle.share_group.specs.declared.names.NameKind.TheVariants.{Texture as textures, Buffer as buffers, Renderbuffer as renderbuffers, Framebuffer as framebuffers}
+use Rattle.framebuffer_objects.specs.Framebuffers.{FramebufferValue, object_of}
 use Rattle.driver_objects.specs.Objects.{filled}
 use Rattle.share_group.specs.declared.names.NameKind.{NameKind}
 use Rattle.driver_objects.specs.declared.surfaces.BackedSurface.{BackedSurface}
 use Rattle.egl_model.specs.Arguments.{number}
-use Rattle.egl_model.specs.Currents.{bound_framebuffer, bound_surface, current_context, part_of_context}
+use Rattle.egl_model.specs.Currents.{bound_surface, current_context, part_of_context}
 use Rattle.egl_model.specs.Buffers.{target_buffer}
 use Rattle.egl_model.specs.Drawing.{clears_colour}
+use Rattle.egl_model.specs.Framebuffers.{bound_framebuffer, target_framebuffer}
 use Rattle.egl_model.specs.Names.{group_of, object_named}
-use Rattle.egl_model.specs.Objects.{texture_in}
+use Rattle.egl_model.specs.Objects.{framebuffer_in, texture_in}
+use Rattle.egl_model.specs.Parts.{is_place}
 use Rattle.egl_model.specs.Renderbuffers.{target_renderbuffer}
 use Rattle.egl_model.specs.State.{State, record_of}
 use Rattle.egl_model.specs.Step.{step}
@@ -37,9 +40,9 @@ use Rattle.race_report.specs.declared.touched.Touches.{Touches}
 abbrev pub nothing : Touches
 nothing = record { reads = []; writes = [] }
 
--- what a call touches that isn't built: nothing can be proved of it, so no code can be proved to answer it
-pub unbuilt : Touches
-unbuilt = nothing
+-- what a call touches that the table hasn't: nothing can be proved of it, so no code can be proved to answer it
+pub unlisted : Touches
+unlisted = nothing
 
 abbrev pub reading : List ℤ → Touches
 reading xs = record { reads = xs; writes = [] }
@@ -69,10 +72,6 @@ egl_touches s t SwapBuffers = swap_of (bound_surface s (record_of s t).draw)
 egl_touches s t k = nothing
 
 -- ---- Calls of OpenGL ES, of thread t, whose current context is n.
--- the objects that names of a kind have
-abbrev pub objects_named : State → ℕ → NameKind → List ℤ → List ℤ
-objects_named s n k xs = map pos (filter_map (λ x. object_named s (group_of s n) k (unsigned x)) xs)
-
 -- a texture, and the storages of its levels
 abbrev pub with_levels : State → Option ℕ → List ℤ
 with_levels s None = []
@@ -83,33 +82,78 @@ abbrev pub sampled_by : Option PartValue → State → Option ℕ → List ℤ
 sampled_by (Some p) s o = if p.is_texture_enabled then with_levels s o else []
 sampled_by None s o = []
 
+-- the framebuffer that a context has bound in the place of its surfaces, and the texture or renderbuffer at its colour point
+abbrev pub color_object : State → ℕ → Option ℕ
+color_object s b = option_and_then (λ f. object_of f.color) (framebuffer_in s.objects b)
+
+abbrev pub with_color : State → Option ℕ → List ℤ
+with_color s None = []
+with_color s (Some b) = map pos (b ∷ option_to_list (color_object s b))
+
+abbrev pub target_objects : State → ℕ → List ℤ
+target_objects s n = with_color s (target_framebuffer s n)
+
+-- the pixels that a thread reads, and what leads to them
+abbrev pub pixels_read : State → ℕ → ℕ → List ℤ
+pixels_read s t n = object (bound_framebuffer s t).read ++ target_objects s n
+
+-- these objects are read, and a storage is drawn to
+abbrev pub drawing : List ℤ → Option ℕ → Touches
+drawing xs o = record { reads = xs; writes = object o }
+
 abbrev pub draw_touches : State → ℕ → ℕ → Touches
-draw_touches s t n = record { reads = sampled_by (part_of_context s n) s (target_texture s n); writes = object (bound_framebuffer s t).draw }
+draw_touches s t n = drawing (sampled_by (part_of_context s n) s (target_texture s n) ++ target_objects s n) (bound_framebuffer s t).draw
+
+-- the objects that names of a kind have
+abbrev pub objects_named : State → ℕ → NameKind → List ℤ → List ℤ
+objects_named s n k xs = map pos (filter_map (λ x. object_named s (group_of s n) k (unsigned x)) xs)
+
+-- whether an object is attached to a framebuffer
+abbrev pub is_attached : Option FramebufferValue → Option ℕ → Bool
+is_attached (Some f) (Some x) = is_place x (object_of f.color) || (is_place x (object_of f.depth) || is_place x (object_of f.stencil))
+is_attached f x = false
+
+-- the framebuffer that a context has bound, where the object of one of these names is attached to it
+abbrev pub is_one_attached : State → ℕ → NameKind → List ℤ → ℕ → Bool
+is_one_attached s n k xs b = list_any (λ x. is_attached (framebuffer_in s.objects b) (object_named s (group_of s n) k (unsigned x))) xs
+
+abbrev pub detached_framebuffer : State → ℕ → NameKind → List ℤ → Option ℕ
+detached_framebuffer s n k xs = option_and_then (λ b. if is_one_attached s n k xs b then Some b else None) (target_framebuffer s n)
+
+-- a deletion detaches what it deletes from the framebuffer that the context has bound
+abbrev pub deletion_touches : State → ℕ → NameKind → List ℤ → Touches
+deletion_touches s n k xs = writing (objects_named s n k xs ++ object (detached_framebuffer s n k xs))
 
 abbrev pub object_touches : State → ℕ → ℕ → GlKind → CallValue → Touches
--- pixels of the surfaces
-object_touches s t n Clear c = if clears_colour c then writing (object (bound_framebuffer s t).draw) else nothing
-object_touches s t n ReadPixels c = reading (object (bound_framebuffer s t).read)
+-- pixels of the surfaces, or of what is attached in their place
+object_touches s t n Clear c = if clears_colour c then drawing (target_objects s n) (bound_framebuffer s t).draw else nothing
+object_touches s t n ReadPixels c = reading (pixels_read s t n)
 object_touches s t n DrawTexi c = draw_touches s t n
 object_touches s t n DrawTexx c = draw_touches s t n
 -- the texture on which calls work, and the pixels of its levels
 object_touches s t n TexImage2d c = writing (object (target_texture s n))
+object_touches s t n ImageTargetTexture2d c = writing (object (target_texture s n))
 object_touches s t n TexParameterx c = writing (object (target_texture s n))
 object_touches s t n TexParameteriv c = writing (object (target_texture s n))
 object_touches s t n TexSubImage2d c = record { reads = object (target_texture s n); writes = object (level_storage s n (level_of c)) }
-object_touches s t n CopyTexImage2d c = record { reads = object (bound_framebuffer s t).read; writes = object (target_texture s n) }
-object_touches s t n CopyTexSubImage2d c = record { reads = object (target_texture s n) ++ object (bound_framebuffer s t).read; writes = object (level_storage s n (level_of c)) }
+object_touches s t n CopyTexImage2d c = record { reads = pixels_read s t n; writes = object (target_texture s n) }
+object_touches s t n CopyTexSubImage2d c = record { reads = object (target_texture s n) ++ pixels_read s t n; writes = object (level_storage s n (level_of c)) }
 -- the buffer on which calls work
 object_touches s t n BufferData c = writing (object (target_buffer s n c))
 object_touches s t n BufferSubData c = writing (object (target_buffer s n c))
 object_touches s t n GetBufferParameteriv c = reading (object (target_buffer s n c))
 -- the renderbuffer on which calls work
 object_touches s t n RenderbufferStorage c = writing (object (target_renderbuffer s n))
+object_touches s t n ImageTargetRenderbufferStorage c = writing (object (target_renderbuffer s n))
 object_touches s t n GetRenderbufferParameteriv c = reading (object (target_renderbuffer s n))
+-- the framebuffer on which calls work
+object_touches s t n FramebufferTexture2d c = writing (object (target_framebuffer s n))
+object_touches s t n FramebufferRenderbuffer c = writing (object (target_framebuffer s n))
 -- what is deleted
-object_touches s t n DeleteTextures c = writing (objects_named s n textures c.list)
-object_touches s t n DeleteBuffers c = writing (objects_named s n buffers c.list)
-object_touches s t n DeleteRenderbuffers c = writing (objects_named s n renderbuffers c.list)
+object_touches s t n DeleteTextures c = deletion_touches s n textures c.list
+object_touches s t n DeleteBuffers c = deletion_touches s n buffers c.list
+object_touches s t n DeleteRenderbuffers c = deletion_touches s n renderbuffers c.list
+object_touches s t n DeleteFramebuffers c = deletion_touches s n framebuffers c.list
 -- nothing but names, and what the context has flushed
 object_touches s t n Flush c = nothing
 object_touches s t n Finish c = nothing
@@ -122,7 +166,13 @@ object_touches s t n BindBuffer c = nothing
 object_touches s t n GenRenderbuffers c = nothing
 object_touches s t n IsRenderbuffer c = nothing
 object_touches s t n BindRenderbuffer c = nothing
-object_touches s t n k c = unbuilt
+object_touches s t n GenFramebuffers c = nothing
+object_touches s t n IsFramebuffer c = nothing
+object_touches s t n BindFramebuffer c = nothing
+-- what is asked of a framebuffer isn't counted
+object_touches s t n CheckFramebufferStatus c = nothing
+object_touches s t n GetFramebufferAttachmentParameteriv c = nothing
+object_touches s t n k c = unlisted
 
 -- a call of its context's own state touches nothing else
 abbrev pub touches_by_class : Option ContextCall → State → ℕ → ℕ → GlKind → CallValue → Touches

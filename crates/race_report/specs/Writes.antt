@@ -5,16 +5,22 @@ use Rattle.egl_calls.specs.Ranges.{unsigned}
 use Rattle.driver_objects.specs.declared.objects.Object.{Object}
 use Rattle.surface_store.specs.Windows.{WindowValue}
 use Rattle.surface_store.specs.WindowTables.{window_at}
-use Rattle.egl_model.specs.Objects.{as_buffer, as_renderbuffer, as_storage, as_texture}
+use Rattle.egl_model.specs.Objects.{as_buffer, as_framebuffer, as_renderbuffer, as_storage, as_texture}
 use Rattle.egl_model.specs.State.{State}
 use Rattle.race_report.specs.Touches.{front}
 use Rattle.race_report.specs.declared.touched.Touches.{Touches}
 
--- a texture, a storage, a buffer or a renderbuffer is as it was, or is gone; and so is what isn't one
-abbrev pub IsAsItWas : Option Object → Option Object → Type 0
-IsAsItWas o p = ((as_texture p ≡ as_texture o) ⊎ (as_texture p ≡ None)) × (((as_storage p ≡ as_storage o) ⊎ (as_storage p ≡ None)) × (((as_buffer p ≡ as_buffer o) ⊎ (as_buffer p ≡ None)) × ((as_renderbuffer p ≡ as_renderbuffer o) ⊎ (as_renderbuffer p ≡ None))))
+-- a value is as it was, or is gone
+abbrev pub StaysOrGoes : {A : Type 0} → Option A → Option A → Type 0
+StaysOrGoes x y = (y ≡ x) ⊎ (y ≡ None)
 
--- each texture, each storage, each buffer and each renderbuffer is written, or as it was, or gone
+-- a texture, a storage, a buffer, a renderbuffer or a framebuffer is as it was, or is gone; and so is what isn't one
+abbrev pub IsAsItWas : Option Object → Option Object → Type 0
+IsAsItWas o p =
+    StaysOrGoes (as_texture o) (as_texture p) × StaysOrGoes (as_storage o) (as_storage p) × StaysOrGoes (as_buffer o) (as_buffer p)
+    × StaysOrGoes (as_renderbuffer o) (as_renderbuffer p) × StaysOrGoes (as_framebuffer o) (as_framebuffer p)
+
+-- each texture, each storage, each buffer, each renderbuffer and each framebuffer is written, or as it was, or gone
 abbrev pub Spares : List ℤ → List (Option Object) → List (Option Object) → Type 0
 Spares writes before after = (n : ℕ) → n < length before → Contains writes (pos n) ⊎ IsAsItWas (slice_index_or before n None) (slice_index_or after n None)
 

@@ -26,7 +26,7 @@ pub fn places_lead_as_said()
     ensures all { (lines : List ALine) (journal : List AnEntry) (ts : List TheTouches) (i j : ℕ) → length ts ≡ length journal → LeadsIn lines journal i j → Leads (events_of lines journal ts) i j }
 {}
 
-/// What a call changes of textures, of storages, of buffers, of renderbuffers and of what windows show is among what it writes; what else one of these objects may become is gone. So no row of what calls touch forgets a write.
+/// What a call changes of textures, of storages, of buffers, of renderbuffers, of framebuffers and of what windows show is among what it writes; what else one of these objects may become is gone. So no row of what calls touch forgets a write.
 pub fn what_a_call_changes_is_written()
     ensures { (s : State) (t : ℕ) (c : CallValue) → IsWrittenBy (touches_of s t c) s (step s t c).state }
 {}

@@ -37,6 +37,11 @@ const VALID: EglFacts = EglFacts {
     is_sync: true,
     is_current: true,
     is_current_here: true,
+    is_image: true,
+    is_source: true,
+    is_incomplete: false,
+    is_level: true,
+    is_sibling: false,
 };
 
 /// What differs from those facts.

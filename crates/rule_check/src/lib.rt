@@ -2,6 +2,8 @@
 #![tactic(auto)]
 
 #[cfg(test)]
+mod attachment_rules;
+#[cfg(test)]
 mod attribute_lists;
 #[cfg(test)]
 mod buffers;
@@ -15,6 +17,8 @@ mod contexts;
 mod egl_rules;
 #[cfg(test)]
 mod gl_rules;
+#[cfg(test)]
+mod image_rules;
 #[cfg(test)]
 mod names;
 #[cfg(test)]

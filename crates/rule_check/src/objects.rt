@@ -10,11 +10,13 @@ use driver_objects::{
     ObjectKind, Storage, buffer_target,
 };
 use egl_calls::{Call, GlKind, Kind, Numbers};
+use egl_image::EglImage;
 use egl_names::codes::{
     GL_ARRAY_BUFFER, GL_ARRAY_BUFFER_BINDING, GL_ELEMENT_ARRAY_BUFFER,
-    GL_ELEMENT_ARRAY_BUFFER_BINDING, GL_RENDERBUFFER_BINDING_OES, GL_TEXTURE_BINDING_2D,
+    GL_ELEMENT_ARRAY_BUFFER_BINDING, GL_FRAMEBUFFER_BINDING_OES, GL_RENDERBUFFER_BINDING_OES,
+    GL_TEXTURE_BINDING_2D,
 };
-use framebuffer_objects::Renderbuffer;
+use framebuffer_objects::{Attached, Framebuffer, Point, Renderbuffer};
 use pixel_formats::Format;
 use pixel_rows::{Image, Rect};
 use share_group::{Group, NameKind};
@@ -255,7 +257,7 @@ fn each_target_has_its_slot_and_its_names(rt: HostRuntime) {
         array_buffer: Some(2),
         element_array_buffer: Some(3),
         renderbuffer: Some(4),
-        framebuffer: None,
+        framebuffer: Some(5),
     };
     for (target, slot, binding, names, object) in [
         (
@@ -286,10 +288,79 @@ fn each_target_has_its_slot_and_its_names(rt: HostRuntime) {
             NameKind::Renderbuffer,
             4,
         ),
+        (
+            BindTarget::Framebuffer,
+            6,
+            GL_FRAMEBUFFER_BINDING_OES,
+            NameKind::Framebuffer,
+            5,
+        ),
     ] {
         assert_eq!(rt; (target.slot(), target.binding()), (slot, binding));
         assert_eq!(rt; target.names(), names);
         assert_eq!(rt; target.bound(&bound), Some(object));
+    }
+}
+
+/// A framebuffer with a texture as colour, and a renderbuffer as stencil.
+fn framebuffer() -> Framebuffer {
+    let mut framebuffer = Framebuffer::new();
+    framebuffer.attach_texture(Point::Color, 3, 8);
+    framebuffer.attach_renderbuffer(Point::Stencil, 4, 9);
+    framebuffer
+}
+
+#[test]
+fn a_framebuffer_has_what_is_attached(rt: HostRuntime) {
+    let alloc = rt.alloc();
+    for (framebuffer, edges) in [
+        (Framebuffer::new(), [].as_slice()),
+        (framebuffer(), &[8, 9]),
+    ] {
+        let object = Object::Framebuffer(framebuffer);
+        expect_object(&rt, alloc, object, (ObjectKind::Framebuffer, 0), edges);
+    }
+}
+
+#[test]
+fn an_image_has_its_pixels(rt: HostRuntime) {
+    let image = Object::Image(EglImage { storage: 9 });
+    expect_object(&rt, rt.alloc(), image, (ObjectKind::Image, 0), &[9]);
+}
+
+/// A slot of a framebuffer, its point, and what was attached there under which name.
+static SLOTS: [(u64, Point, Option<u64>); 3] = [
+    (0, Point::Color, Some(8)),
+    (1, Point::Depth, None),
+    (2, Point::Stencil, Some(9)),
+];
+
+/// Sets a slot of a framebuffer, and answers what it had and what is attached there then.
+fn linked(
+    rt: &impl Abort,
+    slot: u64,
+    point: Point,
+    target: Option<u64>,
+) -> (Option<u64>, Option<Attached>) {
+    assert!(rt; slot < 3);
+    let mut object = Object::Framebuffer(framebuffer());
+    let former = object.link(slot, target).expect(rt, "no memory is wanted");
+    match object {
+        Object::Framebuffer(framebuffer) => (former, framebuffer.attached(point)),
+        _ => (former, None),
+    }
+}
+
+#[test]
+fn a_slot_of_a_framebuffer_is_a_point(rt: HostRuntime) {
+    let unnamed = Attached {
+        texture: false,
+        name: 0,
+        object: 5,
+    };
+    for (slot, point, former) in &SLOTS {
+        assert_eq!(rt; linked(&rt, *slot, *point, Some(5)), (*former, Some(unnamed)));
+        assert_eq!(rt; linked(&rt, *slot, *point, None), (*former, None));
     }
 }
 

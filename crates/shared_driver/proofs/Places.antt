@@ -75,19 +75,19 @@ pub never_waits : (s : State) (t : ℕ) (c : CallValue) → takes_place c.kind �
 unfolding step
 never_waits s t c h = in_wait (record_of s t).wait s t c h
 
-pub place_memory : (k : Kind) → takes_place k ≡ true → is_built k ≡ true → takes_no_memory k ≡ true
-place_memory (Egl Terminate) h b = refl
-place_memory (Egl DestroySurface) h b = refl
-place_memory (Egl DestroyContext) h b = refl
-place_memory (Egl DestroySync) h b = refl
-place_memory (Egl DestroyImage) h b = absurd (let e : false ≡ true = b in cc)
-place_memory (Egl ReleaseThread) h b = refl
-place_memory (Egl WaitClient) h b = refl
-place_memory (Gl Flush) h b = refl
-place_memory (Gl Finish) h b = refl
-place_memory (Gl DeleteTextures) h b = refl
-place_memory (Gl DeleteBuffers) h b = refl
-place_memory (Gl DeleteRenderbuffers) h b = refl
-place_memory (Gl DeleteFramebuffers) h b = absurd (let e : false ≡ true = b in cc)
-place_memory (Own Halt) h b = refl
-place_memory k h b = absurd (let e : false ≡ true = h in cc)
+pub place_memory : (k : Kind) → takes_place k ≡ true → takes_no_memory k ≡ true
+place_memory (Egl Terminate) h = refl
+place_memory (Egl DestroySurface) h = refl
+place_memory (Egl DestroyContext) h = refl
+place_memory (Egl DestroySync) h = refl
+place_memory (Egl DestroyImage) h = refl
+place_memory (Egl ReleaseThread) h = refl
+place_memory (Egl WaitClient) h = refl
+place_memory (Gl Flush) h = refl
+place_memory (Gl Finish) h = refl
+place_memory (Gl DeleteTextures) h = refl
+place_memory (Gl DeleteBuffers) h = refl
+place_memory (Gl DeleteRenderbuffers) h = refl
+place_memory (Gl DeleteFramebuffers) h = refl
+place_memory (Own Halt) h = refl
+place_memory k h = absurd (let e : false ≡ true = h in cc)

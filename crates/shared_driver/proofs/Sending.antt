@@ -1,7 +1,8 @@
 -- What may move to another thread, or be lent to one. A caller that lends tokens to threads cites `thread_send` and `shared_sync`:
 -- a search that goes down through the whole driver runs out of steps.
 use denote.Builtin.{i64, u8}
-use denote.Param.Send.{IsSend, IsSync, recorded_send, sendable, struct_send, view_send}
+use denote.Param.Send.{IsSend, IsSync, enum_send, recorded_send, sendable, struct_send, view_send}
+use denote.Enum.Declared as enums
 use denote.Struct.Declared as declared
 use Rattle.std.proofs.Crossing.{crosses}
 use Rattle.atomic_table.proofs.send_lease.SendLease.TheSendSync as lease
@@ -18,12 +19,15 @@ use Rattle.egl_calls.specs.contracts.replies.Reply as reply
 use Rattle.egl_calls.specs.contracts.entries.Entry as entry
 use Rattle.egl_calls.specs.contracts.entries.Journal as journal
 use Rattle.buffer_objects.specs.contracts.buffers.Buffer as buffer
+use Rattle.egl_image.specs.contracts.images.EglImage as egl_image
+use Rattle.framebuffer_objects.specs.contracts.framebuffers.Framebuffer as framebuffer
 use Rattle.framebuffer_objects.specs.contracts.renderbuffers.Renderbuffer as renderbuffer
 use Rattle.display_table.specs.contracts.displays.Displays as displays
 use Rattle.share_group.proofs.Sending.{group_send}
 use Rattle.driver_objects.specs.contracts.contexts.Context as context
 use Rattle.driver_objects.specs.contracts.fences.Fence as fence
 use Rattle.driver_objects.specs.contracts.objects.Object as object
+use Rattle.driver_objects.specs.contracts.renderbuffers.BackedRenderbuffer as backed_renderbuffer
 use Rattle.driver_objects.specs.contracts.storages.Storage as storage
 use Rattle.driver_objects.specs.contracts.surfaces.BackedSurface as surface
 use Rattle.driver_objects.specs.contracts.textures.BackedTexture as texture
@@ -75,13 +79,13 @@ journal_send = let a = entry_send in search (sendable, crosses) depth 60
 pub displays_send : IsSend displays.the_row
 displays_send = search (sendable, crosses) depth 60
 
-pub context_send : IsSend context.the_row
+pub context_send : IsSend (context.the_field).row
 context_send = search (sendable, crosses) depth 60 fits 20000
 
-pub surface_send : IsSend surface.the_row
+pub surface_send : IsSend (surface.the_field).row
 surface_send = search (sendable, crosses) depth 60 fits 20000
 
-pub texture_send : IsSend texture.the_row
+pub texture_send : IsSend (texture.the_field).row
 texture_send = search (sendable, crosses) depth 60 fits 20000
 
 pub buffer_send : IsSend buffer.the_row
@@ -90,14 +94,24 @@ buffer_send = search (sendable, crosses) depth 60 fits 20000
 pub renderbuffer_send : IsSend renderbuffer.the_row
 renderbuffer_send = search (sendable, crosses) depth 60 fits 20000
 
+pub backed_renderbuffer_send : IsSend (backed_renderbuffer.the_field).row
+backed_renderbuffer_send = let r = renderbuffer_send in search (sendable, crosses) depth 60 fits 20000
+
+pub framebuffer_send : IsSend framebuffer.the_row
+framebuffer_send = search (sendable, crosses) depth 60 fits 20000
+
 pub storage_send : IsSend storage.the_row
 storage_send = search (sendable, crosses) depth 60 fits 20000
 
-pub fence_send : IsSend fence.the_row
+pub egl_image_send : IsSend (egl_image.the_field).row
+egl_image_send = search (sendable, crosses) depth 60 fits 20000
+
+pub fence_send : IsSend (fence.the_field).row
 fence_send = search (sendable, crosses) depth 60 fits 20000
 
 pub object_send : IsSend (object.the_field).row
-object_send = let a = context_send in let b = surface_send in let d = storage_send in let e = fence_send in let g = group_send in let h = texture_send in let f = buffer_send in let r = renderbuffer_send in search (sendable, crosses) depth 60 fits 20000
+object_send = enum_send (enums.shape object.the_type)
+    ((context_send, tt), ((group_send, tt), ((texture_send, tt), ((buffer_send, tt), ((backed_renderbuffer_send, tt), ((framebuffer_send, tt), ((surface_send, tt), ((storage_send, tt), ((egl_image_send, tt), ((fence_send, tt), tt))))))))))
 
 pub stored_send : IsSend stored.the_row
 stored_send = recorded_send _ stored.the_type.D stored.the_type.to stored.the_type.to_one (struct_send (declared.shape stored.the_type) (object_send, tt))

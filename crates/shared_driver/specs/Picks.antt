@@ -11,11 +11,6 @@ use Rattle.shared_driver.specs.declared.picks.Picked.TheVariants.{Replied, Waite
 use Rattle.shared_driver.specs.Cores.{entry}
 use Rattle.shared_driver.specs.Tokens.{AreOthers, Token}
 
--- a call that is picked is of a kind that the driver plays
-abbrev pub IsBuiltPick : Pick → Type 0
-IsBuiltPick (Call mark call) = is_built call.kind ≡ true
-IsBuiltPick p = Unit {0}
-
 abbrev pub halts : Pick → Bool
 halts (Call mark call) = is_halt_kind call.kind
 halts p = false

@@ -6,7 +6,7 @@ ghost use Rattle.egl_calls.specs.declared.entries.Entry.{Entry};
 ghost use Rattle.driver_core.specs.Machine.{Machine};
 ghost use Rattle.shared_driver.specs.declared.picks.Pick.{Pick as ThePick};
 ghost use Rattle.shared_driver.specs.Cores.{owed};
-ghost use Rattle.shared_driver.specs.Picks.{IsBuiltPick, IsDone, halts};
+ghost use Rattle.shared_driver.specs.Picks.{IsDone, halts};
 
 use crate::cores::Core;
 use crate::sleepers::Wanted;
@@ -44,11 +44,10 @@ pub trait Picker {
     /// Which pick it may then give, and what it is afterwards.
     ghost picks: { Self → List Entry → Machine → ThePick → Self → Type 0 };
 
-    /// Its pick, or that memory ran out. A call that is picked is of a kind that the driver plays.
+    /// Its pick, or that memory ran out.
     fn pick(&mut self, journal: &Journal, driver: &Driver) -> Result<Pick, NoMemory>
         requires may { may self.old journal.now.entries driver.now }
-        ensures picked { IfOk result (λ p. picks self.old journal.now.entries driver.now p self.new) }
-        ensures built { IfOk result IsBuiltPick };
+        ensures picked { IfOk result (λ p. picks self.old journal.now.entries driver.now p self.new) };
 }
 
 /// What came of a pick, whether it was a Halt, and what it waits for.

@@ -1,12 +1,6 @@
 use Rattle.std.proofs.Common.{sym, ◌∙◌}
-use Rattle.trace_session.proofs.KnownLaws.{built_known}
 use Rattle.play_threads.proofs.PickLaws.{picked_line}
 use Rattle.play_threads.proofs.pickers.LinePicker.picked.Goals as goal
-
-pub returns-then-not-blocked-clause-built : goal.returns-then-not-blocked-clause-built
-returns-then-not-blocked-clause-built c es knows =
-    let s = c.args.self.now.session in
-    built_known s c.facts.ensures es knows c.args.self.now.thread c.in-Some.mark c.in_ok-call.field-0 c.requires.thread (sym (c.in-Some.ensures.learnt es knows)) (λ l n. c.in_ok-call.ensures.value es l knows n)
 
 pub returns-then-not-blocked-clause-pick : goal.returns-then-not-blocked-clause-pick
 returns-then-not-blocked-clause-pick c es knows halted =
