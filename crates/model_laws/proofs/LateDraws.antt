@@ -1,6 +1,6 @@
 -- A draw that comes late changes only what is out.
 use Rattle.std.proofs.Common.{◌≡◌, ◌≢◌, ◌==◌, ◌&&◌, ℕ, pos, Bool, true, false, cond, not, List, [], ◌∷◌, inl, inr, refl, sym, ap, ◌∙◌, Option, None, Some, is_some}
-use Rattle.std.specs.Option.{option_and_then, option_map}
+use Rattle.std.specs.Option.{option_map}
 use Rattle.std.proofs.lemmas.Bool.{and_parts, cases_eq}
 use Rattle.std.proofs.lemmas.Option.{none-some}
 use Rattle.pixel_rows.specs.Images.{ImageValue}
@@ -18,9 +18,8 @@ use Rattle.context_state.specs.Parts.{PartValue, noted}
 use Rattle.driver_objects.specs.Storages.{drawn_image, drawn_storage}
 use Rattle.egl_model.specs.Currents.{current_context, draw_storage, part_of_context}
 use Rattle.egl_model.specs.Draws.{draw_into, drawn, drawn_rect, sampler}
-use Rattle.egl_model.specs.Effects.{Effect, valued}
+use Rattle.egl_model.specs.Effects.{valued}
 use Rattle.egl_model.specs.Framebuffers.{BoundFramebuffer, bound_framebuffer, is_complete}
-use Rattle.egl_model.specs.GlEffects.{gl_effect}
 use Rattle.egl_model.specs.GlFacts.{framebuffer_facts, gl_refusal}
 use Rattle.egl_model.specs.Parts.{Kept, Own, Private, at_place, kept_of, own_of, part_in, part_of, places, put_at, put_own}
 use Rattle.egl_model.specs.State.{State, record_of}
@@ -31,7 +30,7 @@ use Rattle.model_laws.specs.Hidden.{hide, nothing}
 use Rattle.model_laws.specs.Late.{IsOut, drawing, drawn_own, drawn_part, drawn_state, draws_to_surface, is_draw, is_late, late_rect, late_refusal, late_sampler, late_step, sampled_by, texture_sampler}
 use Rattle.model_laws.specs.Local.{is_unbound}
 use Rattle.model_laws.specs.Shapes.{shapes}
-use Rattle.model_laws.specs.Sound.{IsSound, IsWhole}
+use Rattle.model_laws.specs.Sound.{IsWhole}
 use Rattle.model_laws.proofs.Blinds.{blind-current}
 use Rattle.model_laws.proofs.DrawCalls.{blind-sampler}
 use Rattle.model_laws.proofs.Framing.{has_own, kept-put, own-put}
