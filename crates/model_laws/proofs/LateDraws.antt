@@ -231,14 +231,13 @@ refused_done e h = absurd (let f : RefusedGl e ≡ Done = h in cc)
 
 -- a late draw that is done there is done with the same pixels
 pub late_outside : (s d : State) (t : ℕ) (c : CallValue) (out : List ℕ) → IsReady s t → IsNone t out → d ≡ hide out s → is_late (part_of d t) c ≡ true → (step d t c).reply.outcome ≡ Done →
-    (step s t c).state ≡ drawn_state s t (drawing (part_of d t).own.context (late_sampler d t c) (late_rect c.kind c))
+    (step s t c).state ≡ drawn_state s t (drawing (own_of s t).context (late_sampler d t c) (late_rect c.kind c))
 late_outside s d t c out r i hidden late done =
     let same : part_of d t ≡ part_of s t = ap (λ (x : State). part_of x t) hidden ∙ part-hide s t out r i in
     let is = late_as_step s t c r (ap (λ (x : Private). is_late x c) (sym same) ∙ late) in
     let answer : (step s t c).reply.outcome ≡ Done = ap (λ (x : Stepped). x.reply.outcome) (sym (ap (λ (x : State). step x t c) hidden ∙ hide-step out s t c r.sound.whole i)) ∙ done in
     by_answer (late_refusal (part_of s t) c) is answer
-    ∙ ap (λ (x : Private). drawn_state s t (drawing x.own.context (late_sampler s t c) (late_rect c.kind c))) (sym same)
-    ∙ ap (λ o. drawn_state s t (drawing (part_of d t).own.context o (late_rect c.kind c))) (sym (ap (λ (x : State). late_sampler x t c) hidden ∙ sampler_seen s t c out r i))
+    ∙ ap (λ o. drawn_state s t (drawing (own_of s t).context o (late_rect c.kind c))) (sym (ap (λ (x : State). late_sampler x t c) hidden ∙ sampler_seen s t c out r i))
   where
     by_answer : (e : Option GlError) → step s t c ≡ late_step s t c e → (step s t c).reply.outcome ≡ Done → (step s t c).state ≡ drawn_state s t (drawing (own_of s t).context (late_sampler s t c) (late_rect c.kind c))
     by_answer (Some e) is done = absurd (refused_done e (ap (λ (x : Stepped). x.reply.outcome) (sym is) ∙ done))
