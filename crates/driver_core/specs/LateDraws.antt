@@ -5,10 +5,10 @@ use Rattle.egl_calls.specs.Calls.{CallValue}
 use Rattle.egl_calls.specs.declared.errors.Outcome.TheVariants.{Done}
 use Rattle.rect_pipeline.specs.Samplers.{SamplerValue, sampled}
 use Rattle.object_table.specs.declared.samples.Sampled.{Sampled}
-use Rattle.egl_model.specs.Parts.{own_of, part_of}
+use Rattle.egl_model.specs.Parts.{Private, own_of, part_of}
 use Rattle.egl_model.specs.State.{State}
 use Rattle.egl_model.specs.Step.{step}
-use Rattle.model_laws.specs.Late.{drawing, drawn_state, is_late, late_rect, late_sampler}
+use Rattle.model_laws.specs.Late.{drawing, drawn_part, drawn_state, is_late, late_rect, late_sampler}
 use Rattle.driver_core.specs.Machine.{Machine}
 use Rattle.driver_core.specs.declared.late_draws.Drawing.{Drawing}
 
@@ -19,6 +19,11 @@ sampler_of o = option_map (λ s. sampled s.image s.texture s.base_w s.base_h) o
 abbrev pub drawn_late : State → ℕ → Option Drawing → State
 drawn_late s t None = s
 drawn_late s t (Some d) = drawn_state s t (drawing (own_of s t).context (sampler_of d.from) d.rect)
+
+-- and its part
+abbrev pub part_drawn_late : Option Drawing → Private → Private
+part_drawn_late None p = p
+part_drawn_late (Some d) p = drawn_part (drawing p.own.context (sampler_of d.from) d.rect) p
 
 -- Nothing is left: the driver has made the step. Something is: the call is a late draw that is done, what is left is its rectangle with what it samples, and the driver is as it was
 abbrev pub IsLeft : Machine → ℕ → CallValue → Option Drawing → Machine → Type 0
