@@ -10,7 +10,7 @@ use Rattle.egl_model.specs.State.{State}
 use Rattle.egl_model.specs.Step.{step}
 use Rattle.model_laws.specs.Late.{drawing, drawn_part, drawn_state, is_late, late_rect, late_sampler}
 use Rattle.driver_core.specs.Machine.{Machine}
-use Rattle.driver_core.specs.declared.late_draws.Drawing.{Drawing}
+use Rattle.driver_core.specs.declared.drawings.Drawing.{Drawing}
 
 abbrev pub sampler_of : Option Sampled → Option SamplerValue
 sampler_of o = option_map (λ s. sampled s.image s.texture s.base_w s.base_h) o

@@ -1,46 +1,30 @@
 //! Draws to a thread's own surface, whose pixels may be drawn once its part is out (OES_draw_texture).
 ghost use Rattle.std.specs.Prelude.{◌≡◌, ◌<◌, true, false, None, Some, IfOk, IfSome, OnErr, slice_index_or};
 ghost use Rattle.call_rules.specs.GlRules.{draws_nothing};
-ghost use Rattle.driver_objects.specs.Storages.{IsDrawnRect};
 ghost use Rattle.egl_calls.specs.declared.kinds.Kind.TheVariants.{Gl as GlCall};
+ghost use Rattle.driver_objects.specs.Storages.{IsDrawnRect};
 ghost use Rattle.rect_pipeline.specs.Samplers.{HasSides, sampled};
-ghost use Rattle.egl_model.specs.Currents.{current_context};
+ghost use Rattle.egl_model.specs.Currents.{current_context, part_of_context};
+ghost use Rattle.egl_model.specs.Draws.{sampler};
 ghost use Rattle.egl_model.specs.GlFacts.{gl_refusal};
 ghost use Rattle.egl_model.specs.Parts.{own_of, part_of};
 ghost use Rattle.egl_model.specs.State.{State};
 ghost use Rattle.egl_model.specs.Step.{step};
 ghost use Rattle.model_laws.specs.Frame.{IsReady};
 ghost use Rattle.model_laws.specs.Hidden.{hide};
-ghost use Rattle.model_laws.specs.Late.{drawing, drawn_state, draws_to_surface, is_late, late_rect, late_sampler};
+ghost use Rattle.model_laws.specs.Late.{drawing, drawn_state, draws_to_surface, is_late, late_rect, late_sampler, sampled_by};
 ghost use Rattle.driver_core.specs.Draws.{is_draw};
 ghost use Rattle.driver_core.specs.LateDraws.{IsLeft, drawn_late, sampler_of};
 ghost use Rattle.driver_core.specs.Machine.{outs};
 
+use crate::drawings::{Drawing, LateDraw};
 use crate::draws::drawn_rect;
 use crate::machine::Driver;
-use egl_calls::{Call, GlKind, Kind, NoMemory, Outcome, Reply, ReplyPair};
+use egl_calls::{Call, GlKind, Kind, NoMemory, Outcome, ReplyPair};
 use object_table::Sampled;
 use pixel_rows::Rect;
 use std::alloc::Global;
 use thread_part::bare;
-
-/// What a draw that is done leaves to be drawn on its thread's own pixels: a rectangle in 16.16 fixed point, with what it samples.
-#[derive(Drop)]
-pub struct Drawing {
-    pub from: Option<Sampled>,
-    pub rect: Rect,
-    ghost drawn: { IsDrawnRect rect },
-    ghost sides: { IfSome from (λ s. HasSides (sampled s.image s.texture s.base_w s.base_h)) },
-}
-
-/// What came of a call that may be a late draw: its reply twice, and what is left to be drawn, where it is one and is done.
-#[derive(Drop)]
-pub struct LateDraw {
-    pub reply: Reply,
-    pub copy: Reply,
-    pub drawing: Option<Drawing>,
-    ghost same: { copy ≡ reply },
-}
 
 /// What came of a call that leaves nothing to be drawn.
 fn undrawn(replies: ReplyPair) -> LateDraw
@@ -83,6 +67,18 @@ impl Driver {
         }
     }
 
+    /// What a draw of a rectangle samples of the texture on which the calls of a context work, where that has enabled GL_TEXTURE_2D.
+    fn sample_by_context(&self, context: u64, rect: Rect) -> Result<Option<Sampled>, NoMemory>
+        requires { IsDrawnRect rect }
+        ensures value { IfOk result (λ o. sampler_of o ≡ sampled_by (part_of_context self.now.state context) (sampler self.now.state context rect)) }
+        ensures sides { IfOk result (λ o. IfSome o (λ s. HasSides (sampled s.image s.texture s.base_w s.base_h))) }
+    {
+        match self.context_part(context) {
+            Some(part) => self.sample_if_textured(context, &part, rect),
+            None => Ok(None),
+        }
+    }
+
     /// What a draw that no rule refuses leaves to be drawn.
     fn left_to_draw(
         &self,
@@ -100,10 +96,7 @@ impl Driver {
         ensures rect { IfOk result (λ d. d.rect ≡ late_rect call.now.kind call.now) }
     {
         let rect = drawn_rect(kind, call);
-        let from = match self.context_part(context) {
-            Some(part) => self.sample_if_textured(context, &part, rect)?,
-            None => None,
-        };
+        let from = self.sample_by_context(context, rect)?;
         Ok(Drawing { from, rect })
     }
 

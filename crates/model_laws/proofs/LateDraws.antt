@@ -23,7 +23,7 @@ use Rattle.egl_model.specs.Framebuffers.{BoundFramebuffer, bound_framebuffer, is
 use Rattle.egl_model.specs.GlFacts.{framebuffer_facts, gl_refusal}
 use Rattle.egl_model.specs.Parts.{Kept, Own, Private, at_place, kept_of, own_of, part_in, part_of, places, put_at, put_own}
 use Rattle.egl_model.specs.State.{State, record_of}
-use Rattle.egl_model.specs.Step.{Stepped, after_gl_rules, bare, gl_step, gl_step_on, step, step_by, step_in}
+use Rattle.egl_model.specs.Step.{Stepped, after_gl_rules, bare, gl_step, gl_step_on, note_error, step, step_by, step_in}
 use Rattle.egl_model.specs.Sweep.{sweep}
 use Rattle.model_laws.specs.Frame.{IsNone, IsReady}
 use Rattle.model_laws.specs.Hidden.{hide, nothing}
@@ -41,6 +41,7 @@ use Rattle.model_laws.proofs.Puts.{put-put}
 use Rattle.model_laws.proofs.PutWhole.{puts_apart, whole-put}
 use Rattle.model_laws.proofs.Returns.{own-hide}
 use Rattle.model_laws.proofs.PutMoves.{sweep-put}
+use Rattle.model_laws.proofs.StepLaws.{gl_refused}
 use Rattle.model_laws.proofs.StepPut.{answered, hide-step, whole-hide}
 
 -- ---- What is put where a part is out.
@@ -155,7 +156,7 @@ unbound q h = by (q.bound.framebuffer == 0) h
     by true h = refl
     by false h = h
 
-own_context : (s : State) (t n : ℕ) → current_context s t ≡ Some n → (own_of s t).context ≡ part_of_context s n
+pub own_context : (s : State) (t n : ℕ) → current_context s t ≡ Some n → (own_of s t).context ≡ part_of_context s n
 unfolding at_place
 own_context s t n h = ap (λ (p : Option ℕ). at_place part_in p s.objects) h
 
@@ -174,6 +175,18 @@ late_kind s t c late =
 not_waiting : (s : State) (t : ℕ) (c : CallValue) (o : Option ℕ) → not (is_some o) ≡ true → step_in o s t c ≡ step_by s t c.kind c
 not_waiting s t c None h = refl
 not_waiting s t c (Some x) h = not_drawn h
+
+pub late_has_context : (s : State) (t : ℕ) (c : CallValue) → is_late (part_of s t) c ≡ true → current_context s t ≡ None → ⊥
+unfolding at_place
+late_has_context s t c late none =
+    not_drawn (ap (λ (p : Option ℕ). draws_to_surface (at_place part_in p s.objects)) (sym none) ∙ (late_kind s t c late).surface)
+
+-- where a rule refuses it
+pub late_refused : (s : State) (t n : ℕ) (k : GlKind) (c : CallValue) (e : GlError) → c.kind ≡ Gl k → current_context s t ≡ Some n → is_late (part_of s t) c ≡ true → gl_refusal s t n k c ≡ Some e →
+    step s t c ≡ record { reply = bare (RefusedGl e); state = note_error s n e }
+unfolding step
+late_refused s t n k c e kind h late refusal =
+    not_waiting s t c (record_of s t).wait (late_kind s t c late).goes ∙ ap (λ k. step_by s t k c) kind ∙ gl_refused s t n k c e h refusal
 
 -- in any state without litter
 pub late_by_refusal : (s : State) (t n : ℕ) (k : GlKind) (c : CallValue) → sweep s ≡ s → c.kind ≡ Gl k → current_context s t ≡ Some n → is_late (part_of s t) c ≡ true →

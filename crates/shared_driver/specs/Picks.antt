@@ -4,7 +4,7 @@ use Rattle.egl_calls.specs.Journals.{is_halt_kind}
 use Rattle.egl_calls.specs.declared.entries.Entry.{Entry}
 use Rattle.egl_model.specs.Step.{step}
 use Rattle.driver_core.specs.LateDraws.{IsLeft}
-use Rattle.driver_core.specs.declared.late_draws.Drawing.{Drawing}
+use Rattle.driver_core.specs.declared.drawings.Drawing.{Drawing}
 use Rattle.shared_driver.specs.declared.cores.Core.{Core}
 use Rattle.shared_driver.specs.declared.picks.Pick.{Pick}
 use Rattle.shared_driver.specs.declared.picks.Pick.TheVariants.{Call, Wait, Stop}

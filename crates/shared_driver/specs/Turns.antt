@@ -8,7 +8,7 @@ use Rattle.egl_model.specs.History.{IsLegalFrom, replay_from}
 use Rattle.egl_model.specs.State.{State}
 use Rattle.driver_core.specs.LateDraws.{drawn_late}
 use Rattle.driver_core.specs.Machine.{outs}
-use Rattle.driver_core.specs.declared.late_draws.Drawing.{Drawing}
+use Rattle.driver_core.specs.declared.drawings.Drawing.{Drawing}
 use Rattle.turn_lock.specs.Passes.{HasCome, IsFree, view_of}
 use Rattle.turn_lock.specs.Views.{AreOthers, AreOwn}
 use Rattle.turn_lock.specs.declared.pass.Pass.{Pass}
