@@ -1,6 +1,6 @@
 -- What a draw to a thread's own surface leaves.
-use Rattle.std.proofs.Common.{◌≡◌, ℕ, true, false, refl, sym, ap, ◌∙◌, None, Some, Option}
-use Rattle.std.specs.Prelude.{slice_index_or}
+use Rattle.std.proofs.Common.{◌≡◌, ℕ, zero, suc, true, false, refl, sym, ap, ◌∙◌, None, Some, Option}
+use Rattle.std.specs.Prelude.{nat_eq, not, slice_index_or, ◌==◌}
 use Rattle.egl_calls.specs.Calls.{CallValue}
 use Rattle.egl_calls.specs.declared.errors.Outcome.TheVariants.{Done}
 use Rattle.egl_calls.specs.declared.kinds.Kind.{Kind}
@@ -12,18 +12,30 @@ use Rattle.rect_pipeline.specs.Samplers.{SamplerValue}
 use Rattle.egl_model.specs.Currents.{current_context, part_of_context}
 use Rattle.egl_model.specs.Draws.{drawn_rect, sampler}
 use Rattle.egl_model.specs.GlFacts.{gl_refusal}
-use Rattle.egl_model.specs.Parts.{own_of, part_of}
+use Rattle.egl_model.specs.Parts.{at_place, own_of, part_in, part_of}
 use Rattle.egl_model.specs.State.{State}
 use Rattle.egl_model.specs.Step.{Stepped, step}
 use Rattle.egl_model.specs.Sweep.{sweep}
 use Rattle.model_laws.specs.Frame.{IsReady}
 use Rattle.model_laws.specs.Hidden.{hide}
-use Rattle.model_laws.specs.Late.{drawing, drawn_state, is_late, late_rect, late_sampler, late_step, sampled_by, texture_sampler}
+use Rattle.model_laws.specs.Late.{drawing, drawn_state, draws_to_surface, is_late, late_rect, late_sampler, late_step, sampled_by, texture_sampler}
 use Rattle.model_laws.proofs.LateDraws.{late_by_refusal, late_outside, own_context}
 use Rattle.driver_core.specs.LateDraws.{IsLeft, drawn_late, sampler_of}
 use Rattle.driver_core.specs.Machine.{Machine, outs}
 use Rattle.driver_core.specs.declared.drawings.Drawing.{Drawing}
 use Rattle.driver_core.proofs.OutsideLaws.{is_in}
+
+-- whether a thread draws to its surface, by its current context
+pub surface_none : (s : State) (t : ℕ) → current_context s t ≡ None → false ≡ draws_to_surface (own_of s t).context
+unfolding at_place
+surface_none s t h = sym (ap (λ (p : Option ℕ). draws_to_surface (at_place part_in p s.objects)) h)
+
+pub surface_by : (s : State) (t n : ℕ) (x : Option PartValue) → current_context s t ≡ Some n → x ≡ part_of_context s n → draws_to_surface x ≡ draws_to_surface (own_of s t).context
+surface_by s t n x h e = ap draws_to_surface (e ∙ sym (own_context s t n h))
+
+pub unbound_twice : (k : ℕ) → nat_eq k 0 ≡ not (not (k == 0))
+unbound_twice zero = refl
+unbound_twice (suc k) = refl
 
 -- what is sampled by the context at its number
 pub sampled_at : (s : State) (t n : ℕ) (k : GlKind) (c : CallValue) → c.kind ≡ Gl k → current_context s t ≡ Some n → sampled_by (part_of_context s n) (sampler s n (drawn_rect k c)) ≡ late_sampler s t c

@@ -140,6 +140,7 @@ sound_at ws video sides =
     record {
       kinds = record { handles = k.whole.kinds.handles; threads = k.whole.kinds.threads; objects = k.whole.kinds.objects };
       storages = record { each = k.whole.storages.each };
+      thawed = k.whole.thawed;
       alone = record { contexts = k.whole.alone.contexts; surfaces = k.whole.alone.surfaces };
       both = record { draw = k.whole.both.draw; read = k.whole.both.read };
       numbers = record { handles = k.whole.numbers.handles; apart = k.whole.numbers.apart; context = k.whole.numbers.context; draw = k.whole.numbers.draw; read = k.whole.numbers.read };
