@@ -359,7 +359,10 @@ fn a_slot_of_a_framebuffer_is_a_point(rt: HostRuntime) {
         object: 5,
     };
     for (slot, point, former) in &SLOTS {
-        assert_eq!(rt; linked(&rt, *slot, *point, Some(5)), (*former, Some(unnamed)));
+        assert_eq!(rt;
+            linked(&rt, *slot, *point, Some(5)),
+            (*former, Some(unnamed))
+        );
         assert_eq!(rt; linked(&rt, *slot, *point, None), (*former, None));
     }
 }
