@@ -271,12 +271,7 @@ impl Driver {
     }
 
     /// Level 0 of a texture gets the pixels of an image, and the other levels lose theirs.
-    fn share_with_texture<L: Ledger>(
-        &mut self,
-        texture: u64,
-        image: EglImage,
-        steps: &mut Steps<L>,
-    )
+    fn share_with_texture<L: Ledger>(&mut self, texture: u64, image: EglImage, steps: &mut Steps<L>)
         requires { IsPixels self.old.state.objects image.storage }
         ensures state { self.new ≡ record self.old { state = sweep (texture_of_image (Some image) (Some texture) self.old.state) } }
         ensures steps { IsCheap self.old.state self.new.state steps.old steps.new }
@@ -329,7 +324,8 @@ impl Driver {
     {
         let kind = self.image_kind(image.storage);
         self.objects.set_kind(renderbuffer, kind);
-        self.objects.link_pixels(renderbuffer, 0, Some(image.storage), steps);
+        self.objects
+            .link_pixels(renderbuffer, 0, Some(image.storage), steps);
         self.objects.left();
     }
 
