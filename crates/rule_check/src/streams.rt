@@ -68,12 +68,12 @@ fn writers_that_take_nothing_fail(rt: HostRuntime) {
 
 /// Input that comes late: at every third call it gives the next byte of a text, or its end, and else there is none yet.
 #[derive(Drop)]
-struct Late {
+struct LateInput {
     calls: u64,
     text: &'static [u8],
 }
 
-impl Read for Late {
+impl Read for LateInput {
     fn read(&mut self, buf: &mut [u8]) -> io::Result<usize> {
         self.calls = self.calls.saturating_add(1);
         if self.calls % 3 != 0 {
@@ -86,11 +86,12 @@ impl Read for Late {
     }
 }
 
-fn late(text: &'static [u8]) -> StdSource<Late> {
-    StdSource::new(Late { calls: 0, text })
+fn late(text: &'static [u8]) -> StdSource<LateInput> {
+    StdSource::new(LateInput { calls: 0, text })
 }
 
 /// A clock that counts the naps.
+#[derive(Drop)]
 struct Naps {
     count: AtomicU64,
 }
