@@ -60,7 +60,6 @@ impl<R: Read + Drop> Source for StdSource<R> {
     ghost faults = { λ s. s.faults };
 
     /// Input that isn't there yet counts as a fault here: `Waiting` waits for it.
-    #[tactic(auto, using(crate::proofs::StreamLaws::kept_none))]
     fn take(&mut self, into: &mut [u8]) -> Result<usize, Failed> {
         if let Some(n) = self.take_ready(into)? {
             return Ok(n);
