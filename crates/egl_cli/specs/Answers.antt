@@ -19,7 +19,7 @@ use Rattle.journal_text.specs.declared.recordings.RecordedLine.{RecordedLine}
 use Rattle.trace_check.specs.Verdicts.{verdict}
 use Rattle.trace_check.specs.declared.verdicts.Verdict.{Verdict}
 use Rattle.trace_check.specs.declared.verdicts.Verdict.TheVariants.{Holds, Differs as DiffersAt, Incomplete}
-use Rattle.egl_cli.specs.Frames.{frames}
+use Rattle.egl_cli.specs.Frames.{frames_text}
 use Rattle.egl_cli.specs.StalledLines.{stalled_lines}
 use Rattle.egl_cli.specs.declared.statuses.Status.TheVariants.{Ok as Fine, Malformed, Stalled, TooLong, Differs}
 use Rattle.egl_cli.specs.declared.answers.Answer.{Answer}
@@ -74,8 +74,8 @@ IsPlayAnswer how t a = (journal : List AnEntry) × IsPlayOf t journal × ((IsCom
 -- ---- Of a trace that is played for its frames.
 -- its frames on a screen of these sides, and where the run stalled, the lines at which threads wait
 abbrev pub journal_frames : ℕ → ℕ → TraceValue → List AnEntry → Bool → Answer
-journal_frames w h t journal false = record { status = Fine; text = frames w h t journal }
-journal_frames w h t journal true = record { status = Stalled; text = frames w h t journal ++ stalled_lines t journal }
+journal_frames w h t journal false = record { status = Fine; text = frames_text w h t journal }
+journal_frames w h t journal true = record { status = Stalled; text = frames_text w h t journal ++ stalled_lines t journal }
 
 -- the frames of a trace: those of its serial journal
 unfoldable pub run_frames : ℕ → ℕ → TraceValue → Answer

@@ -63,5 +63,5 @@ lines_of w h placed s journal [] = []
 lines_of w h placed s journal (e ∷ es) = line_of w h placed s journal e ++ lines_of w h placed s (journal ++ e ∷ []) es
 
 -- the frames of a journal of a trace, on a screen of these sides
-unfoldable pub frames : ℕ → ℕ → TraceValue → List Entry → List ℕ
-frames w h t journal = lines_of w h (stacked t.windows) (opening t.windows t.video) [] journal ++ codes "end\n"
+unfoldable pub frames_text : ℕ → ℕ → TraceValue → List Entry → List ℕ
+frames_text w h t journal = lines_of w h (stacked t.windows) (opening t.windows t.video) [] journal ++ codes "end\n"

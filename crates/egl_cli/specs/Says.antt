@@ -11,7 +11,7 @@ use Rattle.trace_gen.specs.Generated.{generated}
 use Rattle.journal_text.specs.Cuts.{cut_recording}
 use Rattle.journal_text.specs.declared.cuts.Cut.{Cut}
 use Rattle.trace_check.specs.Recordings.{IsRecording}
-use Rattle.egl_cli.specs.Frames.{frames}
+use Rattle.egl_cli.specs.Frames.{frames_text}
 use Rattle.egl_cli.specs.StalledLines.{stalled_lines}
 use Rattle.egl_cli.specs.declared.answers.Answer.{Answer}
 use Rattle.egl_cli.specs.declared.statuses.Status.{Status}
@@ -73,11 +73,11 @@ IsToldStalled how b before after = (text : List ℕ) × IsToldStalledOf how b te
 
 -- the bytes spell a trace, and what was written are the frames, on a screen of these sides, of a journal that plays it to the end of all threads
 abbrev pub AreFrames : ℕ → ℕ → List ℕ → Option (List ℕ) → Option (List ℕ) → Type 0
-AreFrames w h b before after = (t : TraceValue) × Spells b t × ((journal : List Entry) × IsPlayOf t journal × IsComplete t journal × Took before (frames w h t journal) after)
+AreFrames w h b before after = (t : TraceValue) × Spells b t × ((journal : List Entry) × IsPlayOf t journal × IsComplete t journal × Took before (frames_text w h t journal) after)
 
 -- the same of a journal that plays it until no thread can go on, with the lines at which threads wait
 abbrev pub AreFramesStalled : ℕ → ℕ → List ℕ → Option (List ℕ) → Option (List ℕ) → Type 0
-AreFramesStalled w h b before after = (t : TraceValue) × Spells b t × ((journal : List Entry) × IsPlayOf t journal × IsStalled t journal × Took before (frames w h t journal ++ stalled_lines t journal) after)
+AreFramesStalled w h b before after = (t : TraceValue) × Spells b t × ((journal : List Entry) × IsPlayOf t journal × IsStalled t journal × Took before (frames_text w h t journal ++ stalled_lines t journal) after)
 
 -- a text that `play` may answer to the bytes: that of a refusal, or what is told of a journal that plays their trace
 abbrev pub IsPlayText : Bool → List ℕ → List ℕ → Type 0

@@ -3,7 +3,7 @@ ghost use Rattle.std.specs.Prelude.{◌≡◌, ◌≤◌, ◌<◌, All, true, fa
 ghost use Rattle.trace_model.specs.Serial.{state_behind};
 ghost use Rattle.egl_cli.specs.Answers.{reason_name, malformed_text, told, journal_answer, run_answer, journal_frames, run_frames};
 
-use crate::frames::frames;
+use crate::frames::frames_text;
 use crate::stalled_lines::put_stalled;
 use crate::statuses::Status;
 use arrayvec::ArrayString;
@@ -136,7 +136,7 @@ fn ended_frames(
 {
     Ok(Answer {
         status: Status::Ok,
-        text: frames(alloc, width, height, trace, journal)?,
+        text: frames_text(alloc, width, height, trace, journal)?,
     })
 }
 
@@ -153,7 +153,7 @@ fn stalled_frames(
     requires threads { All (λ e. e.thread < trace.now.threads) journal.now.entries }
     ensures { IfOk result (λ a. a ≡ journal_frames width height trace.now journal.now.entries true) }
 {
-    let mut text = frames(alloc, width, height, trace, journal)?;
+    let mut text = frames_text(alloc, width, height, trace, journal)?;
     put_stalled(alloc, &mut text, trace, journal)?;
     Ok(Answer {
         status: Status::Stalled,

@@ -133,8 +133,8 @@ fn screen_of(alloc: Global, width: u32, height: u32, trace: &Trace) -> Result<Sc
 }
 
 /// The frames of a journal of a trace, on a screen of these sides. The driver plays the journal's calls again, and what the windows show behind a swap is composed where it changed.
-#[tactic(auto, unfolding(crate::specs::Frames::frames))]
-pub fn frames(
+#[tactic(auto, unfolding(crate::specs::Frames::frames_text))]
+pub fn frames_text(
     alloc: Global,
     width: u32,
     height: u32,
@@ -144,7 +144,7 @@ pub fn frames(
     requires wide { (0 < width) × (width ≤ 2048) }
     requires high { (0 < height) × (height ≤ 2048) }
     requires threads { All (λ e. e.thread < trace.now.threads) journal.now.entries }
-    ensures { IfOk result (λ b. b ≡ values.frames width height trace.now journal.now.entries) }
+    ensures { IfOk result (λ b. b ≡ values.frames_text width height trace.now journal.now.entries) }
 {
     let mut out = Bytes::new(alloc);
     let mut driver = driver_of(alloc, trace)?;

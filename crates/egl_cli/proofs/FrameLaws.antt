@@ -1,0 +1,87 @@
+-- The lines of frames, an entry more at a time.
+use Rattle.std.proofs.Common.{◌≡◌, ℕ, ◌+◌, Bool, true, false, List, [], ◌∷◌, ◌++◌, length, refl, sym, ap, ◌∙◌, arith, append_assoc, length-append}
+use Rattle.std.proofs.lemmas.Bool.{cond-true, cond-false}
+use Rattle.std.proofs.lemmas.List.{append-nil}
+use Rattle.std.specs.Prelude.{count_by, if◌then◌else◌}
+use Rattle.std.specs.List.{sum}
+use Rattle.egl_calls.specs.declared.entries.Entry.{Entry}
+use Rattle.egl_model.specs.State.{State}
+use Rattle.egl_model.specs.Step.{step}
+use Rattle.egl_model.specs.History.{replay_from}
+use Rattle.model_laws.proofs.HistoryLaws.{replay_from-append}
+use Rattle.screen_compose.specs.declared.placed.Placed.{Placed}
+use Rattle.egl_cli.specs.Frames.{picture_of, makes_frame, frame_line, line_of, lines_of}
+
+-- ---- How many entries make a frame.
+count_yes : (xs : List Entry) (x : Entry) → makes_frame x ≡ true → count_by makes_frame (xs ++ x ∷ []) ≡ count_by makes_frame xs + 1
+count_no : (xs : List Entry) (x : Entry) → makes_frame x ≡ false → count_by makes_frame (xs ++ x ∷ []) ≡ count_by makes_frame xs
+
+one_more : (b : Bool) (n m : ℕ) → n ≡ m + 1 → (if b then suc n else n) ≡ (if b then suc m else m) + 1
+one_more true n m e = omega (arith, e)
+one_more false n m e = e
+
+count_yes [] x h = cond-true _ _ _ h
+count_yes (y ∷ ys) x h = one_more (makes_frame y) _ _ (count_yes ys x h)
+count_no [] x h = cond-false _ _ _ h
+count_no (y ∷ ys) x h = ap (λ (n : ℕ). if makes_frame y then suc n else n) (count_no ys x h)
+
+module _ (w h : ℕ) (placed : List Placed) (first : State) where
+  -- the lines of entries, and then that of one more
+  lines_more : (journal es : List Entry) (e : Entry) → lines_of w h placed first journal (es ++ e ∷ []) ≡ lines_of w h placed first journal es ++ line_of w h placed first (journal ++ es) e
+  unfolding lines_of
+  lines_more journal [] e = append-nil (line_of w h placed first journal e) ∙ ap (λ (j : List Entry). line_of w h placed first j e) (sym (append-nil journal))
+  lines_more journal (x ∷ es) e =
+      let front : List ℕ = line_of w h placed first journal x in
+      let middle : List ℕ = lines_of w h placed first (journal ++ x ∷ []) es in
+      ap (λ (r : List ℕ). front ++ r) (lines_more (journal ++ x ∷ []) es e)
+      ∙ sym (append_assoc front middle (line_of w h placed first ((journal ++ x ∷ []) ++ es) e))
+      ∙ ap (λ (j : List Entry). (front ++ middle) ++ line_of w h placed first j e) (append_assoc journal (x ∷ []) es)
+
+  module _ (before : List ℕ) where
+    -- behind a journal: the state, how many entries and how many frames there are, and what is printed
+    pub record IsPrinted (journal : List Entry) (s : State) (at number : ℕ) (out : List ℕ) : Type 0 where
+      pub state : s ≡ replay_from first journal
+      pub entries : at ≡ length journal
+      pub frames : number ≡ count_by makes_frame journal
+      pub text : out ≡ before ++ lines_of w h placed first [] journal
+
+    pub printed_none : IsPrinted [] first 0 0 before
+    unfolding lines_of
+    printed_none = record { state = refl; entries = refl; frames = refl; text = sym (append-nil before) }
+
+    module _ (journal : List Entry) (s s' : State) (at number : ℕ) (out out' : List ℕ) (e : Entry) (p : IsPrinted journal s at number out) (stepped : s' ≡ (step s e.thread e.call).state) where
+      state_more : s' ≡ replay_from first (journal ++ e ∷ [])
+      state_more = stepped ∙ ap (λ (x : State). (step x e.thread e.call).state) p.state ∙ sym (replay_from-append first journal (e ∷ []))
+
+      entries_more : at + 1 ≡ length (journal ++ e ∷ [])
+      entries_more = omega (arith, p.entries, length-append journal (e ∷ []))
+
+      text_more : out' ≡ out ++ line_of w h placed first journal e → out' ≡ before ++ lines_of w h placed first [] (journal ++ e ∷ [])
+      text_more t =
+          t
+          ∙ ap (λ (o : List ℕ). o ++ line_of w h placed first journal e) p.text
+          ∙ append_assoc before (lines_of w h placed first [] journal) (line_of w h placed first journal e)
+          ∙ ap (λ (r : List ℕ). before ++ r) (sym (lines_more [] journal e))
+
+      pub printed_frame : makes_frame e ≡ true → out' ≡ out ++ frame_line number (at + 1) (sum (picture_of w h placed s'.windows)) → IsPrinted (journal ++ e ∷ []) s' (at + 1) (number + 1) out'
+      printed_frame yes t =
+          let line : ℕ → ℕ → State → List ℕ = λ n k x. out ++ frame_line n (k + 1) (sum (picture_of w h placed x.windows)) in
+          record {
+            state = state_more;
+            entries = entries_more;
+            frames = ap (λ (n : ℕ). n + 1) p.frames ∙ sym (count_yes journal e yes);
+            text = text_more (
+              t
+              ∙ ap (λ (n : ℕ). line n at s') p.frames
+              ∙ ap (λ (k : ℕ). line (count_by makes_frame journal) k s') p.entries
+              ∙ ap (λ (x : State). line (count_by makes_frame journal) (length journal) x) state_more
+              ∙ ap (λ (r : List ℕ). out ++ r) (sym (cond-true (makes_frame e) _ _ yes)));
+          }
+
+      pub printed_quiet : makes_frame e ≡ false → out' ≡ out → IsPrinted (journal ++ e ∷ []) s' (at + 1) number out'
+      printed_quiet no t = record {
+        state = state_more;
+        entries = entries_more;
+        frames = p.frames ∙ sym (count_no journal e no);
+        text = text_more (t ∙ sym (append-nil out) ∙ ap (λ (r : List ℕ). out ++ r) (sym (cond-false (makes_frame e) _ _ no)));
+      }
