@@ -2,6 +2,7 @@
 use Rattle.std.proofs.Common.{◌≡◌, ℕ, ◌+◌, Bool, true, false, List, [], ◌∷◌, ◌++◌, length, refl, sym, ap, ◌∙◌, arith, append_assoc, length-append}
 use Rattle.std.proofs.lemmas.Bool.{cond-true, cond-false}
 use Rattle.std.proofs.lemmas.List.{append-nil}
+use Rattle.std.proofs.lemmas.List.Sums.{sum_by_push}
 use Rattle.std.specs.Prelude.{count_by, if◌then◌else◌}
 use Rattle.std.specs.List.{sum}
 use Rattle.egl_calls.specs.declared.entries.Entry.{Entry}
@@ -13,17 +14,18 @@ use Rattle.screen_compose.specs.declared.placed.Placed.{Placed}
 use Rattle.egl_cli.specs.Frames.{picture_of, makes_frame, frame_line, line_of, lines_of}
 
 -- ---- How many entries make a frame.
-count_yes : (xs : List Entry) (x : Entry) → makes_frame x ≡ true → count_by makes_frame (xs ++ x ∷ []) ≡ count_by makes_frame xs + 1
-count_no : (xs : List Entry) (x : Entry) → makes_frame x ≡ false → count_by makes_frame (xs ++ x ∷ []) ≡ count_by makes_frame xs
+abbrev one_of : Entry → ℕ
+one_of e = if makes_frame e then 1 else 0
 
-one_more : (b : Bool) (n m : ℕ) → n ≡ m + 1 → (if b then suc n else n) ≡ (if b then suc m else m) + 1
-one_more true n m e = omega (arith, e)
-one_more false n m e = e
+count_more : (journal : List Entry) (e : Entry) → makes_frame e ≡ true → count_by makes_frame (journal ++ e ∷ []) ≡ count_by makes_frame journal + 1
+count_more journal e made =
+    let one : one_of e ≡ 1 = ap {B = ℕ} (λ (b : Bool). if b then 1 else 0) made in
+    omega (arith, sum_by_push one_of journal e, one)
 
-count_yes [] x h = cond-true _ _ _ h
-count_yes (y ∷ ys) x h = one_more (makes_frame y) _ _ (count_yes ys x h)
-count_no [] x h = cond-false _ _ _ h
-count_no (y ∷ ys) x h = ap (λ (n : ℕ). if makes_frame y then suc n else n) (count_no ys x h)
+count_same : (journal : List Entry) (e : Entry) → makes_frame e ≡ false → count_by makes_frame (journal ++ e ∷ []) ≡ count_by makes_frame journal
+count_same journal e quiet =
+    let one : one_of e ≡ 0 = ap {B = ℕ} (λ (b : Bool). if b then 1 else 0) quiet in
+    omega (arith, sum_by_push one_of journal e, one)
 
 module _ (w h : ℕ) (placed : List Placed) (first : State) where
   -- the lines of entries, and then that of one more
@@ -64,24 +66,24 @@ module _ (w h : ℕ) (placed : List Placed) (first : State) where
           ∙ ap (λ (r : List ℕ). before ++ r) (sym (lines_more [] journal e))
 
       pub printed_frame : makes_frame e ≡ true → out' ≡ out ++ frame_line number (at + 1) (sum (picture_of w h placed s'.windows)) → IsPrinted (journal ++ e ∷ []) s' (at + 1) (number + 1) out'
-      printed_frame yes t =
+      printed_frame made t =
           let line : ℕ → ℕ → State → List ℕ = λ n k x. out ++ frame_line n (k + 1) (sum (picture_of w h placed x.windows)) in
           record {
             state = state_more;
             entries = entries_more;
-            frames = ap (λ (n : ℕ). n + 1) p.frames ∙ sym (count_yes journal e yes);
+            frames = ap (λ (n : ℕ). n + 1) p.frames ∙ sym (count_more journal e made);
             text = text_more (
               t
               ∙ ap (λ (n : ℕ). line n at s') p.frames
               ∙ ap (λ (k : ℕ). line (count_by makes_frame journal) k s') p.entries
               ∙ ap (λ (x : State). line (count_by makes_frame journal) (length journal) x) state_more
-              ∙ ap (λ (r : List ℕ). out ++ r) (sym (cond-true (makes_frame e) _ _ yes)));
+              ∙ ap (λ (r : List ℕ). out ++ r) (sym (cond-true (makes_frame e) _ _ made)));
           }
 
       pub printed_quiet : makes_frame e ≡ false → out' ≡ out → IsPrinted (journal ++ e ∷ []) s' (at + 1) number out'
-      printed_quiet no t = record {
+      printed_quiet quiet t = record {
         state = state_more;
         entries = entries_more;
-        frames = p.frames ∙ sym (count_no journal e no);
-        text = text_more (t ∙ sym (append-nil out) ∙ ap (λ (r : List ℕ). out ++ r) (sym (cond-false (makes_frame e) _ _ no)));
+        frames = p.frames ∙ sym (count_same journal e quiet);
+        text = text_more (t ∙ sym (append-nil out) ∙ ap (λ (r : List ℕ). out ++ r) (sym (cond-false (makes_frame e) _ _ quiet)));
       }

@@ -1,5 +1,5 @@
 -- Windows that are declared together may be stacked on a screen.
-use Rattle.std.proofs.Common.{◌≡◌, ℕ, ℤ, pos, ◌+◌, ◌*◌, ◌<◌, ◌≤◌, Bool, true, false, ◌&&◌, List, [], ◌∷◌, length, refl, ap, ◌∙◌, arith}
+use Rattle.std.proofs.Common.{◌≡◌, ℕ, suc, ℤ, pos, ◌+◌, ◌*◌, ◌<◌, ◌≤◌, Bool, true, false, ◌&&◌, List, [], ◌∷◌, length, refl, ap, ◌∙◌, arith}
 use Rattle.std.proofs.lemmas.Bool.Decides.{nat_tests}
 use Rattle.std.specs.Prelude.{nat_le, if◌then◌else◌}
 use Rattle.std.specs.Ordering.{int_eq}
@@ -21,7 +21,7 @@ near : (n : ℕ) → n ≤ 1024 → is_near (pos n) ≡ true
 near n few = grind (arith, nat_tests, few)
 
 lies : (below : ℕ) (s : WindowSpec) → below < 64 → lies_near (placed_over below s) ≡ true
-lies below s few = let n = near (16 * below) (omega (arith, few)) in rw n in refl
+lies below s few = let n = near (16 * below) (omega (arith, few)) in rw n refl
 
 parts : (a b c : Bool) → (if a then (if b then false else c) else false) ≡ true → (b ≡ false) × (c ≡ true)
 parts true false c h = (refl, h)
@@ -55,5 +55,5 @@ stacked_ok w h specs some_w few_w some_h few_h ok =
     let wide = side w some_w few_w in
     let high = side h some_h few_h in
     let count : nat_le (length (stacked specs)) 64 ≡ true = let e = as_many 0 specs in grind (arith, nat_tests, few, e) in
-    let all = distinct 0 specs few (both (nat_le (length specs) 64) (are_distinct specs) ok).1 in
+    let all = distinct 0 specs (omega (arith, few)) (both (nat_le (length specs) 64) (are_distinct specs) ok).1 in
     rw (wide, high, count, all) refl
