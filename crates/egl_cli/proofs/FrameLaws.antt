@@ -11,7 +11,7 @@ use Rattle.egl_model.specs.Step.{step}
 use Rattle.egl_model.specs.History.{replay_from}
 use Rattle.model_laws.proofs.HistoryLaws.{replay_from-append}
 use Rattle.screen_compose.specs.declared.placed.Placed.{Placed}
-use Rattle.egl_cli.specs.Frames.{picture_of, makes_frame, frame_line, line_of, lines_of}
+use Rattle.egl_cli.specs.Frames.{picture_of, makes_frame, frame_line, frame_of, frames_of}
 
 -- ---- How many entries make a frame.
 abbrev one_of : Entry → ℕ
@@ -29,15 +29,15 @@ count_same journal e quiet =
 
 module _ (w h : ℕ) (placed : List Placed) (first : State) where
   -- the lines of entries, and then that of one more
-  lines_more : (journal es : List Entry) (e : Entry) → lines_of w h placed first journal (es ++ e ∷ []) ≡ lines_of w h placed first journal es ++ line_of w h placed first (journal ++ es) e
-  unfolding lines_of
-  lines_more journal [] e = append-nil (line_of w h placed first journal e) ∙ ap (λ (j : List Entry). line_of w h placed first j e) (sym (append-nil journal))
-  lines_more journal (x ∷ es) e =
-      let front : List ℕ = line_of w h placed first journal x in
-      let middle : List ℕ = lines_of w h placed first (journal ++ x ∷ []) es in
-      ap (λ (r : List ℕ). front ++ r) (lines_more (journal ++ x ∷ []) es e)
-      ∙ sym (append_assoc front middle (line_of w h placed first ((journal ++ x ∷ []) ++ es) e))
-      ∙ ap (λ (j : List Entry). (front ++ middle) ++ line_of w h placed first j e) (append_assoc journal (x ∷ []) es)
+  frames_more : (journal es : List Entry) (e : Entry) → frames_of w h placed first journal (es ++ e ∷ []) ≡ frames_of w h placed first journal es ++ frame_of w h placed first (journal ++ es) e
+  unfolding frames_of
+  frames_more journal [] e = append-nil (frame_of w h placed first journal e) ∙ ap (λ (j : List Entry). frame_of w h placed first j e) (sym (append-nil journal))
+  frames_more journal (x ∷ es) e =
+      let front : List ℕ = frame_of w h placed first journal x in
+      let middle : List ℕ = frames_of w h placed first (journal ++ x ∷ []) es in
+      ap (λ (r : List ℕ). front ++ r) (frames_more (journal ++ x ∷ []) es e)
+      ∙ sym (append_assoc front middle (frame_of w h placed first ((journal ++ x ∷ []) ++ es) e))
+      ∙ ap (λ (j : List Entry). (front ++ middle) ++ frame_of w h placed first j e) (append_assoc journal (x ∷ []) es)
 
   module _ (before : List ℕ) where
     -- behind a journal: the state, how many entries and how many frames there are, and what is printed
@@ -45,10 +45,10 @@ module _ (w h : ℕ) (placed : List Placed) (first : State) where
       pub state : s ≡ replay_from first journal
       pub entries : at ≡ length journal
       pub frames : number ≡ count_by makes_frame journal
-      pub text : out ≡ before ++ lines_of w h placed first [] journal
+      pub text : out ≡ before ++ frames_of w h placed first [] journal
 
     pub printed_none : IsPrinted [] first 0 0 before
-    unfolding lines_of
+    unfolding frames_of
     printed_none = record { state = refl; entries = refl; frames = refl; text = sym (append-nil before) }
 
     module _ (journal : List Entry) (s s' : State) (at number : ℕ) (out out' : List ℕ) (e : Entry) (p : IsPrinted journal s at number out) (stepped : s' ≡ (step s e.thread e.call).state) where
@@ -58,12 +58,12 @@ module _ (w h : ℕ) (placed : List Placed) (first : State) where
       entries_more : at + 1 ≡ length (journal ++ e ∷ [])
       entries_more = omega (arith, p.entries, length-append journal (e ∷ []))
 
-      text_more : out' ≡ out ++ line_of w h placed first journal e → out' ≡ before ++ lines_of w h placed first [] (journal ++ e ∷ [])
+      text_more : out' ≡ out ++ frame_of w h placed first journal e → out' ≡ before ++ frames_of w h placed first [] (journal ++ e ∷ [])
       text_more t =
           t
-          ∙ ap (λ (o : List ℕ). o ++ line_of w h placed first journal e) p.text
-          ∙ append_assoc before (lines_of w h placed first [] journal) (line_of w h placed first journal e)
-          ∙ ap (λ (r : List ℕ). before ++ r) (sym (lines_more [] journal e))
+          ∙ ap (λ (o : List ℕ). o ++ frame_of w h placed first journal e) p.text
+          ∙ append_assoc before (frames_of w h placed first [] journal) (frame_of w h placed first journal e)
+          ∙ ap (λ (r : List ℕ). before ++ r) (sym (frames_more [] journal e))
 
       pub printed_frame : makes_frame e ≡ true → out' ≡ out ++ frame_line number (at + 1) (sum (picture_of w h placed s'.windows)) → IsPrinted (journal ++ e ∷ []) s' (at + 1) (number + 1) out'
       printed_frame made t =

@@ -53,15 +53,15 @@ unfoldable pub frame_line : ℕ → ℕ → ℕ → List ℕ
 frame_line number at total = codes "frame " ++ decimal number ++ codes " " ++ decimal at ++ codes " " ++ decimal total ++ codes "\n"
 
 -- on a screen of these sides with these windows, from a state on: what is printed of an entry behind others. A frame has its number among the frames, how many entries there are with it, and the sum of the bytes that the screen then shows
-abbrev pub line_of : ℕ → ℕ → List Placed → State → List Entry → Entry → List ℕ
-line_of w h placed s journal e =
+abbrev pub frame_of : ℕ → ℕ → List Placed → State → List Entry → Entry → List ℕ
+frame_of w h placed s journal e =
     if makes_frame e then frame_line (count_by makes_frame journal) (length journal + 1) (sum (picture_of w h placed (replay_from s (journal ++ e ∷ [])).windows)) else []
 
 -- the same of entries that stand behind others, in their order
-unfoldable pub lines_of : ℕ → ℕ → List Placed → State → List Entry → List Entry → List ℕ
-lines_of w h placed s journal [] = []
-lines_of w h placed s journal (e ∷ es) = line_of w h placed s journal e ++ lines_of w h placed s (journal ++ e ∷ []) es
+unfoldable pub frames_of : ℕ → ℕ → List Placed → State → List Entry → List Entry → List ℕ
+frames_of w h placed s journal [] = []
+frames_of w h placed s journal (e ∷ es) = frame_of w h placed s journal e ++ frames_of w h placed s (journal ++ e ∷ []) es
 
 -- the frames of a journal of a trace, on a screen of these sides
 unfoldable pub frames_text : ℕ → ℕ → TraceValue → List Entry → List ℕ
-frames_text w h t journal = lines_of w h (stacked t.windows) (opening t.windows t.video) [] journal ++ codes "end\n"
+frames_text w h t journal = frames_of w h (stacked t.windows) (opening t.windows t.video) [] journal ++ codes "end\n"

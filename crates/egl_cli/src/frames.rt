@@ -97,7 +97,7 @@ fn put_frame(
 }
 
 /// Plays entries again, and prints each frame that they make.
-fn put_lines(
+fn put_frames(
     alloc: Global,
     out: &mut Bytes,
     driver: &mut Driver,
@@ -105,7 +105,7 @@ fn put_lines(
     entries: &[Entry],
 ) -> Result<(), NoMemory>
     requires { All (λ e. e.thread < driver.old.made) entries.now }
-    ensures { OnOk result (out.new ≡ out.old ++ values.lines_of screen.old.width screen.old.height screen.old.placed driver.old.state [] entries.now) }
+    ensures { OnOk result (out.new ≡ out.old ++ values.frames_of screen.old.width screen.old.height screen.old.placed driver.old.state [] entries.now) }
 {
     let mut number = 0u64;
     let mut at = 0u64;
@@ -149,7 +149,7 @@ pub fn frames_text(
     let mut out = Bytes::new(alloc);
     let mut driver = driver_of(alloc, trace)?;
     let mut screen = screen_of(alloc, width, height, trace)?;
-    put_lines(alloc, &mut out, &mut driver, &mut screen, journal.as_slice())?;
+    put_frames(alloc, &mut out, &mut driver, &mut screen, journal.as_slice())?;
     put_text(&mut out, "end\n")?;
     Ok(out)
 }

@@ -1,6 +1,6 @@
 use Rattle.std.proofs.Common.{◌≡◌, ◌≤◌, take}
 use Rattle.egl_cli.proofs.FrameLaws.{IsPrinted}
-use Rattle.egl_cli.proofs.frames.put_lines.Given as goal
+use Rattle.egl_cli.proofs.frames.put_frames.Given as goal
 
 abbrev pub invariant-each : goal.invariant-each
 invariant-each l = record {

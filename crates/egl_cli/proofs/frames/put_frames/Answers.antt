@@ -6,8 +6,8 @@ use Rattle.screen_compose.specs.Screens.{ScreenValue}
 use Rattle.driver_core.specs.Machine.{Machine}
 use Rattle.egl_cli.specs.Frames.{makes_frame}
 use Rattle.egl_cli.proofs.FrameLaws.{printed_none, printed_frame, printed_quiet}
-use Rattle.egl_cli.proofs.frames.put_lines.Goals.{then-makes_frame+in_ok-put_frame, else-makes_frame}
-use Rattle.egl_cli.proofs.frames.put_lines.Goals as goal
+use Rattle.egl_cli.proofs.frames.put_frames.Goals.{then-makes_frame+in_ok-put_frame, else-makes_frame}
+use Rattle.egl_cli.proofs.frames.put_frames.Goals as goal
 
 pub each-init : goal.each-init
 each-init c = record { width = refl; height = refl; placed = refl; made = refl; counted = refl; few = omega arith; printed = printed_none _ _ _ _ _ }
