@@ -73,11 +73,11 @@ module _ (w h : ℕ) (placed : List Placed) (first : State) where
             entries = entries_more;
             frames = ap (λ (n : ℕ). n + 1) p.frames ∙ sym (count_more journal e made);
             text = text_more (
-              t
-              ∙ ap (λ (n : ℕ). line n at s') p.frames
-              ∙ ap (λ (k : ℕ). line (count_by makes_frame journal) k s') p.entries
-              ∙ ap (λ (x : State). line (count_by makes_frame journal) (length journal) x) state_more
-              ∙ ap (λ (r : List ℕ). out ++ r) (sym (cond-true (makes_frame e) _ _ made)));
+                t
+                ∙ ap (λ (n : ℕ). line n at s') p.frames
+                ∙ ap (λ (k : ℕ). line (count_by makes_frame journal) k s') p.entries
+                ∙ ap (λ (x : State). line (count_by makes_frame journal) (length journal) x) state_more
+                ∙ ap (λ (r : List ℕ). out ++ r) (sym (cond-true (makes_frame e) _ _ made)));
           }
 
       pub printed_quiet : makes_frame e ≡ false → out' ≡ out → IsPrinted (journal ++ e ∷ []) s' (at + 1) number out'

@@ -162,12 +162,7 @@ fn stalled_frames(
 }
 
 /// The frames of a trace that is played by turns, on a screen of these sides.
-pub fn run_frames(
-    alloc: Global,
-    width: u32,
-    height: u32,
-    trace: &Trace,
-) -> Result<Answer, NoMemory>
+pub fn run_frames(alloc: Global, width: u32, height: u32, trace: &Trace) -> Result<Answer, NoMemory>
     requires wide { (0 < width) × (width ≤ 2048) }
     requires high { (0 < height) × (height ≤ 2048) }
     ensures { IfOk result (λ a. a ≡ run_frames width height trace.now) }

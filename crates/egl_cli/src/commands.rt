@@ -123,7 +123,11 @@ pub fn command_of(words: &[Text]) -> Option<Command>
     match words {
         [word] => command_named(word.as_slice()),
         [word, how] => command_told(word.as_slice(), how.as_slice()),
-        [word, width, height] => command_sided(word.as_slice(), width.as_slice(), height.as_slice()),
+        [word, width, height] => command_sided(
+            word.as_slice(),
+            width.as_slice(),
+            height.as_slice(),
+        ),
         [word, lines, threads, seed] => command_sized(
             word.as_slice(),
             lines.as_slice(),

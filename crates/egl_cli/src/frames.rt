@@ -149,7 +149,13 @@ pub fn frames_text(
     let mut out = Bytes::new(alloc);
     let mut driver = driver_of(alloc, trace)?;
     let mut screen = screen_of(alloc, width, height, trace)?;
-    put_frames(alloc, &mut out, &mut driver, &mut screen, journal.as_slice())?;
+    put_frames(
+        alloc,
+        &mut out,
+        &mut driver,
+        &mut screen,
+        journal.as_slice(),
+    )?;
     put_text(&mut out, "end\n")?;
     Ok(out)
 }

@@ -22,27 +22,27 @@ each-preserved c =
     let made = ap (λ (m : Machine). m.made) c.in_ok-play.ensures.state ∙ i.made in
     let stepped : c.play.new.self.state ≡ (step c.each.driver.state e.thread e.call).state = ap (λ (m : Machine). m.state) c.in_ok-play.ensures.state in
     elim c.if-makes_frame.branch [
-      then-makes_frame+in_ok-put_frame w ↦
-        let frame : makes_frame e ≡ true = sym c.makes_frame.ensures ∙ w.if-makes_frame.true in
-        let line = rw (i.width, i.height, i.placed, w.windows.ensures) at w.in_ok-put_frame.ensures.out in
-        record {
-          width = ap (λ (s : ScreenValue). s.width) w.screen-is ∙ w.in_ok-put_frame.ensures.width ∙ i.width;
-          height = ap (λ (s : ScreenValue). s.height) w.screen-is ∙ w.in_ok-put_frame.ensures.height ∙ i.height;
-          placed = ap (λ (s : ScreenValue). s.placed) w.screen-is ∙ w.in_ok-put_frame.ensures.placed ∙ i.placed;
-          made = made;
-          counted = omega (arith, i.counted);
-          few = omega (arith, i.few, w.number-is);
-          printed = rw (more, w.number-is) (printed_frame _ _ _ _ _ (take c.each.entry-index entries) c.each.driver.state c.play.new.self.state c.each.at c.each.number c.each.out c.if-makes_frame.out e i.printed stepped frame (w.out-is ∙ line));
-        }
-    | else-makes_frame w ↦
-        let quiet : makes_frame e ≡ false = sym c.makes_frame.ensures ∙ w.if-makes_frame.false in
-        record {
-          width = ap (λ (s : ScreenValue). s.width) w.screen-is ∙ i.width;
-          height = ap (λ (s : ScreenValue). s.height) w.screen-is ∙ i.height;
-          placed = ap (λ (s : ScreenValue). s.placed) w.screen-is ∙ i.placed;
-          made = made;
-          counted = omega (arith, i.counted);
-          few = omega (arith, i.few, w.number-is);
-          printed = rw (more, w.number-is) (printed_quiet _ _ _ _ _ (take c.each.entry-index entries) c.each.driver.state c.play.new.self.state c.each.at c.each.number c.each.out c.if-makes_frame.out e i.printed stepped quiet w.out-is);
-        }
+      | then-makes_frame+in_ok-put_frame w ↦
+          let frame : makes_frame e ≡ true = sym c.makes_frame.ensures ∙ w.if-makes_frame.true in
+          let line = rw (i.width, i.height, i.placed, w.windows.ensures) at w.in_ok-put_frame.ensures.out in
+          record {
+            width = ap (λ (s : ScreenValue). s.width) w.screen-is ∙ w.in_ok-put_frame.ensures.width ∙ i.width;
+            height = ap (λ (s : ScreenValue). s.height) w.screen-is ∙ w.in_ok-put_frame.ensures.height ∙ i.height;
+            placed = ap (λ (s : ScreenValue). s.placed) w.screen-is ∙ w.in_ok-put_frame.ensures.placed ∙ i.placed;
+            made = made;
+            counted = omega (arith, i.counted);
+            few = omega (arith, i.few, w.number-is);
+            printed = rw (more, w.number-is) (printed_frame _ _ _ _ _ (take c.each.entry-index entries) c.each.driver.state c.play.new.self.state c.each.at c.each.number c.each.out c.if-makes_frame.out e i.printed stepped frame (w.out-is ∙ line));
+          }
+      | else-makes_frame w ↦
+          let quiet : makes_frame e ≡ false = sym c.makes_frame.ensures ∙ w.if-makes_frame.false in
+          record {
+            width = ap (λ (s : ScreenValue). s.width) w.screen-is ∙ i.width;
+            height = ap (λ (s : ScreenValue). s.height) w.screen-is ∙ i.height;
+            placed = ap (λ (s : ScreenValue). s.placed) w.screen-is ∙ i.placed;
+            made = made;
+            counted = omega (arith, i.counted);
+            few = omega (arith, i.few, w.number-is);
+            printed = rw (more, w.number-is) (printed_quiet _ _ _ _ _ (take c.each.entry-index entries) c.each.driver.state c.play.new.self.state c.each.at c.each.number c.each.out c.if-makes_frame.out e i.printed stepped quiet w.out-is);
+          }
     ]
