@@ -14,7 +14,6 @@ use Rattle.trace_model.specs.Stalled.{is_stalled, IsComplete, IsStalled}
 use Rattle.trace_model.proofs.FollowsLaws.{serial_plays}
 use Rattle.trace_model.proofs.OutcomeLaws.{not_stalled}
 use Rattle.trace_session.specs.Runs.{IsRun}
-use Rattle.egl_cli.specs.declared.answers.Answer.{Answer}
 use Rattle.egl_cli.specs.declared.statuses.Status.{Status}
 use Rattle.egl_cli.specs.declared.statuses.Status.TheVariants.{Ok as Fine, WriteFault, Stalled, NoMemory}
 use Rattle.egl_cli.specs.declared.commands.Command.TheVariants.{Compose}

@@ -6,7 +6,6 @@ use Rattle.std.specs.Ordering.{int_eq}
 use Rattle.surface_store.specs.declared.windows.WindowSpec.{WindowSpec}
 use Rattle.surface_store.specs.Windows.{is_spec, has_id, are_distinct, windows_ok}
 use Rattle.screen_compose.specs.Placing.{places, is_near, lies_near, are_placed, is_side, screen_ok}
-use Rattle.screen_compose.specs.declared.placed.Placed.{Placed}
 use Rattle.egl_cli.specs.Frames.{placed_over, stacked_over, stacked}
 
 as_many : (below : ℕ) (specs : List WindowSpec) → length (stacked_over below specs) ≡ length specs

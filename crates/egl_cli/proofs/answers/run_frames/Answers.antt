@@ -1,7 +1,6 @@
-use Rattle.std.proofs.Common.{◌≡◌, ◌∙◌, List, ap, true, false}
+use Rattle.std.proofs.Common.{◌≡◌, ◌∙◌, ap, true, false}
 use Rattle.std.proofs.lemmas.Result.{IfOk-weaker}
 use Rattle.egl_calls.specs.Journals.{JournalValue}
-use Rattle.egl_calls.specs.declared.entries.Entry.{Entry}
 use Rattle.egl_cli.specs.declared.answers.Answer.{Answer}
 use Rattle.egl_cli.specs.Answers.{journal_frames, run_frames}
 use Rattle.egl_cli.proofs.ComposeLaws.{frames_ended, frames_stalled, threads_below}

@@ -1,4 +1,4 @@
-use Rattle.std.proofs.Common.{◌≡◌, ◌∙◌, List, ap, subst, true}
+use Rattle.std.proofs.Common.{◌∙◌, List, ap}
 use Rattle.screen_compose.specs.Placing.{screen_ok}
 use Rattle.screen_compose.specs.declared.placed.Placed.{Placed}
 use Rattle.egl_cli.proofs.StackLaws.{stacked_ok}
