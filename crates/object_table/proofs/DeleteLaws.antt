@@ -1,10 +1,10 @@
 -- Objects are unbound, and their names are freed.
-use Rattle.std.proofs.Common.{◌≡◌, ◌⊎◌, ℕ, zero, suc, ◌+◌, ◌<◌, Bool, true, false, List, [], ◌∷◌, length, get_or, set, refl, sym, ap, subst, ◌∙◌, arith, inl, inr, Option, None, Some}
+use Rattle.std.proofs.Common.{◌≡◌, ◌⊎◌, ℕ, ◌+◌, ◌<◌, Bool, true, false, List, [], ◌∷◌, length, get_or, set, refl, sym, ap, subst, ◌∙◌, arith, inl, inr, Option, None, Some}
 use Rattle.std.specs.Prelude.{IsSome, is_some}
 use Rattle.std.specs.List.{sum_by}
 use Rattle.std.specs.Option.{option_and_then, option_map_or}
 use Rattle.std.proofs.lemmas.Bool.{cases_Bool, cases_eq, cases_lt, eqb-true, false≢true}
-use Rattle.std.proofs.lemmas.List.{get_or-set_other, get_or-set_same, get_or_past, length-set, set-get_or, set_past}
+use Rattle.std.proofs.lemmas.List.{get_or-set_other, get_or-set_same, get_or_past, length-set, set-get_or, set-set, set_past}
 use Rattle.std.proofs.lemmas.List.Sums.{sum_by-set}
 use Rattle.driver_objects.specs.Links.{bound_in}
 use Rattle.driver_objects.specs.Targets.{binding_of, slot_of}
@@ -27,12 +27,6 @@ use Rattle.share_group.specs.declared.names.NameKind.TheVariants.{Buffer as buff
 use Rattle.object_table.specs.Links.{IsLeft, IsLeftWith, edge_in, has_slot_in, linked_in}
 use Rattle.object_table.specs.Tables.{LeadsDown, weight_of}
 use Rattle.object_table.proofs.LeftLaws.{left_self, left_then}
-
-set_twice : (xs : List (Option Object)) (n : ℕ) (a b : Option Object) → set (set xs n a) n b ≡ set xs n b
-set_twice [] zero a b = refl
-set_twice [] (suc n) a b = refl
-set_twice (x ∷ xs) zero a b = refl
-set_twice (x ∷ xs) (suc n) a b = ap (λ ys. x ∷ ys) (set_twice xs n a b)
 
 -- the object of a number after a change
 pub changed_at : (f : Option Object → Option Object) → f None ≡ None → (n : ℕ) (os : List (Option Object)) → get_or (set os n (f (get_or os n None))) n None ≡ f (get_or os n None)
@@ -145,7 +139,7 @@ unfolding change_context
 unbind_left b os mid new n x e h l =
     let o = get_or os n None in let f = with_context (named_at (binding_of b) 0) in
     let m : List (Option Object) = set os n (f o) in
-    let a : set m n (linked_in (slot_of b) None (get_or m n None)) ≡ set os n (with_context (unbound_at b x) o) = ap (λ y. set m n (linked_in (slot_of b) None y)) (changed_at f refl n os) ∙ set_twice os n (f o) (linked_in (slot_of b) None (f o)) ∙ ap (set os n) (linked_there b o x h) in
+    let a : set m n (linked_in (slot_of b) None (get_or m n None)) ≡ set os n (with_context (unbound_at b x) o) = ap (λ y. set m n (linked_in (slot_of b) None y)) (changed_at f refl n os) ∙ set-set os n (f o) (linked_in (slot_of b) None (f o)) ∙ ap (set os n) (linked_there b o x h) in
     subst (λ ys. IsLeft ys new) a (subst (λ ys. IsLeft (set ys n (linked_in (slot_of b) None (get_or ys n None))) new) e l)
 
 pub unbind_same : (b : BindTarget) (os : List (Option Object)) (n x : ℕ) → has_there b x (get_or os n None) ≡ false → IsLeft (change_context (unbound_at b x) n os) os
@@ -162,7 +156,7 @@ unfolding change_context
 unbind_both os mid new n x a b =
     let o = get_or os n None in let f = with_context (unbound_at ArrayBuffer x) in let g = with_context (unbound_at ElementArrayBuffer x) in
     let m : List (Option Object) = set os n (f o) in
-    let e : set m n (g (get_or m n None)) ≡ set os n (with_context (unbound_object buffers x) o) = ap (λ y. set m n (g y)) (changed_at f refl n os) ∙ set_twice os n (f o) (g (f o)) ∙ ap (set os n) (context_twice (unbound_at ArrayBuffer x) (unbound_at ElementArrayBuffer x) o) in
+    let e : set m n (g (get_or m n None)) ≡ set os n (with_context (unbound_object buffers x) o) = ap (λ y. set m n (g y)) (changed_at f refl n os) ∙ set-set os n (f o) (g (f o)) ∙ ap (set os n) (context_twice (unbound_at ArrayBuffer x) (unbound_at ElementArrayBuffer x) o) in
     subst (λ ys. IsLeft ys new) e (left_then _ _ new (left_change g refl n m mid a) b)
 
 name_same : (which name : ℕ) (o : Option Object) → option_map_or (λ (x : Object). 1 + length (edges_of x)) (with_context (named_at which name) o) 0 ≡ option_map_or (λ (x : Object). 1 + length (edges_of x)) o 0

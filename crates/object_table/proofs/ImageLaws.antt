@@ -1,34 +1,28 @@
 -- Textures and renderbuffers get the pixels of EGL images.
-use Rattle.std.proofs.Common.{◌≡◌, ◌≢◌, ℕ, zero, suc, ◌+◌, ◌<◌, Bool, true, false, ◌&&◌, List, [], ◌∷◌, cond, length, get_or, set, refl, sym, ap, subst, ◌∙◌, arith, inl, inr, Option, None, Some}
-use Rattle.std.proofs.Math.Path.{fun_ext}
+use Rattle.std.proofs.Common.{◌≡◌, ◌≢◌, ℕ, zero, suc, ◌+◌, Bool, true, false, List, [], ◌∷◌, cond, get_or, set, refl, sym, ap, subst, ◌∙◌, arith, Option, None, Some}
 use Rattle.std.proofs.lemmas.Bool.{false≢true}
 use Rattle.std.proofs.lemmas.List.{set-get_or, set-set, set_comm}
-use Rattle.std.specs.List.{list_any}
 use Rattle.std.specs.Option.{option_and_then, option_map}
-use Rattle.std.specs.Prelude.{drop, is_some, not}
-use Rattle.texture_objects.specs.Levels.{is_complete}
+use Rattle.std.specs.Prelude.{drop, is_some}
 use Rattle.texture_objects.specs.declared.levels.Shape.{Shape}
-use Rattle.driver_objects.specs.Storages.{StorageValue}
 use Rattle.driver_objects.specs.declared.objects.Object.{Object}
 use Rattle.driver_objects.specs.declared.objects.Object.TheVariants.{Renderbuffer, Texture}
 use Rattle.driver_objects.specs.declared.textures.BackedTexture.{BackedTexture}
 use Rattle.egl_model.specs.Draws.{level_shapes}
 use Rattle.egl_model.specs.Images.{above_base, has_pixels, is_incomplete_in, is_source_in, levels_dropped, with_pixels_in}
-use Rattle.egl_model.specs.Objects.{as_storage, as_texture, change_texture, storage_in, texture_in, with_texture}
+use Rattle.egl_model.specs.Objects.{as_texture, change_texture, storage_in, texture_in, with_texture}
 use Rattle.egl_model.specs.Textures.{change_pixels, storage_at, with_level, with_pixels}
 use Rattle.ref_store.specs.Kept.{at}
-use Rattle.object_table.specs.Links.{IsLeft, edge_in, has_slot_in, linked_in}
+use Rattle.object_table.specs.Links.{IsLeft, edge_in, linked_in}
 use Rattle.object_table.specs.Nodes.{object_in, objects_of}
 use Rattle.object_table.specs.Samples.{shapes_by, stored_in}
 use Rattle.object_table.specs.Sources.{emptied, has_pixels_by, is_incomplete_by, is_source_by}
 use Rattle.object_table.proofs.DeleteLaws.{changed_at, left_change}
 use Rattle.object_table.proofs.LeftLaws.{left_self, left_then}
+use Rattle.object_table.proofs.SampleLaws.{same_look}
 use Rattle.object_table.proofs.StoreLaws.{Below, Cells, object_at}
 
 -- ---- What is looked up in a table is what is looked up in its nodes.
-same_look : (next : ℕ) (s : Cells) → Below s next → (λ m. storage_in (objects_of next s) m) ≡ stored_in s
-same_look next s b = fun_ext (λ m. ap as_storage (object_at next s b m))
-
 pub same_shapes : (next : ℕ) (s : Cells) → Below s next → (n : ℕ) → option_map (level_shapes (objects_of next s)) (texture_in (objects_of next s) n) ≡ option_map (λ x. shapes_by (stored_in s) x.levels) (as_texture (object_in (at s n)))
 same_shapes next s b n =
     ap (λ look. option_map (λ (x : BackedTexture). shapes_by look x.levels) (texture_in (objects_of next s) n)) (same_look next s b)

@@ -10,7 +10,7 @@ use Rattle.object_table.specs.Nodes.{object_in, objects_of}
 use Rattle.object_table.specs.Samples.{sampler_from, stored_in}
 use Rattle.object_table.proofs.StoreLaws.{Below, Cells, object_at}
 
-same_look : (next : ℕ) (s : Cells) → Below s next → (λ m. storage_in (objects_of next s) m) ≡ stored_in s
+pub same_look : (next : ℕ) (s : Cells) → Below s next → (λ m. storage_in (objects_of next s) m) ≡ stored_in s
 same_look next s b = fun_ext (λ m. ap as_storage (object_at next s b m))
 
 pub same_sampler : (next : ℕ) (s : Cells) → Below s next → (r : Rect) (n : ℕ) →

@@ -1,5 +1,5 @@
 -- Of what there may be an EGL image, by how storages are looked up (EGL 1.5, section 3.9), and textures that lose their levels (OES_EGL_image).
-use Rattle.std.specs.Prelude.{ℕ, zero, suc, Bool, false, not, ◌&&◌, List, is_some, Option, None, Some}
+use Rattle.std.specs.Prelude.{ℕ, zero, suc, Bool, false, not, ◌&&◌, is_some, Option, None, Some}
 use Rattle.std.specs.List.{list_any}
 use Rattle.texture_objects.specs.Levels.{is_complete}
 use Rattle.driver_objects.specs.Storages.{StorageValue}

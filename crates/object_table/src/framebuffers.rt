@@ -151,13 +151,7 @@ impl ObjectTable {
     }
 
     // An object is detached from a point of a framebuffer, if it is attached there.
-    fn detach_at<L: Ledger>(
-        &mut self,
-        n: u64,
-        point: Point,
-        object: u64,
-        steps: &mut Steps<L>,
-    )
+    fn detach_at<L: Ledger>(&mut self, n: u64, point: Point, object: u64, steps: &mut Steps<L>)
         ensures objects { IsLeft (change_framebuffer (detached_at point object) n self.old.objects) self.new.objects }
         ensures holds { self.new.holds ≡ self.old.holds }
         ensures steps { steps.new + weight_of self.new.objects ≤ steps.old + weight_of self.old.objects }

@@ -37,7 +37,11 @@ fn pixels_at(store: &Store<Stored>, n: u64, level: u64) -> Option<u64>
     match object_at(store, n) {
         Some(Object::Texture(texture)) => level_in(&texture.levels, level),
         Some(Object::Renderbuffer(renderbuffer)) => {
-            if level == 0 { renderbuffer.storage } else { None }
+            if level == 0 {
+                renderbuffer.storage
+            } else {
+                None
+            }
         }
         _ => None,
     }

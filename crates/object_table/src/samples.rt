@@ -53,7 +53,10 @@ fn shape_at(store: &Store<Stored>, n: Option<u64>) -> Option<Shape>
 }
 
 /// The shapes of a texture's levels.
-pub(crate) fn shapes_at(store: &Store<Stored>, levels: &[Option<u64>; LEVELS]) -> [Option<Shape>; LEVELS]
+pub(crate) fn shapes_at(
+    store: &Store<Stored>,
+    levels: &[Option<u64>; LEVELS],
+) -> [Option<Shape>; LEVELS]
     requires { AllIn store.now.nodes }
     ensures { result ≡ shapes_by (stored_in store.now.nodes) levels.now }
 {

@@ -1,4 +1,4 @@
-use Rattle.std.proofs.Common.{◌≡◌, refl}
+use Rattle.std.proofs.Common.{◌≡◌}
 use Rattle.object_table.proofs.FramebufferLaws.{renamed_slots}
 use Rattle.object_table.proofs.ChangeLaws.{Keeps, framebuffer_keeps, was_out}
 use Rattle.object_table.proofs.framebuffers.rename_at.Goals as goal

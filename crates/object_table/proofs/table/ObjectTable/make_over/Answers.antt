@@ -8,15 +8,15 @@ use Rattle.object_table.proofs.table.ObjectTable.make_over.Goals as goal
 
 pub put_new-requires : goal.put_new-requires
 put_new-requires c =
-  let l = leads_over c.self.inside.next c.self.inside.store.nodes c.args.first c.self.invariant.below (rw (← c.self.view_is) at c.requires.leads) in
-  record {
-  number = omega (arith, c.self.invariant.few, rw (← c.self.view_is) at c.requires.room);
-  room = omega (arith, rw (← c.self.view_is) at c.requires.room);
-  vacant = vacant_at c.self.inside.store.nodes c.self.inside.next c.self.inside.next c.self.invariant.below (omega arith);
-  stored = λ n h. (l n h).0;
-  below = λ n h. (l n h).1;
-  all_in = c.self.invariant.all_in;
-}
+    let l = leads_over c.self.inside.next c.self.inside.store.nodes c.args.first c.self.invariant.below (rw (← c.self.view_is) at c.requires.leads) in
+    record {
+      number = omega (arith, c.self.invariant.few, rw (← c.self.view_is) at c.requires.room);
+      room = omega (arith, rw (← c.self.view_is) at c.requires.room);
+      vacant = vacant_at c.self.inside.store.nodes c.self.inside.next c.self.inside.next c.self.invariant.below (omega arith);
+      stored = λ n h. (l n h).0;
+      below = λ n h. (l n h).1;
+      all_in = c.self.invariant.all_in;
+    }
 
 pub hold-requires : goal.hold-requires
 hold-requires c = rw c.put_new.ensures.adds.added (record { stored = refl; room = omega arith; all_in = c.put_new.ensures.all_in })
