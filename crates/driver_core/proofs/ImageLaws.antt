@@ -114,6 +114,9 @@ no_storage : (r : RenderbufferValue) (o : Option Object) → as_storage (with_re
 no_storage r (Some (Renderbuffer x)) = refl
 no_storage r o = refl
 
-pub storage_stays : (r : RenderbufferValue) (x k : ℕ) (os mid : List (Option Object)) → mid ≡ change_renderbuffer (with_kind r) x os → IsSome (storage_in os k) → IsSome (storage_in mid k)
+storage_stays : (r : RenderbufferValue) (x k : ℕ) (os mid : List (Option Object)) → mid ≡ change_renderbuffer (with_kind r) x os → IsSome (storage_in os k) → IsSome (storage_in mid k)
 unfolding change_renderbuffer
 storage_stays r x k os mid e h = ap (λ (xs : List (Option Object)). is_some (storage_in xs k)) e ∙ ap is_some (same_at_set as_storage os x (with_renderbuffer (with_kind r) (get_or os x None)) None (no_storage r (get_or os x None)) k) ∙ h
+
+pub pixels_stay : (r : RenderbufferValue) (x k : ℕ) (os mid : List (Option Object)) → mid ≡ change_renderbuffer (with_kind r) x os → IsSome (storage_in os k) → IsPixels mid k
+pixels_stay r x k os mid e h = storage_ranks (get_or mid k None) (storage_stays r x k os mid e h)
