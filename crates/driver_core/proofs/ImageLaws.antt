@@ -1,6 +1,6 @@
 -- EGL images and the storages that they share.
-use Rattle.std.proofs.Common.{◌≡◌, ◌≢◌, ℕ, ◌<◌, ℤ, pos, negsuc, Bool, true, false, cond, List, [], ◌∷◌, get_or, refl, sym, ap, ◌∙◌, subst, inl, inr, arith, Option, None, Some}
-use Rattle.std.proofs.lemmas.Bool.{and_parts, cases_eq, false≢true, leb-false, not-false}
+use Rattle.std.proofs.Common.{◌≡◌, ◌≢◌, ℕ, ◌<◌, ℤ, pos, negsuc, true, false, List, [], get_or, refl, sym, ap, ◌∙◌, inl, inr, arith, Option, None, Some}
+use Rattle.std.proofs.lemmas.Bool.{cases_eq, false≢true, leb-false, not-false}
 use Rattle.std.proofs.lemmas.Int.{ints}
 use Rattle.std.specs.Prelude.{IfSome, IsSome, int_lt, is_some}
 use Rattle.call_rules.proofs.EglLaws.{image_allowed}
@@ -27,7 +27,6 @@ use Rattle.egl_model.specs.State.{State}
 use Rattle.egl_model.specs.Textures.{pixels_at}
 use Rattle.model_laws.proofs.Places.{same_at_set}
 use Rattle.ref_store.proofs.CountLaws.{times_none, times_other}
-use Rattle.ref_store.specs.Counts.{times}
 use Rattle.object_table.specs.Tables.{LeadsDown}
 use Rattle.driver_core.specs.Groups.{IsPixels}
 use Rattle.driver_core.proofs.RootLaws.{times_one}
