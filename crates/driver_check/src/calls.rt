@@ -1,5 +1,5 @@
 //! The driver's calls that may run out of memory, with ample memory.
-ghost use Rattle.std.specs.Prelude.{◌≡◌, ◌<◌, true, IfOk};
+ghost use Rattle.std.specs.Prelude.{◌≡◌, ◌<◌, IfOk};
 ghost use Rattle.egl_calls.specs.declared.kinds.Kind.TheVariants.{Egl};
 
 use driver_core::Driver;

@@ -1,5 +1,5 @@
 //! Many threads with a token each.
-ghost use Rattle.std.specs.Prelude.{All, vec_len, vec_capacity, ◌+◌, ◌<◌, ◌≤◌, ◌≡◌, true, false};
+ghost use Rattle.std.specs.Prelude.{All, vec_len, vec_capacity, ◌+◌, ◌<◌, ◌≤◌, ◌≡◌, false};
 ghost use Rattle.egl_model.specs.Waits.{is_wait_end};
 ghost use Rattle.shared_driver.specs.Tokens.{IsOf};
 

@@ -1,5 +1,5 @@
 //! Calls in a random order, by a fixed seed.
-ghost use Rattle.std.specs.Prelude.{◌≡◌, ◌<◌, true, false, All};
+ghost use Rattle.std.specs.Prelude.{◌≡◌, ◌<◌, false, All};
 ghost use Rattle.egl_calls.specs.Ranges.{IsNumber};
 ghost use Rattle.egl_model.specs.Waits.{is_wait_end};
 

@@ -14,7 +14,7 @@ const HEADER: &[u8] = b"egl-trace 1 1\n";
 const EMPTY_RECORDING: &[u8] = b"recording\ncensus 0 0 0 0 0 0 0 0 0 0 0\nend\n";
 
 const USAGE: &[u8] =
-    b"usage: egl_cli serial | play [summary] | check | configs | gen N THREADS SEED\n";
+    b"usage: egl_cli serial | play [summary] | check | configs | gen N THREADS SEED | compose W H\n";
 
 /// The commands that play a trace.
 const PLAYERS: [&str; 2] = ["serial", "play"];
@@ -160,6 +160,26 @@ fn a_sink_that_is_full_is_a_write_fault_in_place_of_every_status(rt: HostRuntime
     assert!(rt; wrote(&ran, 5, b"usage"));
 }
 
+/// The words that compose the frames of a small screen.
+const COMPOSE: [&str; 3] = ["compose", "2", "2"];
+
+/// An input, the call at which its source fails, the room of the sink, and the status and what is written.
+static FRAMES: [(&[u8], i64, u64, u8, &[u8]); 5] = [
+    (HEADER, -1, 100, 0, b"end\n"),
+    (HEADER, 0, 100, 3, b"read fault\n"),
+    (b"", -1, 100, 4, b"malformed 1 Header\n"),
+    (HEADER, -1, 2, 5, b"en"),
+    (b"", 0, 5, 5, b"read "),
+];
+
+#[test]
+fn compose_tells_faults_as_other_players_do(rt: HostRuntime) {
+    for (input, fails, room, status, text) in &FRAMES {
+        let ran = ran(&rt, &COMPOSE, input, *fails, *room, -1);
+        assert!(rt; wrote(&ran, *status, text), "{text:?}");
+    }
+}
+
 /// The most bytes that an input may have.
 const MOST_BYTES: usize = 33_554_432;
 
@@ -177,4 +197,6 @@ fn a_byte_more_is_too_long(rt: HostRuntime) {
         let ran = answer(&rt, word, &input);
         assert!(rt; wrote(&ran, 8, b"too long\n"), "{word}");
     }
+    let ran = ran(&rt, &COMPOSE, &input, -1, 100, -1);
+    assert!(rt; wrote(&ran, 8, b"too long\n"));
 }

@@ -1,5 +1,5 @@
 //! A thread's part goes out and comes back between the calls of another thread, and leaves every reply as without it.
-ghost use Rattle.std.specs.Prelude.{◌≡◌, ◌<◌, true, All};
+ghost use Rattle.std.specs.Prelude.{◌≡◌, ◌<◌, All};
 ghost use Rattle.egl_calls.specs.Ranges.{IsNumber};
 ghost use Rattle.driver_check.specs.Apart.{IsApart};
 

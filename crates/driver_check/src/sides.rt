@@ -1,5 +1,5 @@
 //! One thread waits for a fence that another thread's flush signals.
-ghost use Rattle.std.specs.Prelude.{◌≡◌, true, false, All};
+ghost use Rattle.std.specs.Prelude.{◌≡◌, false, All};
 ghost use Rattle.egl_calls.specs.declared.kinds.Kind.TheVariants.{Egl as EglCall};
 ghost use Rattle.egl_model.specs.Waits.{is_wait_end};
 ghost use Rattle.shared_driver.specs.Tokens.{IsOf};

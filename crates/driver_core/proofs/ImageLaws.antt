@@ -1,6 +1,6 @@
 -- EGL images and the storages that they share.
-use Rattle.std.proofs.Common.{◌≡◌, ◌≢◌, ℕ, ◌<◌, ℤ, pos, negsuc, Bool, true, false, cond, List, [], ◌∷◌, get_or, refl, sym, ap, ◌∙◌, subst, inl, inr, arith, Option, None, Some}
-use Rattle.std.proofs.lemmas.Bool.{and_parts, cases_eq, false≢true, leb-false, not-false}
+use Rattle.std.proofs.Common.{◌≡◌, ◌≢◌, ℕ, ◌<◌, ℤ, pos, negsuc, true, false, List, [], get_or, refl, sym, ap, ◌∙◌, inl, inr, arith, Option, None, Some}
+use Rattle.std.proofs.lemmas.Bool.{cases_eq, false≢true, leb-false, not-false}
 use Rattle.std.proofs.lemmas.Int.{ints}
 use Rattle.std.specs.Prelude.{IfSome, IsSome, int_lt, is_some}
 use Rattle.call_rules.proofs.EglLaws.{image_allowed}
@@ -27,7 +27,6 @@ use Rattle.egl_model.specs.State.{State}
 use Rattle.egl_model.specs.Textures.{pixels_at}
 use Rattle.model_laws.proofs.Places.{same_at_set}
 use Rattle.ref_store.proofs.CountLaws.{times_none, times_other}
-use Rattle.ref_store.specs.Counts.{times}
 use Rattle.object_table.specs.Tables.{LeadsDown}
 use Rattle.driver_core.specs.Groups.{IsPixels}
 use Rattle.driver_core.proofs.RootLaws.{times_one}
@@ -114,6 +113,9 @@ no_storage : (r : RenderbufferValue) (o : Option Object) → as_storage (with_re
 no_storage r (Some (Renderbuffer x)) = refl
 no_storage r o = refl
 
-pub storage_stays : (r : RenderbufferValue) (x k : ℕ) (os mid : List (Option Object)) → mid ≡ change_renderbuffer (with_kind r) x os → IsSome (storage_in os k) → IsSome (storage_in mid k)
+storage_stays : (r : RenderbufferValue) (x k : ℕ) (os mid : List (Option Object)) → mid ≡ change_renderbuffer (with_kind r) x os → IsSome (storage_in os k) → IsSome (storage_in mid k)
 unfolding change_renderbuffer
 storage_stays r x k os mid e h = ap (λ (xs : List (Option Object)). is_some (storage_in xs k)) e ∙ ap is_some (same_at_set as_storage os x (with_renderbuffer (with_kind r) (get_or os x None)) None (no_storage r (get_or os x None)) k) ∙ h
+
+pub pixels_stay : (r : RenderbufferValue) (x k : ℕ) (os mid : List (Option Object)) → mid ≡ change_renderbuffer (with_kind r) x os → IsSome (storage_in os k) → IsPixels mid k
+pixels_stay r x k os mid e h = storage_ranks (get_or mid k None) (storage_stays r x k os mid e h)

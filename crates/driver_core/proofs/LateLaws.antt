@@ -1,5 +1,5 @@
 -- What a draw to a thread's own surface leaves.
-use Rattle.std.proofs.Common.{◌≡◌, ℕ, zero, suc, true, false, refl, sym, ap, ◌∙◌, None, Some, Option}
+use Rattle.std.proofs.Common.{◌≡◌, ℕ, Bool, true, false, refl, sym, ap, ◌∙◌, None, Some, Option}
 use Rattle.std.specs.Prelude.{nat_eq, not, slice_index_or, ◌==◌}
 use Rattle.egl_calls.specs.Calls.{CallValue}
 use Rattle.egl_calls.specs.declared.errors.Outcome.TheVariants.{Done}
@@ -33,9 +33,12 @@ surface_none s t h = sym (ap (λ (p : Option ℕ). draws_to_surface (at_place pa
 pub surface_by : (s : State) (t n : ℕ) (x : Option PartValue) → current_context s t ≡ Some n → x ≡ part_of_context s n → draws_to_surface x ≡ draws_to_surface (own_of s t).context
 surface_by s t n x h e = ap draws_to_surface (e ∙ sym (own_context s t n h))
 
+twice : (b : Bool) → b ≡ not (not b)
+twice true = refl
+twice false = refl
+
 pub unbound_twice : (k : ℕ) → nat_eq k 0 ≡ not (not (k == 0))
-unbound_twice zero = refl
-unbound_twice (suc k) = refl
+unbound_twice k = twice (k == 0)
 
 -- what is sampled by the context at its number
 pub sampled_at : (s : State) (t n : ℕ) (k : GlKind) (c : CallValue) → c.kind ≡ Gl k → current_context s t ≡ Some n → sampled_by (part_of_context s n) (sampler s n (drawn_rect k c)) ≡ late_sampler s t c

@@ -3,6 +3,9 @@ pub mod StalledLaws
 pub mod AnswerLaws
 pub mod SaysLaws
 pub mod SerialLaws
+pub mod StackLaws
+pub mod FrameLaws
+pub mod ComposeLaws
 pub mod PlayLaws
 pub mod CheckLaws
 pub mod HeldLaws

@@ -18,9 +18,9 @@ never true = refl
 never false = refl
 
 -- what is complete isn't stalled
-ended : (t : TraceValue) (journal : List Entry) (s : State) → IsComplete t journal → is_stalled t journal s ≡ false
+pub never_stalls : (t : TraceValue) (journal : List Entry) (s : State) → IsComplete t journal → is_stalled t journal s ≡ false
 unfolding is_stalled
-ended t journal s c =
+never_stalls t journal s c =
     let all : Bool = list_all (is_at_rest t.lines journal s) (threads_of t) in
     ap (λ (b : Bool). all && not b) c ∙ never all
 
@@ -35,7 +35,7 @@ module _ (t : TraceValue) (entries : List Entry) (s : State) (r : IsRun t entrie
   pub run_ended : IsComplete t (serial t) → record { status = Fine; text = recording t entries } ≡ run_answer t
   run_ended c =
       ap (λ (x : List ℕ). record { status = Fine; text = x }) recorded
-      ∙ sym (answer_by t false (ended t (serial t) (state_behind t (serial t)) c))
+      ∙ sym (answer_by t false (never_stalls t (serial t) (state_behind t (serial t)) c))
 
   pub run_stalled : IsStalled t (serial t) → record { status = Stalled; text = recording t entries ++ stalled_lines t entries } ≡ run_answer t
   run_stalled h =

@@ -19,13 +19,14 @@ use Rattle.journal_text.specs.declared.recordings.RecordedLine.{RecordedLine}
 use Rattle.trace_check.specs.Verdicts.{verdict}
 use Rattle.trace_check.specs.declared.verdicts.Verdict.{Verdict}
 use Rattle.trace_check.specs.declared.verdicts.Verdict.TheVariants.{Holds, Differs as DiffersAt, Incomplete}
+use Rattle.egl_cli.specs.Frames.{frames_text}
 use Rattle.egl_cli.specs.StalledLines.{stalled_lines}
 use Rattle.egl_cli.specs.declared.statuses.Status.TheVariants.{Ok as Fine, Malformed, Stalled, TooLong, Differs}
 use Rattle.egl_cli.specs.declared.answers.Answer.{Answer}
 use Rattle.egl_cli.specs.declared.inputs.Claim.{Claim}
 
 unfoldable pub usage_text : List ℕ
-usage_text = codes "usage: egl_cli serial | play [summary] | check | configs | gen N THREADS SEED\n"
+usage_text = codes "usage: egl_cli serial | play [summary] | check | configs | gen N THREADS SEED | compose W H\n"
 
 unfoldable pub read_fault_text : List ℕ
 read_fault_text = codes "read fault\n"
@@ -70,6 +71,16 @@ run_answer t = journal_answer false t (serial t) (is_stalled t (serial t) (state
 abbrev pub IsPlayAnswer : Bool → TraceValue → Answer → Type 0
 IsPlayAnswer how t a = (journal : List AnEntry) × IsPlayOf t journal × ((IsComplete t journal × (a ≡ journal_answer how t journal false)) ⊎ (IsStalled t journal × (a ≡ journal_answer how t journal true)))
 
+-- ---- Of a trace that is played for its frames.
+-- its frames on a screen of these sides, and where the run stalled, the lines at which threads wait
+abbrev pub journal_frames : ℕ → ℕ → TraceValue → List AnEntry → Bool → Answer
+journal_frames w h t journal false = record { status = Fine; text = frames_text w h t journal }
+journal_frames w h t journal true = record { status = Stalled; text = frames_text w h t journal ++ stalled_lines t journal }
+
+-- the frames of a trace: those of its serial journal
+unfoldable pub run_frames : ℕ → ℕ → TraceValue → Answer
+run_frames w h t = journal_frames w h t (serial t) (is_stalled t (serial t) (state_behind t (serial t)))
+
 -- ---- Of a recording behind its trace.
 abbrev pub with_lines : TraceValue → Result (List RecordedLine) Defect → Result Claim Defect
 with_lines t (Ok lines) = Ok (record { trace = t; recording = lines })
@@ -113,6 +124,10 @@ within_limit b a = if nat_lt most_input (length b) then record { status = TooLon
 -- the answer of `serial`
 unfoldable pub serial_answer : List ℕ → Answer
 serial_answer b = within_limit b (answer_or_defect run_answer (trace b))
+
+-- the answer of `compose`
+unfoldable pub frames_answer : ℕ → ℕ → List ℕ → Answer
+frames_answer w h b = within_limit b (answer_or_defect (run_frames w h) (trace b))
 
 -- the answer of `check`
 unfoldable pub check_answer : List ℕ → Answer

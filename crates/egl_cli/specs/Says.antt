@@ -11,15 +11,16 @@ use Rattle.trace_gen.specs.Generated.{generated}
 use Rattle.journal_text.specs.Cuts.{cut_recording}
 use Rattle.journal_text.specs.declared.cuts.Cut.{Cut}
 use Rattle.trace_check.specs.Recordings.{IsRecording}
+use Rattle.egl_cli.specs.Frames.{frames_text}
 use Rattle.egl_cli.specs.StalledLines.{stalled_lines}
 use Rattle.egl_cli.specs.declared.answers.Answer.{Answer}
 use Rattle.egl_cli.specs.declared.statuses.Status.{Status}
 use Rattle.egl_cli.specs.declared.statuses.Status.TheVariants.{Ok, Usage, ReadFault, Malformed, WriteFault, Stalled, NoMemory, TooLong, Differs}
 use Rattle.egl_cli.specs.declared.commands.Command.{Command}
-use Rattle.egl_cli.specs.declared.commands.Command.TheVariants.{Serial, Play, Check, Configs, Generate}
+use Rattle.egl_cli.specs.declared.commands.Command.TheVariants.{Serial, Play, Check, Configs, Generate, Compose}
 use Rattle.egl_cli.specs.declared.inputs.InputError.{InputError}
 use Rattle.egl_cli.specs.declared.inputs.InputError.TheVariants.{ReadFault as Unread, TooLong as Overlong, Malformed as Defective, NoMemory as Unmade}
-use Rattle.egl_cli.specs.Answers.{told, serial_answer, check_answer, IsPlayAnswer, malformed_text, usage_text, read_fault_text, too_long_text, most_input}
+use Rattle.egl_cli.specs.Answers.{told, serial_answer, frames_answer, check_answer, IsPlayAnswer, malformed_text, usage_text, read_fault_text, too_long_text, most_input}
 use Rattle.egl_cli.specs.ConfigLines.{configs_text}
 
 -- a fact of the bytes of the input, where the source tells them
@@ -70,6 +71,14 @@ IsTold how b before after = (text : List ℕ) × IsToldOf how b text × Took bef
 abbrev pub IsToldStalled : Bool → List ℕ → Option (List ℕ) → Option (List ℕ) → Type 0
 IsToldStalled how b before after = (text : List ℕ) × IsToldStalledOf how b text × Took before text after
 
+-- the bytes spell a trace, and what was written are the frames, on a screen of these sides, of a journal that plays it to the end of all threads
+abbrev pub AreFrames : ℕ → ℕ → List ℕ → Option (List ℕ) → Option (List ℕ) → Type 0
+AreFrames w h b before after = (t : TraceValue) × Spells b t × ((journal : List Entry) × IsPlayOf t journal × IsComplete t journal × Took before (frames_text w h t journal) after)
+
+-- the same of a journal that plays it until no thread can go on, with the lines at which threads wait
+abbrev pub AreFramesStalled : ℕ → ℕ → List ℕ → Option (List ℕ) → Option (List ℕ) → Type 0
+AreFramesStalled w h b before after = (t : TraceValue) × Spells b t × ((journal : List Entry) × IsPlayOf t journal × IsStalled t journal × Took before (frames_text w h t journal ++ stalled_lines t journal) after)
+
 -- a text that `play` may answer to the bytes: that of a refusal, or what is told of a journal that plays their trace
 abbrev pub IsPlayText : Bool → List ℕ → List ℕ → Type 0
 IsPlayText how b text = (text ≡ (serial_answer b).text) ⊎ (IsToldOf how b text ⊎ IsToldStalledOf how b text)
@@ -91,6 +100,7 @@ ReadsInput (Some (Play how)) = Unit {0}
 ReadsInput (Some Check) = Unit {0}
 ReadsInput (Some Configs) = ⊥
 ReadsInput (Some (Generate lines threads seed)) = ⊥
+ReadsInput (Some (Compose width height)) = Unit {0}
 
 -- the answer of a command to the bytes; that of `play`, which isn't one alone, where there is no trace to play
 abbrev pub answer_of : Option Command → List ℕ → Answer
@@ -100,6 +110,7 @@ answer_of (Some (Play how)) b = serial_answer b
 answer_of (Some Check) b = check_answer b
 answer_of (Some Configs) b = record { status = Ok; text = configs_text }
 answer_of (Some (Generate lines threads seed)) b = record { status = Ok; text = generated lines threads seed }
+answer_of (Some (Compose width height)) b = frames_answer width height b
 
 -- a text that was to be written, by the command: an answer's, or of those that read that of a read fault where the source failed
 abbrev pub IsMeant : Option Command → Option (List ℕ) → Type 0 → List ℕ → Type 0
@@ -109,6 +120,7 @@ IsMeant (Some (Play how)) left source_failed text = WhereTold left (λ b. IsPlay
 IsMeant (Some Check) left source_failed text = WhereTold left (λ b. (text ≡ (check_answer b).text) ⊎ ((text ≡ read_fault_text) × source_failed))
 IsMeant (Some Configs) left source_failed text = text ≡ configs_text
 IsMeant (Some (Generate lines threads seed)) left source_failed text = text ≡ generated lines threads seed
+IsMeant (Some (Compose width height)) left source_failed text = WhereTold left (λ b. (text ≡ (frames_answer width height b).text) ⊎ ((text ≡ read_fault_text) × source_failed))
 
 -- what status Ok promises, by the command
 abbrev pub WentWell : Option Command → Option (List ℕ) → Option (List ℕ) → Option (List ℕ) → Option (List ℕ) → Type 0
@@ -118,6 +130,7 @@ WentWell (Some (Play how)) left rest before after = AtEnd rest × WhereTold left
 WentWell (Some Check) left rest before after = AtEnd rest × WhereTold left (λ b. IsAnswered (check_answer b) before after Ok)
 WentWell (Some Configs) left rest before after = (rest ≡ left) × Took before configs_text after
 WentWell (Some (Generate lines threads seed)) left rest before after = (rest ≡ left) × Took before (generated lines threads seed) after
+WentWell (Some (Compose width height)) left rest before after = AtEnd rest × WhereTold left (λ b. IsAnswered (frames_answer width height b) before after Ok)
 
 -- what status Stalled promises, by the command
 abbrev pub GotStuck : Option Command → Option (List ℕ) → Option (List ℕ) → Option (List ℕ) → Option (List ℕ) → Type 0
@@ -127,6 +140,7 @@ GotStuck (Some (Play how)) left rest before after = AtEnd rest × WhereTold left
 GotStuck (Some Check) left rest before after = ⊥
 GotStuck (Some Configs) left rest before after = ⊥
 GotStuck (Some (Generate lines threads seed)) left rest before after = ⊥
+GotStuck (Some (Compose width height)) left rest before after = AtEnd rest × WhereTold left (λ b. IsAnswered (frames_answer width height b) before after Stalled)
 
 -- what status Differs promises, by the command
 abbrev pub GotDifference : Option Command → Option (List ℕ) → Option (List ℕ) → Option (List ℕ) → Option (List ℕ) → Type 0
@@ -136,6 +150,7 @@ GotDifference (Some (Play how)) left rest before after = ⊥
 GotDifference (Some Check) left rest before after = AtEnd rest × WhereTold left (λ b. IsAnswered (check_answer b) before after Differs)
 GotDifference (Some Configs) left rest before after = ⊥
 GotDifference (Some (Generate lines threads seed)) left rest before after = ⊥
+GotDifference (Some (Compose width height)) left rest before after = ⊥
 
 -- by the status: the command that the words are; what the source had left before and has left now, and that it failed; what the sink had taken before and has taken now, and that it failed
 abbrev pub Says : Option Command → Option (List ℕ) → Option (List ℕ) → Type 0 → Option (List ℕ) → Option (List ℕ) → Type 0 → Status → Type 0
@@ -157,6 +172,7 @@ WantsMemory (Some (Play how)) left rest faults_before faults = (faults ≡ fault
 WantsMemory (Some Check) left rest faults_before faults = (faults ≡ faults_before) × GaveWithin left rest most_input
 WantsMemory (Some Configs) left rest faults_before faults = Unit {0}
 WantsMemory (Some (Generate lines threads seed)) left rest faults_before faults = Unit {0}
+WantsMemory (Some (Compose width height)) left rest faults_before faults = (faults ≡ faults_before) × GaveWithin left rest most_input
 
 -- words that read nothing leave the source alone: what it has left, and its count of faults
 abbrev pub IsUnread : Option Command → Option (List ℕ) → Option (List ℕ) → ℕ → ℕ → Type 0
@@ -166,8 +182,9 @@ IsUnread (Some (Play how)) left rest faults_before faults = Unit {0}
 IsUnread (Some Check) left rest faults_before faults = Unit {0}
 IsUnread (Some Configs) left rest faults_before faults = (rest ≡ left) × (faults ≡ faults_before)
 IsUnread (Some (Generate lines threads seed)) left rest faults_before faults = (rest ≡ left) × (faults ≡ faults_before)
+IsUnread (Some (Compose width height)) left rest faults_before faults = Unit {0}
 
--- what status Ok is worth, by the command: of `serial` and `play` a journal that plays the trace to its end, of `check` such a journal whose recording the bytes are, of the others their text
+-- what status Ok is worth, by the command: of `serial`, `play` and `compose` a journal that plays the trace to its end, of `check` such a journal whose recording the bytes are, of the others their text
 abbrev pub IsHeadline : Option Command → Option (List ℕ) → Option (List ℕ) → Option (List ℕ) → Option (List ℕ) → Type 0
 IsHeadline None left rest before after = ⊥
 IsHeadline (Some Serial) left rest before after = AtEnd rest × WhereTold left (λ b. IsTold false b before after)
@@ -175,6 +192,7 @@ IsHeadline (Some (Play how)) left rest before after = AtEnd rest × WhereTold le
 IsHeadline (Some Check) left rest before after = AtEnd rest × WhereTold left (λ b. IsClaimTrue b × Took before (codes "holds\n") after)
 IsHeadline (Some Configs) left rest before after = (rest ≡ left) × Took before configs_text after
 IsHeadline (Some (Generate lines threads seed)) left rest before after = (rest ≡ left) × Took before (generated lines threads seed) after
+IsHeadline (Some (Compose width height)) left rest before after = AtEnd rest × WhereTold left (λ b. AreFrames width height b before after)
 
 -- what status Stalled is worth: the command plays a trace, and a journal plays it as far as its threads can go
 abbrev pub IsStalledHeadline : Option Command → Option (List ℕ) → Option (List ℕ) → Option (List ℕ) → Option (List ℕ) → Type 0
@@ -184,6 +202,7 @@ IsStalledHeadline (Some (Play how)) left rest before after = AtEnd rest × Where
 IsStalledHeadline (Some Check) left rest before after = ⊥
 IsStalledHeadline (Some Configs) left rest before after = ⊥
 IsStalledHeadline (Some (Generate lines threads seed)) left rest before after = ⊥
+IsStalledHeadline (Some (Compose width height)) left rest before after = AtEnd rest × WhereTold left (λ b. AreFramesStalled width height b before after)
 
 -- a status that `play` may answer to the bytes: that of `serial`, but a trace may come to its end in one run and stall in another
 abbrev pub IsPlayStatus : List ℕ → Status → Type 0
@@ -197,3 +216,4 @@ IsWhole (Some (Play how)) left source_failed sink_failed status = WhereTold left
 IsWhole (Some Check) left source_failed sink_failed status = WhereTold left (λ b. ¬ source_failed → ¬ sink_failed → ((check_answer b).status ≡ status) ⊎ (status ≡ NoMemory))
 IsWhole (Some Configs) left source_failed sink_failed status = ¬ sink_failed → (status ≡ Ok) ⊎ (status ≡ NoMemory)
 IsWhole (Some (Generate lines threads seed)) left source_failed sink_failed status = ¬ sink_failed → (status ≡ Ok) ⊎ (status ≡ NoMemory)
+IsWhole (Some (Compose width height)) left source_failed sink_failed status = WhereTold left (λ b. ¬ source_failed → ¬ sink_failed → ((frames_answer width height b).status ≡ status) ⊎ (status ≡ NoMemory))

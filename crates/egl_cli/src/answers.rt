@@ -1,13 +1,14 @@
 //! What the program says to the bytes of its input.
-ghost use Rattle.std.specs.Prelude.{◌≡◌, ◌≤◌, true, false, length, IfOk};
+ghost use Rattle.std.specs.Prelude.{◌≡◌, ◌≤◌, ◌<◌, All, true, false, length, IfOk};
 ghost use Rattle.trace_model.specs.Serial.{state_behind};
-ghost use Rattle.egl_cli.specs.Answers.{reason_name, malformed_text, told, journal_answer, run_answer};
+ghost use Rattle.egl_cli.specs.Answers.{reason_name, malformed_text, told, journal_answer, run_answer, journal_frames, run_frames};
 
+use crate::frames::frames_text;
 use crate::stalled_lines::put_stalled;
 use crate::statuses::Status;
 use arrayvec::ArrayString;
 use driver_core::Run;
-use egl_calls::{Bytes, NoMemory};
+use egl_calls::{Bytes, Journal, NoMemory};
 use itoa::Buffer;
 use journal_text::{summary, write};
 use std::alloc::Global;
@@ -108,6 +109,71 @@ pub fn run_answer(alloc: Global, trace: &Trace) -> Result<Answer, NoMemory>
     match run_serial(alloc, trace) {
         Ok(run) => ended_answer(alloc, false, trace, &run),
         Err(RunError::Stalled(run)) => stalled_answer(alloc, false, trace, &run),
+        Err(RunError::NoMemory) => Err(NoMemory),
+    }
+}
+
+/// The journal of a run whose driver is done with.
+fn journal_of(run: Run) -> Journal
+    ensures { result ≡ run.journal }
+{
+    let Run { journal, driver: _ } = run;
+    journal
+}
+
+/// The frames of a run that came to its end.
+fn ended_frames(
+    alloc: Global,
+    width: u32,
+    height: u32,
+    trace: &Trace,
+    journal: &Journal,
+) -> Result<Answer, NoMemory>
+    requires wide { (0 < width) × (width ≤ 2048) }
+    requires high { (0 < height) × (height ≤ 2048) }
+    requires threads { All (λ e. e.thread < trace.now.threads) journal.now.entries }
+    ensures { IfOk result (λ a. a ≡ journal_frames width height trace.now journal.now.entries false) }
+{
+    Ok(Answer {
+        status: Status::Ok,
+        text: frames_text(alloc, width, height, trace, journal)?,
+    })
+}
+
+/// The frames of a run that stalled: the lines at which its threads wait stand behind them.
+fn stalled_frames(
+    alloc: Global,
+    width: u32,
+    height: u32,
+    trace: &Trace,
+    journal: &Journal,
+) -> Result<Answer, NoMemory>
+    requires wide { (0 < width) × (width ≤ 2048) }
+    requires high { (0 < height) × (height ≤ 2048) }
+    requires threads { All (λ e. e.thread < trace.now.threads) journal.now.entries }
+    ensures { IfOk result (λ a. a ≡ journal_frames width height trace.now journal.now.entries true) }
+{
+    let mut text = frames_text(alloc, width, height, trace, journal)?;
+    put_stalled(alloc, &mut text, trace, journal)?;
+    Ok(Answer {
+        status: Status::Stalled,
+        text,
+    })
+}
+
+/// The frames of a trace that is played by turns, on a screen of these sides.
+pub fn run_frames(alloc: Global, width: u32, height: u32, trace: &Trace) -> Result<Answer, NoMemory>
+    requires wide { (0 < width) × (width ≤ 2048) }
+    requires high { (0 < height) × (height ≤ 2048) }
+    ensures { IfOk result (λ a. a ≡ run_frames width height trace.now) }
+{
+    // That each entry's thread is one of the trace stands on `lines`.
+    trace.lines();
+    match run_serial(alloc, trace) {
+        Ok(run) => ended_frames(alloc, width, height, trace, &journal_of(run)),
+        Err(RunError::Stalled(run)) => {
+            stalled_frames(alloc, width, height, trace, &journal_of(run))
+        }
         Err(RunError::NoMemory) => Err(NoMemory),
     }
 }

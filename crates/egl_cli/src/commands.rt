@@ -1,7 +1,7 @@
 //! The commands, and the words that are one.
 ghost use Rattle.std.specs.Prelude.{◌≡◌};
 ghost use Rattle.trace_reader.specs.Numerals.{numeral};
-ghost use Rattle.egl_cli.specs.Commands.{command_named, command_told, command_sized, generating, command_of, HasSize};
+ghost use Rattle.egl_cli.specs.Commands.{command_named, command_told, command_sided, command_sized, composing, generating, command_of, HasSize};
 
 use egl_calls::Text;
 use trace_reader::numerals::numeral;
@@ -12,6 +12,9 @@ const MOST_LINES: u64 = 90_000;
 const MOST_THREADS: u64 = 16;
 
 const MOST_SEED: u64 = 9_223_372_036_854_775_807;
+
+/// The longest side of a screen, in pixels.
+const LONGEST_SIDE: u64 = 2_048;
 
 /// What the program can be told to do.
 #[derive(Clone, Copy, Debug, PartialEq, Eq, Drop)]
@@ -26,6 +29,8 @@ pub enum Command {
     Configs,
     /// Prints a trace of random lines.
     Generate { lines: u64, threads: u32, seed: u64 },
+    /// Plays a trace by turns, and prints the frames of a screen of these sides.
+    Compose { width: u32, height: u32 },
 }
 
 fn command_named(word: &[u8]) -> Option<Command>
@@ -49,6 +54,33 @@ fn command_told(word: &[u8], how: &[u8]) -> Option<Command>
 {
     if word == b"play".as_slice() && how == b"summary".as_slice() {
         Some(Command::Play { summary: true })
+    } else {
+        None
+    }
+}
+
+/// The command that composes frames of a screen of the sides that two words give.
+fn composing(width: &[u8], height: &[u8]) -> Option<Command>
+    ensures value { result ≡ composing (numeral 2048 width.now) (numeral 2048 height.now) }
+    ensures size { HasSize result }
+{
+    let width = numeral(LONGEST_SIDE, width)?;
+    let height = numeral(LONGEST_SIDE, height)?;
+    if width == 0 || height == 0 {
+        return None;
+    }
+    Some(Command::Compose {
+        width: width as u32,
+        height: height as u32,
+    })
+}
+
+fn command_sided(word: &[u8], width: &[u8], height: &[u8]) -> Option<Command>
+    ensures value { result ≡ command_sided word.now width.now height.now }
+    ensures size { HasSize result }
+{
+    if word == b"compose".as_slice() {
+        composing(width, height)
     } else {
         None
     }
@@ -91,6 +123,11 @@ pub fn command_of(words: &[Text]) -> Option<Command>
     match words {
         [word] => command_named(word.as_slice()),
         [word, how] => command_told(word.as_slice(), how.as_slice()),
+        [word, width, height] => command_sided(
+            word.as_slice(),
+            width.as_slice(),
+            height.as_slice(),
+        ),
         [word, lines, threads, seed] => command_sized(
             word.as_slice(),
             lines.as_slice(),

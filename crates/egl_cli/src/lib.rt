@@ -6,6 +6,7 @@
 mod answers;
 mod commands;
 mod config_lines;
+mod frames;
 mod inputs;
 pub mod laws;
 mod playing;

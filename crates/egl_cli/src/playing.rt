@@ -95,7 +95,13 @@ pub fn top<R: Threads + Wait + Sync, S: Source, K: Sink, G: Gate + Sync>(
 {
     match command_of(words) {
         Some(Command::Play { summary }) => play_words(rt, alloc, summary, source, sink, gate),
-        Some(Command::Serial | Command::Check | Command::Configs | Command::Generate { .. })
+        Some(
+            Command::Serial
+            | Command::Check
+            | Command::Configs
+            | Command::Generate { .. }
+            | Command::Compose { .. },
+        )
         | None => plain(alloc, words, source, sink),
     }
 }

@@ -2,12 +2,13 @@
 use crate::playing::top;
 use crate::statuses::Status;
 use egl_calls::Text;
-use egl_flow::{StdSink, StdSource};
+use egl_flow::{StdSink, StdSource, Waiting};
 use play_threads::OpenGate;
 use std::alloc::Global;
 use std::rt::{Env, Stdin, Stdout};
 use std::sync::Wait;
 use std::thread::Threads;
+use std::time::Clock;
 use std::{env, io};
 
 /// The words behind the program's own name. A word that isn't UTF-8 makes them no command.
@@ -20,8 +21,8 @@ fn words<R: Env + AllocGlobal>(rt: &R, alloc: Global) -> io::Result<Vec<Text>> {
     Ok(words)
 }
 
-/// Does the command that the process's words name, from standard input to standard output.
-pub fn run<R: Env + AllocGlobal + Threads + Wait + Sync>(
+/// Does the command that the process's words name, from standard input to standard output. Input that isn't there yet is waited for.
+pub fn run<R: Env + Clock + AllocGlobal + Threads + Wait + Sync>(
     rt: &R,
     input: Stdin,
     output: Stdout,
@@ -36,7 +37,7 @@ pub fn run<R: Env + AllocGlobal + Threads + Wait + Sync>(
             Vec::new(alloc)
         }
     };
-    let mut source = StdSource::new(input);
+    let mut source = Waiting::new(StdSource::new(input), rt);
     let mut sink = StdSink::new(output);
     top(rt, alloc, &words, &mut source, &mut sink, &OpenGate)
 }

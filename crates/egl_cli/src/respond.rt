@@ -3,12 +3,12 @@ ghost use Rattle.std.specs.Prelude.{◌≡◌, ◌<◌, ◌≤◌, Some};
 ghost use Rattle.egl_flow.specs.Flow.{HasRisen};
 ghost use Rattle.trace_gen.specs.Generated.{generated};
 ghost use Rattle.trace_reader.specs.Order.{IsTrace};
-ghost use Rattle.egl_cli.specs.Answers.{run_answer, claim_answer};
+ghost use Rattle.egl_cli.specs.Answers.{run_answer, run_frames, claim_answer};
 ghost use Rattle.egl_cli.specs.Says.{Says, WroteIfMade, WantsMemory, IsUnread, IsHeadline, IsStalledHeadline, IsWhole};
 ghost use Rattle.egl_cli.specs.Commands.{plain_command_of};
 ghost use Rattle.egl_cli.specs.ConfigLines.{configs_text};
 
-use crate::answers::run_answer;
+use crate::answers::{run_answer, run_frames};
 use crate::commands::{Command, command_of};
 use crate::config_lines::configs_text;
 use crate::inputs::{Claim, read_claim, read_trace};
@@ -22,7 +22,7 @@ use trace_gen::generate;
 use trace_reader::Trace;
 
 const USAGE: &[u8] =
-    b"usage: egl_cli serial | play [summary] | check | configs | gen N THREADS SEED\n";
+    b"usage: egl_cli serial | play [summary] | check | configs | gen N THREADS SEED | compose W H\n";
 
 /// Writes the text of the configs.
 fn tell_configs<K: Sink>(alloc: Global, sink: &mut K) -> Status
@@ -79,6 +79,47 @@ fn respond<S: Source, K: Sink>(alloc: Global, source: &mut S, sink: &mut K) -> S
     }
 }
 
+/// Plays a trace by turns, and writes its frames on a screen of these sides.
+fn tell_frames<K: Sink>(
+    alloc: Global,
+    sink: &mut K,
+    width: u32,
+    height: u32,
+    trace: &Trace,
+) -> Status
+    requires wide { (0 < width) × (width ≤ 2048) }
+    requires high { (0 < height) × (height ≤ 2048) }
+    ensures trace { IsTrace trace.now }
+    ensures wrote { WroteIfMade (K.taken sink.old) (run_frames width height trace.now).text (K.taken sink.new) (HasRisen (K.faults sink.old) (K.faults sink.new)) (run_frames width height trace.now).status result }
+{
+    trace.lines();
+    match run_frames(alloc, width, height, trace) {
+        Ok(answer) => finish(sink, answer.status, answer.text.as_slice()),
+        Err(_) => Status::NoMemory,
+    }
+}
+
+/// Reads a source, and answers the frames of its trace.
+fn respond_frames<S: Source, K: Sink>(
+    alloc: Global,
+    source: &mut S,
+    sink: &mut K,
+    width: u32,
+    height: u32,
+) -> Status
+    requires wide { (0 < width) × (width ≤ 2048) }
+    requires high { (0 < height) × (height ≤ 2048) }
+    ensures says { Says (Some (Command.Compose width height)) (S.left source.old) (S.left source.new) (HasRisen (S.faults source.old) (S.faults source.new)) (K.taken sink.old) (K.taken sink.new) (HasRisen (K.faults sink.old) (K.faults sink.new)) result }
+    ensures memory { result ≡ Status.NoMemory → WantsMemory (Some (Command.Compose width height)) (S.left source.old) (S.left source.new) (S.faults source.old) (S.faults source.new) }
+    ensures headline { result ≡ Status.Ok → IsHeadline (Some (Command.Compose width height)) (S.left source.old) (S.left source.new) (K.taken sink.old) (K.taken sink.new) }
+    ensures stalled { result ≡ Status.Stalled → IsStalledHeadline (Some (Command.Compose width height)) (S.left source.old) (S.left source.new) (K.taken sink.old) (K.taken sink.new) }
+{
+    match read_trace(alloc, source) {
+        Ok(trace) => tell_frames(alloc, sink, width, height, &trace),
+        Err(error) => refuse(sink, &error),
+    }
+}
+
 /// Holds a recording against its trace, and writes what is said to it.
 fn tell_claim<K: Sink>(alloc: Global, sink: &mut K, claim: &Claim) -> Status
     ensures trace { IsTrace claim.now.trace }
@@ -103,7 +144,7 @@ fn respond_claim<S: Source, K: Sink>(alloc: Global, source: &mut S, sink: &mut K
     }
 }
 
-/// Does the command that the words name: `serial` reads a trace from the source and writes the recording of its run by turns to the sink, and where that stalls, the lines at which threads wait; `check` reads a trace and a recording behind it, and writes whether that is the recording of one of the trace's runs to its end, or where it first differs; `configs` reads nothing and writes the eight configs, a line for each, and `gen` the trace that its numbers generate. `play` is no command here, since it starts threads: `top` knows it.
+/// Does the command that the words name: `serial` reads a trace from the source and writes the recording of its run by turns to the sink, and where that stalls, the lines at which threads wait; `check` reads a trace and a recording behind it, and writes whether that is the recording of one of the trace's runs to its end, or where it first differs; `compose` reads a trace and writes a line for each frame of a screen of its sides, on which the trace's windows are stacked, and where the run stalls, the lines at which threads wait; `configs` reads nothing and writes the eight configs, a line for each, and `gen` the trace that its numbers generate. `play` is no command here, since it starts threads: `top` knows it.
 ///
 /// All output is made before the first write. A write that fails gives `WriteFault` in place of every other status. Memory is wanted only to read an input within the limit and to play it, and for the texts of commands that read nothing.
 pub fn plain<S: Source, K: Sink>(
@@ -130,6 +171,9 @@ pub fn plain<S: Source, K: Sink>(
                 seed,
             },
         ) => tell_generated(alloc, sink, lines, threads, seed),
+        Some(Command::Compose { width, height }) => {
+            respond_frames(alloc, source, sink, width, height)
+        }
         Some(Command::Play { .. }) | None => finish(sink, Status::Usage, USAGE),
     }
 }

@@ -20,6 +20,12 @@ gave_behind (Some x) None new piece p q = absurd p
 gave_behind (Some x) (Some y) None piece p q = q
 gave_behind (Some x) (Some y) (Some z) piece p q = sym p ∙ q
 
+pub gave_later : (old mid new : Option (List ℕ)) (piece : List ℕ) → Keeps old mid → Gave mid piece new → Gave old piece new
+gave_later None mid new piece p q = tt
+gave_later (Some x) None new piece p q = absurd p
+gave_later (Some x) (Some y) None piece p q = q
+gave_later (Some x) (Some y) (Some z) piece p q = sym p ∙ q
+
 pub took_behind : (old mid new : Option (List ℕ)) (piece : List ℕ) → Keeps old mid → Appends mid new piece → Took old piece new
 took_behind None mid new piece p q = tt
 took_behind (Some x) None new piece p q = absurd p

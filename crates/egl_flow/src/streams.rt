@@ -1,5 +1,7 @@
 //! std's readers and writers as a source and a sink. They tell of the bytes what std tells: all where the bytes are in memory, and nothing of a terminal, which is the trusted edge.
-ghost use Rattle.std.specs.Prelude.{◌≡◌, ℕ, ◌+◌};
+ghost use Rattle.std.specs.Prelude.{◌≡◌, ℕ, ◌+◌, ◌<◌, ◌≤◌, length, take, OnOk, IfOk, OnErr, IfSome, IfNone};
+ghost use Rattle.std.specs.Io.KnownBytes.{Keeps};
+ghost use Rattle.egl_flow.specs.Flow.{HasRisen, Gave, AtEnd};
 
 use crate::reading::{Failed, Source};
 use crate::writing::Sink;
@@ -22,6 +24,34 @@ impl<R: Read + Drop> StdSource<R> {
     {
         StdSource { reader, faults: 0 }
     }
+
+    /// Takes some bytes as `take` does, and gives None where the reader says that none are there yet: then it has taken none, and that is no fault.
+    #[tactic(auto, using(crate::proofs::StreamLaws::kept_none, crate::proofs::StreamLaws::kept_more, crate::proofs::StreamLaws::gave_behind))]
+    pub fn take_ready(&mut self, into: &mut [u8]) -> Result<Option<usize>, Failed>
+        ensures within { IfOk result (λ taken. IfSome taken (λ n. n ≤ length into.old)) }
+        ensures moved { IfOk result (λ taken. IfSome taken (λ n. Gave (R.remaining self.old.reader) (take n into.new) (R.remaining self.new.reader))) }
+        ensures ended { IfOk result (λ taken. IfSome taken (λ n. n ≡ 0 → 0 < length into.old → AtEnd (R.remaining self.new.reader))) }
+        ensures kept { IfOk result (λ taken. IfNone taken (Keeps (R.remaining self.old.reader) (R.remaining self.new.reader))) }
+        ensures steady { OnOk result (self.new.faults ≡ self.old.faults) }
+        ensures failed { OnErr result (HasRisen self.old.faults self.new.faults) }
+        ensures count { self.old.faults ≤ self.new.faults }
+    {
+        'tries: for _ in 0..TRIES {
+            match self.reader.read(into) {
+                Ok(n) => return Ok(Some(n)),
+                Err(error) => {
+                    if error.kind() == ErrorKind::WouldBlock {
+                        return Ok(None);
+                    }
+                    if error.kind() != ErrorKind::Interrupted {
+                        break;
+                    }
+                }
+            }
+        }
+        self.faults = self.faults.saturating_add(1);
+        Err(Failed)
+    }
 }
 
 impl<R: Read + Drop> Source for StdSource<R> {
@@ -29,17 +59,10 @@ impl<R: Read + Drop> Source for StdSource<R> {
 
     ghost faults = { λ s. s.faults };
 
-    #[tactic(auto, using(crate::proofs::StreamLaws::kept_none, crate::proofs::StreamLaws::kept_more, crate::proofs::StreamLaws::gave_behind))]
+    /// Input that isn't there yet counts as a fault here: `Waiting` waits for it.
     fn take(&mut self, into: &mut [u8]) -> Result<usize, Failed> {
-        'tries: for _ in 0..TRIES {
-            match self.reader.read(into) {
-                Ok(n) => return Ok(n),
-                Err(error) => {
-                    if error.kind() != ErrorKind::Interrupted {
-                        break;
-                    }
-                }
-            }
+        if let Some(n) = self.take_ready(into)? {
+            return Ok(n);
         }
         self.faults = self.faults.saturating_add(1);
         Err(Failed)

@@ -6,11 +6,10 @@ ghost use Rattle.framebuffer_objects.specs.InternalFormats.{is_internal};
 use crate::pictures::seen;
 use egl_names::codes::{
     GL_COLOR_ATTACHMENT0_OES, GL_DEPTH_ATTACHMENT_OES, GL_DEPTH_COMPONENT16_OES,
-    GL_FRAMEBUFFER_COMPLETE_OES,
-    GL_FRAMEBUFFER_INCOMPLETE_ATTACHMENT_OES, GL_FRAMEBUFFER_INCOMPLETE_DIMENSIONS_OES,
-    GL_FRAMEBUFFER_INCOMPLETE_MISSING_ATTACHMENT_OES, GL_FRAMEBUFFER_UNSUPPORTED_OES,
-    GL_FRAMEBUFFER_OES, GL_RGB5_A1_OES, GL_RGB565_OES, GL_RGBA4_OES, GL_RGBA8_OES,
-    GL_STENCIL_ATTACHMENT_OES, GL_STENCIL_INDEX8_OES,
+    GL_FRAMEBUFFER_COMPLETE_OES, GL_FRAMEBUFFER_INCOMPLETE_ATTACHMENT_OES,
+    GL_FRAMEBUFFER_INCOMPLETE_DIMENSIONS_OES, GL_FRAMEBUFFER_INCOMPLETE_MISSING_ATTACHMENT_OES,
+    GL_FRAMEBUFFER_OES, GL_FRAMEBUFFER_UNSUPPORTED_OES, GL_RGB5_A1_OES, GL_RGB565_OES,
+    GL_RGBA4_OES, GL_RGBA8_OES, GL_STENCIL_ATTACHMENT_OES, GL_STENCIL_INDEX8_OES,
 };
 use framebuffer_objects::{
     Attached, Framebuffer, Part, Point, Renderbuffer, attachment_point, is_attachment,
@@ -467,6 +466,9 @@ fn a_target_is_for_the_colour(rt: HostRuntime) {
     renderbuffer.target(3, 2);
     for point in POINTS.iter() {
         let is_colour = *point == Point::Color;
-        assert!(rt; renderbuffer.part(*point).attachable == is_colour, "{point:?}");
+        assert!(rt;
+            renderbuffer.part(*point).attachable == is_colour,
+            "{point:?}"
+        );
     }
 }

@@ -99,7 +99,9 @@ fn put_framebuffer(alloc: Global, out: &mut String, k: u64) -> Result<()> {
     put_lines(out, &STORAGE)?;
     out.push_str(&format!(in alloc; "0 glBindFramebufferOES GL_FRAMEBUFFER_OES {framebuffer}\n")?)?;
     put_lines(out, &ATTACHED)?;
-    out.push_str(&format!(in alloc; "0 $i{k} = eglCreateImage $d $e{k} EGL_GL_RENDERBUFFER 1 []\n")?)?;
+    out.push_str(&format!(in alloc;
+        "0 $i{k} = eglCreateImage $d $e{k} EGL_GL_RENDERBUFFER 1 []\n"
+    )?)?;
     out.push_str(&format!(in alloc; "0 glEGLImageTargetTexture2DOES GL_TEXTURE_2D $i{k}\n")?)?;
     put_line(out, "glDeleteRenderbuffersOES [1]")?;
     out.push_str(&format!(in alloc; "0 eglDestroyImage $d $i{k}\n")?)?;

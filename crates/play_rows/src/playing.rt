@@ -3,11 +3,12 @@ use crate::examples::Example;
 use anyhow::{Result, anyhow};
 use egl_calls::{Bytes, Numbers, Text};
 use egl_cli::{OpenGate, top};
-use egl_flow::{MemorySink, MemorySource, StdSink, StdSource};
+use egl_flow::{MemorySink, MemorySource, StdSink, StdSource, Waiting};
 use std::alloc::Global;
 use std::rt::{Stdin, Stdout};
 use std::sync::Wait;
 use std::thread::Threads;
+use std::time::Clock;
 
 /// How many bytes an answer may have.
 const ROOM: u64 = 1_048_576;
@@ -58,14 +59,14 @@ fn answer<R: AllocGlobal + Threads + Wait + Sync>(
 }
 
 /// Does what the program does with the word `serial`, from standard input to standard output, and answers the exit status.
-pub fn play_stdin<R: AllocGlobal + Threads + Wait + Sync>(
+pub fn play_stdin<R: Clock + AllocGlobal + Threads + Wait + Sync>(
     rt: &R,
     input: Stdin,
     output: Stdout,
 ) -> Result<u8> {
     let alloc = rt.alloc();
     let words = words_of(alloc, Player::Serial.word())?;
-    let mut source = StdSource::new(input);
+    let mut source = Waiting::new(StdSource::new(input), rt);
     let mut sink = StdSink::new(output);
     Ok(top(rt, alloc, &words, &mut source, &mut sink, &OpenGate).number())
 }

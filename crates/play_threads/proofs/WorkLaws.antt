@@ -35,7 +35,6 @@ use Rattle.shared_driver.specs.Tokens.{AreOthers, Goes, Halts, Owns, Token, mine
 use Rattle.driver_core.specs.Machine.{Machine, outs}
 use Rattle.model_laws.specs.Frame.{AreOf}
 use Rattle.model_laws.specs.Hidden.{hide}
-use Rattle.std.specs.Option.{option_map}
 use Rattle.trace_session.specs.Facts.{HasFacts}
 use Rattle.play_threads.proofs.HiddenLaws.{pick_same, ready_hidden}
 use Rattle.play_threads.specs.declared.pickers.LinePicker.{LinePicker}

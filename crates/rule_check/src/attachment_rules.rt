@@ -1,4 +1,5 @@
 //! Calls on framebuffers, and those that take over an image's pixels: tables of their numbers and of what is there, and the error that comes first.
+use crate::contexts::in_range;
 use call_rules::{GlFacts, gl_refusal};
 use egl_calls::{Call, GlError, GlKind, Kind, Numbers};
 use egl_names::codes::{
@@ -150,16 +151,30 @@ static TARGET_RENDERBUFFER: [Row; 6] = [
     ([RENDERBUFFER, 5, 0, 0, 0], &[Image, Bound], OPERATION),
 ];
 
+/// A call with five numbers.
+fn call_of(alloc: Global, kind: GlKind, numbers: [i64; 5]) -> Call {
+    let [a, b, c, d, e] = numbers;
+    Call {
+        kind: Kind::Gl(kind),
+        args: [
+            in_range(a),
+            in_range(b),
+            in_range(c),
+            in_range(d),
+            in_range(e),
+            0,
+            0,
+            0,
+        ],
+        list: Numbers::new(alloc),
+        bytes: None,
+    }
+}
+
 /// Each row's error is answered by the call.
 fn expect_rows(rt: &impl Abort, alloc: Global, kind: GlKind, rows: &[Row]) {
     for (numbers, list, error) in rows {
-        let [a, b, c, d, e] = *numbers;
-        let call = Call {
-            kind: Kind::Gl(kind),
-            args: [a, b, c, d, e, 0, 0, 0],
-            list: Numbers::new(alloc),
-            bytes: None,
-        };
+        let call = call_of(alloc, kind, *numbers);
         assert_eq!(rt; gl_refusal(&call, &facts_of(list)), *error);
     }
 }

@@ -29,7 +29,8 @@ const BAD_VALUE: Outcome = Outcome::Gl(GlError::InvalidValue);
 /// A call, its first four numbers, how it comes out, and its value.
 type Row = (GlKind, [i64; 4], Outcome, i64);
 
-fn in_range(number: i64) -> i64
+/// A number that a call may have: 0 for any other.
+pub(crate) fn in_range(number: i64) -> i64
     ensures { IsNumber result }
 {
     if number < -2_147_483_648 || number > 4_294_967_295 {

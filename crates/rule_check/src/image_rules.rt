@@ -112,7 +112,13 @@ fn calls_that_make_and_end_images_answer_the_first_error(rt: HostRuntime) {
         expect_rows(&rt, alloc, EglKind::CreateImage, source, &CREATE_IMAGE);
     }
     for source in [NEITHER, 0, u32::MAX] {
-        expect_rows(&rt, alloc, EglKind::CreateImage, source, &CREATE_OTHER_IMAGE);
+        expect_rows(
+            &rt,
+            alloc,
+            EglKind::CreateImage,
+            source,
+            &CREATE_OTHER_IMAGE,
+        );
     }
     expect_rows(&rt, alloc, EglKind::DestroyImage, NEITHER, &DESTROY_IMAGE);
 }

@@ -16,7 +16,7 @@ use egl_names::codes::{
     GL_ELEMENT_ARRAY_BUFFER_BINDING, GL_FRAMEBUFFER_BINDING_OES, GL_RENDERBUFFER_BINDING_OES,
     GL_TEXTURE_BINDING_2D,
 };
-use framebuffer_objects::{Attached, Framebuffer, Point, Renderbuffer};
+use framebuffer_objects::{Framebuffer, Point, Renderbuffer};
 use pixel_formats::Format;
 use pixel_rows::{Image, Rect};
 use share_group::{Group, NameKind};
@@ -328,39 +328,34 @@ fn an_image_has_its_pixels(rt: HostRuntime) {
     expect_object(&rt, rt.alloc(), image, (ObjectKind::Image, 0), &[9]);
 }
 
-/// A slot of a framebuffer, its point, and what was attached there under which name.
-static SLOTS: [(u64, Point, Option<u64>); 3] = [
-    (0, Point::Color, Some(8)),
-    (1, Point::Depth, None),
-    (2, Point::Stencil, Some(9)),
+/// A slot of a framebuffer, what is attached there, and all that is attached once another object is, or nothing.
+static SLOTS: [(u64, Option<u64>, &[u64], &[u64]); 3] = [
+    (0, Some(8), &[5, 9], &[9]),
+    (1, None, &[8, 5, 9], &[8, 9]),
+    (2, Some(9), &[8, 5], &[8]),
 ];
 
-/// Sets a slot of a framebuffer, and answers what it had and what is attached there then.
-fn linked(
+/// Sets a slot of a framebuffer, which answers what it had and leaves these references.
+fn expect_linked(
     rt: &impl Abort,
+    alloc: Global,
     slot: u64,
-    point: Point,
     target: Option<u64>,
-) -> (Option<u64>, Option<Attached>) {
+    former: Option<u64>,
+    edges: &[u64],
+) {
     assert!(rt; slot < 3);
     let mut object = Object::Framebuffer(framebuffer());
-    let former = object.link(slot, target).expect(rt, "no memory is wanted");
-    match object {
-        Object::Framebuffer(framebuffer) => (former, framebuffer.attached(point)),
-        _ => (former, None),
-    }
+    let had = object.link(slot, target).expect(rt, "no memory is wanted");
+    assert_eq!(rt; had, former);
+    assert_eq!(rt; references(rt, alloc, &object).as_slice(), edges);
 }
 
 #[test]
 fn a_slot_of_a_framebuffer_is_a_point(rt: HostRuntime) {
-    let unnamed = Attached {
-        texture: false,
-        name: 0,
-        object: 5,
-    };
-    for (slot, point, former) in &SLOTS {
-        assert_eq!(rt; linked(&rt, *slot, *point, Some(5)), (*former, Some(unnamed)));
-        assert_eq!(rt; linked(&rt, *slot, *point, None), (*former, None));
+    for (slot, former, linked, cleared) in &SLOTS {
+        expect_linked(&rt, rt.alloc(), *slot, Some(5), *former, linked);
+        expect_linked(&rt, rt.alloc(), *slot, None, *former, cleared);
     }
 }
 

@@ -1,13 +1,16 @@
 //! The adapters over std, and reading and writing where there is enough memory.
 use egl_calls::{Bytes, Numbers};
 use egl_flow::{
-    Failed, MemorySink, MemorySource, ReadError, Sink, Source, StdSink, StdSource, WriteFault,
-    read_all, write_all,
+    Failed, MemorySink, MemorySource, ReadError, Sink, Source, StdSink, StdSource, Waiting,
+    WriteFault, read_all, write_all,
 };
 use std::alloc::Global;
 use std::io;
 use std::io::{ErrorKind, Read, Write};
 use std::process::Abort;
+use std::sync::atomic::AtomicU64;
+use std::sync::atomic::Ordering::SeqCst;
+use std::time::{Clock, Duration};
 
 /// Gives one byte a call, is broken off by a signal at its first call, and fails at the third.
 #[derive(Drop)]
@@ -61,6 +64,80 @@ fn writers_that_take_nothing_fail(rt: HostRuntime) {
     assert_eq!(rt; sink.give(b"ab"), Ok(1));
     assert_eq!(rt; sink.give(b"b"), Err(Failed));
     assert_eq!(rt; sink.give(b""), Ok(0));
+}
+
+/// Input that comes late: at every third call it gives the next byte of a text, or its end, and else there is none yet.
+#[derive(Drop)]
+struct LateInput {
+    calls: u64,
+    text: &'static [u8],
+}
+
+impl Read for LateInput {
+    fn read(&mut self, buf: &mut [u8]) -> io::Result<usize> {
+        self.calls = self.calls.saturating_add(1);
+        if self.calls % 3 != 0 {
+            return Err(io::Error::from(ErrorKind::WouldBlock));
+        }
+        let n = buf.len().min(self.text.len()).min(1);
+        buf[..n].copy_from_slice(&self.text[..n]);
+        self.text = &self.text[n..];
+        Ok(n)
+    }
+}
+
+fn late(text: &'static [u8]) -> StdSource<LateInput> {
+    StdSource::new(LateInput { calls: 0, text })
+}
+
+/// A clock that counts the naps.
+#[derive(Drop)]
+struct Naps {
+    count: AtomicU64,
+}
+
+impl Clock for Naps {
+    fn monotonic(&self) -> io::Result<Duration> {
+        Ok(Duration::ZERO)
+    }
+
+    fn since_1970(&self) -> io::Result<Duration> {
+        Ok(Duration::ZERO)
+    }
+
+    fn sleep(&self, _duration: Duration) {
+        self.count.fetch_add(1, SeqCst);
+    }
+}
+
+#[test]
+fn input_that_comes_late_is_waited_for(rt: HostRuntime) {
+    let clock = Naps {
+        count: AtomicU64::new(0),
+    };
+    let mut source = Waiting::new(late(b"abc"), &clock);
+    let all = read_all(rt.alloc(), &mut source, 3).expect(&rt, "memory is ample");
+    assert_eq!(rt; all.as_slice(), b"abc".as_slice());
+    // Two for each byte, and two for the end.
+    assert_eq!(rt; clock.count.load(SeqCst), 8);
+}
+
+#[test]
+fn nobody_waits_without_waiting(rt: HostRuntime) {
+    let mut buffer = [0; 4];
+    let mut source = late(b"x");
+    assert_eq!(rt; source.take_ready(&mut buffer), Ok(None));
+    assert_eq!(rt; source.take(&mut buffer), Err(Failed));
+    assert_eq!(rt; source.take_ready(&mut buffer), Ok(Some(1)));
+    assert_eq!(rt; buffer[0], b'x');
+}
+
+#[test]
+fn who_waits_fails_where_the_reader_fails(rt: HostRuntime) {
+    let mut source = Waiting::new(StdSource::new(Stutters { calls: 0 }), &rt);
+    let mut buffer = [0; 4];
+    assert_eq!(rt; source.take(&mut buffer), Ok(1));
+    assert_eq!(rt; source.take(&mut buffer), Err(Failed));
 }
 
 fn bytes(rt: &impl Abort, alloc: Global, bytes: &[u8]) -> Bytes {

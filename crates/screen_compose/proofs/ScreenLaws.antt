@@ -1,16 +1,19 @@
 -- A screen of which nothing is shown yet, and what its sides are.
-use Rattle.std.proofs.Common.{◌≡◌, ℕ, ◌<◌, ◌≤◌, List, [], ◌∷◌, true, ◌&&◌, map, length, replicate, refl, sym, ap, ◌∙◌, subst, arith}
+use Rattle.std.proofs.Common.{◌≡◌, ℕ, ◌<◌, ◌≤◌, ◌*◌, List, [], ◌∷◌, true, ◌&&◌, map, length, replicate, refl, sym, ap, ◌∙◌, subst, arith}
 use Rattle.std.specs.Prelude.{nat_le}
-use Rattle.std.specs.List.{range_with_len}
+use Rattle.std.specs.List.{flat_map, range_with_len}
+use Rattle.std.proofs.Math.Nat.{mul-le-mul}
 use Rattle.std.proofs.lemmas.Bool.Decides.{nat_tests}
 use Rattle.std.proofs.lemmas.List.{ext_get_or, get_or-replicate, length-replicate}
+use Rattle.std.proofs.lemmas.List.Folds.{flat_map-map}
 use Rattle.std.proofs.lemmas.List.FromFn.{get_or-map-range_with_len, length-map-range_with_len}
 use Rattle.pixel_formats.specs.declared.pixels.Pixel.{Pixel}
+use Rattle.pixel_rows.proofs.LawsHold.{length-flat}
 use Rattle.pixel_rows.specs.Images.{no_pixel}
 use Rattle.screen_compose.specs.Composing.{black, composed, composed_row, covered_by}
-use Rattle.screen_compose.specs.Fronts.{FrontsValue, bare_layer, no_fronts, placed_in}
+use Rattle.screen_compose.specs.Fronts.{FrontsValue, LayerValue, bare_layer, no_fronts, placed_in}
 use Rattle.screen_compose.specs.Placing.{are_placed, is_side, screen_ok}
-use Rattle.screen_compose.specs.Screens.{Shows}
+use Rattle.screen_compose.specs.Screens.{Shows, pixel_bytes, row_bytes, picture_bytes}
 use Rattle.screen_compose.specs.declared.placed.Placed.{Placed}
 use Rattle.screen_compose.proofs.Changing.{both, length-composed}
 
@@ -66,3 +69,20 @@ rows_long w h placed fronts rows s = ap length s.shown ∙ length-composed front
 
 pub few_rows : (w h : ℕ) (placed : List Placed) (fronts : FrontsValue) (rows : List (List Pixel)) → Shows w h placed fronts rows → length rows ≤ 2048
 few_rows w h placed fronts rows s = omega (arith, rows_long w h placed fronts rows s, s.high)
+
+-- ---- A picture's bytes: four a pixel.
+row_long : (layers : List LayerValue) (w y : ℕ) → length (row_bytes (composed_row layers w y)) ≡ w * 4
+unfolding composed_row
+row_long layers w y =
+    let pixel : ℕ → Pixel = λ x. covered_by layers x y black in
+    ap (λ (bs : List ℕ). length bs) (flat_map-map pixel_bytes pixel (range_with_len 0 w)) ∙ length-flat (λ x. pixel_bytes (pixel x)) 4 w 0 (λ x. refl)
+
+picture_long : (layers : List LayerValue) (w h : ℕ) → length (picture_bytes (composed layers w h)) ≡ h * (w * 4)
+unfolding composed picture_bytes
+picture_long layers w h =
+    ap (λ (bs : List ℕ). length bs) (flat_map-map row_bytes (composed_row layers w) (range_with_len 0 h)) ∙ length-flat (λ y. row_bytes (composed_row layers w y)) (w * 4) h 0 (row_long layers w)
+
+pub few_bytes : (w h : ℕ) (placed : List Placed) (fronts : FrontsValue) (rows : List (List Pixel)) → Shows w h placed fronts rows → length (picture_bytes (composed fronts.layers w h)) ≤ 16777216
+few_bytes w h placed fronts rows s =
+    let four : w * 4 ≤ 8192 = omega (arith, s.wide) in
+    omega (arith, picture_long fronts.layers w h, mul-le-mul s.high four)

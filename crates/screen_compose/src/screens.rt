@@ -1,5 +1,5 @@
 //! A screen, and frames of it.
-ghost use Rattle.std.specs.Prelude.{◌≡◌, ◌+◌, ◌<◌, ◌≤◌, ◌++◌, true, replicate, IfOk, OnOk};
+ghost use Rattle.std.specs.Prelude.{◌≡◌, ◌+◌, ◌<◌, ◌≤◌, ◌++◌, true, length, replicate, IfOk, OnOk};
 ghost use Rattle.screen_compose.specs.Changes.{changed_rows};
 ghost use Rattle.screen_compose.specs.Composing.{black, composed};
 ghost use Rattle.screen_compose.specs.Fronts.{AreOf, no_fronts};
@@ -115,9 +115,17 @@ impl Screen {
         changed
     }
 
+    /// The windows that are placed on it, the lowest first.
+    pub fn placed(&self) -> &[Placed]
+        ensures { result.now ≡ self.now.placed }
+    {
+        &self.placed
+    }
+
     /// What the screen shows, as a frame of this number.
     pub fn frame(&self, alloc: Global, number: u64) -> Result<Frame, NoMemory>
-        ensures { IfOk result (λ f. f ≡ record { number = number; at = self.now.fronts.at; w = self.now.width; h = self.now.height; rows = values.screen_bytes self.now }) }
+        ensures frame { IfOk result (λ f. f ≡ record { number = number; at = self.now.fronts.at; w = self.now.width; h = self.now.height; rows = values.screen_bytes self.now }) }
+        ensures few { length (values.screen_bytes self.now) ≤ 16777216 }
     {
         Ok(Frame {
             number,

@@ -1,5 +1,5 @@
 //! What a call's numbers say, and which calls are refused.
-ghost use Rattle.std.specs.Prelude.{◌≡◌, ◌<◌, ◌==◌, pos, true};
+ghost use Rattle.std.specs.Prelude.{◌≡◌, ◌<◌, ◌==◌, pos};
 ghost use Rattle.egl_model.specs.State.{api_code};
 ghost use Rattle.egl_names.specs.declared.codes.TheConstants.{EGL_DRAW as ADraw};
 ghost use Rattle.egl_calls.specs.Ranges.{IsNumber};

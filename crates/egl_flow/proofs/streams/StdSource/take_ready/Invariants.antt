@@ -1,6 +1,6 @@
 use Rattle.std.proofs.Common.{◌≡◌}
 use Rattle.std.specs.Io.KnownBytes.{Keeps}
-use Rattle.egl_flow.proofs.streams.StdSourceSource.take.Given as goal
+use Rattle.egl_flow.proofs.streams.StdSource.take_ready.Given as goal
 
 abbrev pub invariant-tries : goal.invariant-tries
 invariant-tries g l = record {
