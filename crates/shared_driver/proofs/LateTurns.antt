@@ -33,7 +33,7 @@ use Rattle.shared_driver.specs.Picks.{IsDone}
 use Rattle.shared_driver.specs.Turns.{Begun, Ends, EndsLate, EndsWith, Holds, IsTurn, standing_for}
 use Rattle.shared_driver.proofs.Histories.{ready_replay, replay_more}
 use Rattle.shared_driver.proofs.Picking.{done, done_made}
-use Rattle.shared_driver.proofs.Rooms as rooms
+use Rattle.shared_driver.proofs.Rooms.{is_out, out_again}
 use Rattle.shared_driver.proofs.Standing.{IsRoomed, has_part, stepped_is, turn_more}
 use Rattle.shared_driver.proofs.Turning.{adds_ends, held_again, may_end, returned}
 
@@ -146,7 +146,7 @@ GoesOut n y p z = (s : State) → IsReady s n → y.driver.state ≡ hide (outs 
 -- the part of the thread is out then
 gone : (f y z : Core) (n : ℕ) (own : List Entry) → IsTurn f y n own → 0 < get_or y.rooms.items n 0 → z.driver.away ≡ set y.driver.away n true → IsOut n (outs z.driver.away)
 gone f y z n own k room away =
-    among_outs z.driver.away n (ap (λ (l : List Bool). get_or l n false) (away ∙ ap (λ (l : List Bool). set l n true) k.away ∙ rooms.out_again y.rooms.items n k.number room) ∙ rooms.is_out y.rooms.items n k.number room)
+    among_outs z.driver.away n (ap (λ (l : List Bool). get_or l n false) (away ∙ ap (λ (l : List Bool). set l n true) k.away ∙ out_again y.rooms.items n k.number room) ∙ is_out y.rooms.items n k.number room)
 
 -- nobody sees whether it has drawn
 unseen_end : (f y z : Core) (u : Holding) (p : Private) (d : Drawing) → (k : EndsLate f u y d) → GoesOut u.number y p z → z.driver.away ≡ set y.driver.away u.number true
