@@ -13,7 +13,6 @@ use Rattle.turn_lock.specs.declared.view.View.{View}
 use Rattle.shared_driver.specs.declared.cores.Core.{Core}
 use Rattle.shared_driver.specs.Cores.{origin, room_for}
 use Rattle.shared_driver.specs.Picks.{picked_entries}
-use Rattle.shared_driver.specs.Turns.{IsTurn}
 use Rattle.shared_driver.proofs.Histories.{of_thread}
 use Rattle.shared_driver.proofs.Owned.{halted_more, halted_same, mine_goes, own_append}
 use Rattle.shared_driver.proofs.Standing.{has_part}

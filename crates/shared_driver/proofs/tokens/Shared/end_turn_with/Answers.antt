@@ -20,7 +20,7 @@ draw_left-requires c =
     let y = c.value.result.now in
     let left = c.args.drawing.now in
     let k = lent_with f u c.args.held.value y left c.value.ensures.value c.requires.ends in
-    owned_with f u y c.part_out-part.new.self c.part_out-part.result left k c.part_out-part.ensures.outside
+    record { owned = owned_with f u y c.part_out-part.new.self c.part_out-part.result left k c.part_out-part.ensures.outside }
 
 pub returns-clause-holds : goal.returns-clause-holds
 returns-clause-holds c =
