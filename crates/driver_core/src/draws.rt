@@ -48,7 +48,7 @@ fn fixed(kind: GlKind, number: i64) -> i64
 }
 
 /// Left, bottom, width and height of a draw in 16.16 fixed point.
-fn drawn_rect(kind: GlKind, call: &Call) -> Rect
+pub(crate) fn drawn_rect(kind: GlKind, call: &Call) -> Rect
     requires kind { call.now.kind ≡ GlCall kind }
     requires some { draws_nothing call.now ≡ false }
     ensures value { result ≡ drawn_rect kind call.now }
@@ -76,7 +76,7 @@ impl Driver {
     }
 
     /// The same, where GL_TEXTURE_2D is enabled.
-    fn sample_if_textured(
+    pub(crate) fn sample_if_textured(
         &self,
         context: u64,
         part: &ContextPart,

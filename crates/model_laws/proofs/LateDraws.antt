@@ -1,5 +1,5 @@
 -- A draw that comes late changes only what is out.
-use Rattle.std.proofs.Common.{◌≡◌, ◌≢◌, ◌==◌, ℕ, pos, Bool, true, false, cond, not, List, [], ◌∷◌, inl, inr, refl, sym, ap, ◌∙◌, Option, None, Some, is_some}
+use Rattle.std.proofs.Common.{◌≡◌, ◌≢◌, ◌==◌, ◌&&◌, ℕ, pos, Bool, true, false, cond, not, List, [], ◌∷◌, inl, inr, refl, sym, ap, ◌∙◌, Option, None, Some, is_some}
 use Rattle.std.specs.Option.{option_map}
 use Rattle.std.proofs.lemmas.Bool.{and_parts, cases_eq}
 use Rattle.std.proofs.lemmas.Option.{none-some}
@@ -19,29 +19,30 @@ use Rattle.driver_objects.specs.Storages.{drawn_image, drawn_storage}
 use Rattle.egl_model.specs.Currents.{current_context, draw_storage, part_of_context}
 use Rattle.egl_model.specs.Draws.{draw_into, drawn, drawn_rect, sampler}
 use Rattle.egl_model.specs.Effects.{valued}
-use Rattle.egl_model.specs.Framebuffers.{BoundFramebuffer}
-use Rattle.egl_model.specs.GlEffects.{gl_effect}
+use Rattle.egl_model.specs.Framebuffers.{BoundFramebuffer, bound_framebuffer, is_complete}
 use Rattle.egl_model.specs.GlFacts.{framebuffer_facts, gl_refusal}
-use Rattle.egl_model.specs.Parts.{Kept, Own, Private, at_place, kept_of, own_of, part_in, part_of, places, put_own}
+use Rattle.egl_model.specs.Parts.{Kept, Own, Private, at_place, kept_of, own_of, part_in, part_of, places, put_at, put_own}
 use Rattle.egl_model.specs.State.{State, record_of}
-use Rattle.egl_model.specs.Step.{Stepped, after_gl_rules, bare, gl_step, gl_step_on, step, step_by, step_in}
+use Rattle.egl_model.specs.Step.{Stepped, after_gl_rules, bare, gl_step, gl_step_on, note_error, step, step_by, step_in}
 use Rattle.egl_model.specs.Sweep.{sweep}
 use Rattle.model_laws.specs.Frame.{IsNone, IsReady}
 use Rattle.model_laws.specs.Hidden.{hide, nothing}
 use Rattle.model_laws.specs.Late.{IsOut, drawing, drawn_own, drawn_part, drawn_state, draws_to_surface, is_draw, is_late, late_rect, late_refusal, late_sampler, late_step, sampled_by, texture_sampler}
 use Rattle.model_laws.specs.Local.{is_unbound}
 use Rattle.model_laws.specs.Shapes.{shapes}
-use Rattle.model_laws.specs.Sound.{IsSound, IsWhole}
+use Rattle.model_laws.specs.Sound.{IsWhole}
 use Rattle.model_laws.proofs.Blinds.{blind-current}
 use Rattle.model_laws.proofs.DrawCalls.{blind-sampler}
 use Rattle.model_laws.proofs.Framing.{has_own, kept-put, own-put}
 use Rattle.model_laws.proofs.Keeps.{Blind}
-use Rattle.model_laws.proofs.Locals.{HasOwn, bound-local, complete-local, image_as_put, nothing_to_draw_on, part_as_put, put_swept}
+use Rattle.model_laws.proofs.Locals.{bound-local, complete-local, image_as_put, nothing_to_draw_on, part_as_put, sweep_clean}
 use Rattle.model_laws.proofs.OtherParts.{HasNoMore, no_more}
 use Rattle.model_laws.proofs.Puts.{put-put}
 use Rattle.model_laws.proofs.PutWhole.{puts_apart, whole-put}
 use Rattle.model_laws.proofs.Returns.{own-hide}
-use Rattle.model_laws.proofs.StepPut.{answered, whole-hide}
+use Rattle.model_laws.proofs.PutMoves.{sweep-put}
+use Rattle.model_laws.proofs.StepLaws.{gl_refused}
+use Rattle.model_laws.proofs.StepPut.{answered, hide-step, whole-hide}
 
 -- ---- What is put where a part is out.
 -- where other parts are out, what is put for t may be put before them
@@ -126,36 +127,24 @@ abbrev step_with : State → ℕ → Rect → Option PartValue → Option ℕ �
 step_with s t r x o (Some e) = record { reply = bare (RefusedGl e); state = put_own s t (record (own_of s t) { context = option_map (noted e) x }) }
 step_with s t r x o None = record { reply = bare Done; state = drawn_state s t (drawing x (sampled_by x (texture_sampler s o r)) r) }
 
-by_refusal : (s : State) (t n : ℕ) (q : PartValue) (k : GlKind) (c : CallValue) (o : Option GlError) → IsSound s → current_context s t ≡ Some n → part_of_context s n ≡ Some q → is_unbound (Some q) ≡ true →
+by_refusal : (s : State) (t n : ℕ) (q : PartValue) (k : GlKind) (c : CallValue) (o : Option GlError) → sweep s ≡ s → current_context s t ≡ Some n → part_of_context s n ≡ Some q → is_unbound (Some q) ≡ true →
     after_gl_rules s n o (valued (pos 0) (drawn s t n k c)) ≡ step_with s t (drawn_rect k c) (Some q) (Some n) o
-by_refusal s t n q k c (Some e) l h i u = answered _ _ _ (part_as_put s t n (noted e) q h i)
-by_refusal s t n q k c None l h i u = answered _ _ _ (ap sweep (drawn-late s t n q k c h i u) ∙ put_swept s t _ l)
+by_refusal s t n q k c (Some e) clean h i u = answered _ _ _ (part_as_put s t n (noted e) q h i)
+by_refusal s t n q k c None clean h i u =
+    let x = drawn_own (drawn_image q (cond q.is_texture_enabled (sampler s n (drawn_rect k c)) None) (drawn_rect k c)) (own_of s t) in
+    answered _ _ _ (ap sweep (drawn-late s t n q k c h i u) ∙ sweep-put (places s t) t x s ∙ ap (put_at (places s t) t x) clean)
 
 not_drawn : {A : Type 0} → false ≡ true → A
 not_drawn h = absurd (let e : false ≡ true = h in cc)
 
-by_gl_kind : (s : State) (t n : ℕ) (q : PartValue) (k : GlKind) (c : CallValue) → IsSound s → HasOwn s t → current_context s t ≡ Some n → part_of_context s n ≡ Some q → is_unbound (Some q) ≡ true → is_draw (Gl k) ≡ true →
-    gl_step_on s t (Some n) k c ≡ step_with s t (drawn_rect k c) (Some q) (Some n) (late_refusal (part_of s t) c)
-unfolding gl_refusal
-by_gl_kind s t n q DrawTexi c l o h i u d =
-    ap (λ z. after_gl_rules s n (gl_rules.gl_refusal c (framebuffer_facts z)) (gl_effect s t n DrawTexi c)) (complete-local s t n q o h i u)
-    ∙ by_refusal s t n q DrawTexi c (late_refusal (part_of s t) c) l h i u
-by_gl_kind s t n q DrawTexx c l o h i u d =
-    ap (λ z. after_gl_rules s n (gl_rules.gl_refusal c (framebuffer_facts z)) (gl_effect s t n DrawTexx c)) (complete-local s t n q o h i u)
-    ∙ by_refusal s t n q DrawTexx c (late_refusal (part_of s t) c) l h i u
-by_gl_kind s t n q k c l o h i u d = not_drawn d
-
-by_kind : (s : State) (t n : ℕ) (q : PartValue) (k : Kind) (c : CallValue) → IsSound s → HasOwn s t → current_context s t ≡ Some n → part_of_context s n ≡ Some q → is_unbound (Some q) ≡ true → is_draw k ≡ true →
-    step_by s t k c ≡ step_with s t (late_rect k c) (Some q) (Some n) (late_refusal (part_of s t) c)
+by_gl_kind : (s : State) (t n : ℕ) (q : PartValue) (k : GlKind) (c : CallValue) → sweep s ≡ s → current_context s t ≡ Some n → part_of_context s n ≡ Some q → is_unbound (Some q) ≡ true → is_draw (Gl k) ≡ true →
+    gl_step s t k c ≡ step_with s t (drawn_rect k c) (Some q) (Some n) (gl_refusal s t n k c)
 unfolding gl_step
-by_kind s t n q (Gl k) c l o h i u d = ap (λ o. gl_step_on s t o k c) h ∙ by_gl_kind s t n q k c l o h i u d
-by_kind s t n q k c l o h i u d = not_drawn d
+by_gl_kind s t n q DrawTexi c clean h i u d = ap (λ o. gl_step_on s t o DrawTexi c) h ∙ by_refusal s t n q DrawTexi c (gl_refusal s t n DrawTexi c) clean h i u
+by_gl_kind s t n q DrawTexx c clean h i u d = ap (λ o. gl_step_on s t o DrawTexx c) h ∙ by_refusal s t n q DrawTexx c (gl_refusal s t n DrawTexx c) clean h i u
+by_gl_kind s t n q k c clean h i u d = not_drawn d
 
--- a thread that doesn't wait
-not_waiting : (s : State) (t : ℕ) (c : CallValue) (o : Option ℕ) → not (is_some o) ≡ true → step_in o s t c ≡ step_by s t c.kind c
-not_waiting s t c None h = refl
-not_waiting s t c (Some x) h = not_drawn h
-
+-- what the part says of the context and of what it has bound
 with_part : (x : Option PartValue) → draws_to_surface x ≡ true → is_some x ≡ true
 with_part None h = h
 with_part (Some q) h = refl
@@ -167,30 +156,102 @@ unbound q h = by (q.bound.framebuffer == 0) h
     by true h = refl
     by false h = h
 
-own_context : (s : State) (t n : ℕ) → current_context s t ≡ Some n → (own_of s t).context ≡ part_of_context s n
+pub own_context : (s : State) (t n : ℕ) → current_context s t ≡ Some n → (own_of s t).context ≡ part_of_context s n
 unfolding at_place
 own_context s t n h = ap (λ (p : Option ℕ). at_place part_in p s.objects) h
 
-pub late_as_step : (s : State) (t : ℕ) (c : CallValue) → IsReady s t → is_late (part_of s t) c ≡ true → step s t c ≡ late_step s t c (late_refusal (part_of s t) c)
+-- what a late draw is
+record IsLateKind (s : State) (t : ℕ) (c : CallValue) : Type 0 where
+  pub draw : is_draw c.kind ≡ true
+  pub goes : not (is_some (record_of s t).wait) ≡ true
+  pub surface : draws_to_surface (own_of s t).context ≡ true
+
+late_kind : (s : State) (t : ℕ) (c : CallValue) → is_late (part_of s t) c ≡ true → IsLateKind s t c
+late_kind s t c late =
+    let a = and_parts (is_draw c.kind) (not (part_of s t).kept.waits && draws_to_surface (own_of s t).context) late in
+    let b = and_parts (not (part_of s t).kept.waits) (draws_to_surface (own_of s t).context) a.1 in
+    record { draw = a.0; goes = b.0; surface = b.1 }
+
+not_waiting : (s : State) (t : ℕ) (c : CallValue) (o : Option ℕ) → not (is_some o) ≡ true → step_in o s t c ≡ step_by s t c.kind c
+not_waiting s t c None h = refl
+not_waiting s t c (Some x) h = not_drawn h
+
+pub late_has_context : (s : State) (t : ℕ) (c : CallValue) → is_late (part_of s t) c ≡ true → current_context s t ≡ None → ⊥
+unfolding at_place
+late_has_context s t c late none =
+    not_drawn (ap (λ (p : Option ℕ). draws_to_surface (at_place part_in p s.objects)) (sym none) ∙ (late_kind s t c late).surface)
+
+-- where a rule refuses it
+pub late_refused : (s : State) (t n : ℕ) (k : GlKind) (c : CallValue) (e : GlError) → c.kind ≡ Gl k → current_context s t ≡ Some n → is_late (part_of s t) c ≡ true → gl_refusal s t n k c ≡ Some e →
+    step s t c ≡ record { reply = bare (RefusedGl e); state = note_error s n e }
 unfolding step
-late_as_step s t c r late =
-    let parts = and_parts (is_draw c.kind) _ late in
-    let more = and_parts (not (part_of s t).kept.waits) (draws_to_surface (own_of s t).context) parts.1 in
-    not_waiting s t c (record_of s t).wait more.0 ∙ by_current (current_context s t) refl parts.0 more.1 ∙ as_late (late_refusal (part_of s t) c)
+late_refused s t n k c e kind h late refusal =
+    not_waiting s t c (record_of s t).wait (late_kind s t c late).goes ∙ ap (λ k. step_by s t k c) kind ∙ gl_refused s t n k c e h refusal
+
+-- in any state without litter
+pub late_by_refusal : (s : State) (t n : ℕ) (k : GlKind) (c : CallValue) → sweep s ≡ s → c.kind ≡ Gl k → current_context s t ≡ Some n → is_late (part_of s t) c ≡ true →
+    step s t c ≡ late_step s t c (gl_refusal s t n k c)
+unfolding step
+late_by_refusal s t n k c clean kind h late =
+    let l = late_kind s t c late in
+    not_waiting s t c (record_of s t).wait l.goes
+    ∙ ap (λ k. step_by s t k c) kind
+    ∙ by_part (own_of s t).context (sym (own_context s t n h)) (ap is_draw (sym kind) ∙ l.draw) l.surface
+    ∙ ap (λ (o : Option ℕ). step_with s t (drawn_rect k c) (own_of s t).context o (gl_refusal s t n k c)) (sym h)
+    ∙ ap (λ k'. step_with s t (late_rect k' c) (own_of s t).context (current_context s t) (gl_refusal s t n k c)) (sym kind)
+    ∙ as_late (gl_refusal s t n k c)
   where
     as_late : (e : Option GlError) → step_with s t (late_rect c.kind c) (own_of s t).context (current_context s t) e ≡ late_step s t c e
     as_late (Some e) = refl
     as_late None = refl
 
-    by_part : (n : ℕ) (x : Option PartValue) → current_context s t ≡ Some n → part_of_context s n ≡ x → is_draw c.kind ≡ true → draws_to_surface x ≡ true →
-        step_by s t c.kind c ≡ step_with s t (late_rect c.kind c) x (Some n) (late_refusal (part_of s t) c)
-    by_part n None h e d u = not_drawn u
-    by_part n (Some q) h e d u = by_kind s t n q c.kind c r.sound (has_own s t r) h e (unbound q u) d
+    by_part : (x : Option PartValue) → part_of_context s n ≡ x → is_draw (Gl k) ≡ true → draws_to_surface x ≡ true → gl_step s t k c ≡ step_with s t (drawn_rect k c) x (Some n) (gl_refusal s t n k c)
+    by_part None e d u = not_drawn u
+    by_part (Some q) e d u = by_gl_kind s t n q k c clean h e (unbound q u) d
 
-    by_current : (o : Option ℕ) → current_context s t ≡ o → is_draw c.kind ≡ true → draws_to_surface (own_of s t).context ≡ true →
-        step_by s t c.kind c ≡ step_with s t (late_rect c.kind c) (own_of s t).context (current_context s t) (late_refusal (part_of s t) c)
-    by_current None h d u = not_drawn (ap (λ (o : Option ℕ). is_some o) (sym h) ∙ sym (has_own s t r).part ∙ with_part (own_of s t).context u)
-    by_current (Some n) h d u =
-        let e = own_context s t n h in
-        by_part n (own_of s t).context h (sym e) d u
-        ∙ ap (λ (o : Option ℕ). step_with s t (late_rect c.kind c) (own_of s t).context o (late_refusal (part_of s t) c)) (sym h)
+-- in a sound one the part tells what refuses it
+refusal_by_part : (s : State) (t n : ℕ) (k : GlKind) (c : CallValue) → IsReady s t → current_context s t ≡ Some n → is_draw (Gl k) ≡ true → draws_to_surface (own_of s t).context ≡ true → gl_refusal s t n k c ≡ late_refusal (part_of s t) c
+unfolding gl_refusal
+refusal_by_part s t n k c r h d u = by k d
+  where
+    complete : (x : Option PartValue) → part_of_context s n ≡ x → draws_to_surface x ≡ true → is_complete (bound_framebuffer s t) ≡ is_some (own_of s t).draw
+    complete None e u = not_drawn u
+    complete (Some q) e u = complete-local s t n q (has_own s t r) h e (unbound q u)
+
+    by : (k : GlKind) → is_draw (Gl k) ≡ true → gl_refusal s t n k c ≡ late_refusal (part_of s t) c
+    by DrawTexi d = ap (λ z. gl_rules.gl_refusal c (framebuffer_facts z)) (complete (own_of s t).context (sym (own_context s t n h)) u)
+    by DrawTexx d = ap (λ z. gl_rules.gl_refusal c (framebuffer_facts z)) (complete (own_of s t).context (sym (own_context s t n h)) u)
+    by k d = not_drawn d
+
+pub late_as_step : (s : State) (t : ℕ) (c : CallValue) → IsReady s t → is_late (part_of s t) c ≡ true → step s t c ≡ late_step s t c (late_refusal (part_of s t) c)
+late_as_step s t c r late = let l = late_kind s t c late in by_current (current_context s t) refl c.kind refl l.draw l.surface
+  where
+    by_current : (o : Option ℕ) → current_context s t ≡ o → (k : Kind) → c.kind ≡ k → is_draw k ≡ true → draws_to_surface (own_of s t).context ≡ true → step s t c ≡ late_step s t c (late_refusal (part_of s t) c)
+    by_current None h k e d u = not_drawn (ap (λ (o : Option ℕ). is_some o) (sym h) ∙ sym (has_own s t r).part ∙ with_part (own_of s t).context u)
+    by_current (Some n) h (Gl k) e d u = late_by_refusal s t n k c (sweep_clean s r.sound.litter) e h late ∙ ap (late_step s t c) (refusal_by_part s t n k c r h d u)
+    by_current (Some n) h k e d u = not_drawn d
+
+-- ---- The same in a state from which other parts are out.
+kept-hide : (out : List ℕ) (s : State) (t : ℕ) → kept_of (hide out s) t ≡ kept_of s t
+kept-hide [] s t = refl
+kept-hide (u ∷ us) s t = kept-put (hide us s) (places (hide us s) u) u t nothing ∙ kept-hide us s t
+
+pub part-hide : (s : State) (t : ℕ) (out : List ℕ) → IsReady s t → IsNone t out → part_of (hide out s) t ≡ part_of s t
+part-hide s t out r i = ap (λ k. both k (own_of (hide out s) t)) (kept-hide out s t) ∙ ap (both (kept_of s t)) (own-hide s t out r.sound.whole r.thread i)
+
+refused_done : (e : GlError) → RefusedGl e ≡ Done → ⊥
+refused_done e h = absurd (let f : RefusedGl e ≡ Done = h in cc)
+
+-- a late draw that is done there is done with the same pixels
+pub late_outside : (s d : State) (t : ℕ) (c : CallValue) (out : List ℕ) → IsReady s t → IsNone t out → d ≡ hide out s → is_late (part_of d t) c ≡ true → (step d t c).reply.outcome ≡ Done →
+    (step s t c).state ≡ drawn_state s t (drawing (own_of s t).context (late_sampler d t c) (late_rect c.kind c))
+late_outside s d t c out r i hidden late done =
+    let same : part_of d t ≡ part_of s t = ap (λ (x : State). part_of x t) hidden ∙ part-hide s t out r i in
+    let is = late_as_step s t c r (ap (λ (x : Private). is_late x c) (sym same) ∙ late) in
+    let answer : (step s t c).reply.outcome ≡ Done = ap (λ (x : Stepped). x.reply.outcome) (sym (ap (λ (x : State). step x t c) hidden ∙ hide-step out s t c r.sound.whole i)) ∙ done in
+    by_answer (late_refusal (part_of s t) c) is answer
+    ∙ ap (λ o. drawn_state s t (drawing (own_of s t).context o (late_rect c.kind c))) (sym (ap (λ (x : State). late_sampler x t c) hidden ∙ sampler_seen s t c out r i))
+  where
+    by_answer : (e : Option GlError) → step s t c ≡ late_step s t c e → (step s t c).reply.outcome ≡ Done → (step s t c).state ≡ drawn_state s t (drawing (own_of s t).context (late_sampler s t c) (late_rect c.kind c))
+    by_answer (Some e) is done = absurd (refused_done e (ap (λ (x : Stepped). x.reply.outcome) (sym is) ∙ done))
+    by_answer None is done = ap (λ (x : Stepped). x.state) is

@@ -3,7 +3,6 @@ use Rattle.std.specs.Prelude.{◌≡◌, ℕ, Bool, true, false, not, ◌&&◌, 
 use Rattle.std.specs.Option.{option_and_then, option_map}
 use Rattle.egl_calls.specs.Calls.{CallValue}
 use Rattle.egl_calls.specs.declared.errors.GlError.{GlError}
-use Rattle.egl_calls.specs.declared.errors.Outcome.{Outcome}
 use Rattle.egl_calls.specs.declared.errors.Outcome.TheVariants.{Done, Gl as RefusedGl}
 use Rattle.egl_calls.specs.declared.kinds.Kind.{Kind}
 use Rattle.egl_calls.specs.declared.kinds.Kind.TheVariants.{Gl}
@@ -84,8 +83,3 @@ drawing None from r = λ i. i
 abbrev pub late_step : State → ℕ → CallValue → Option GlError → Stepped
 late_step s t c (Some e) = record { reply = bare (RefusedGl e); state = put_own s t (record (own_of s t) { context = option_map (noted e) (own_of s t).context }) }
 late_step s t c None = record { reply = bare Done; state = drawn_state s t (drawing (own_of s t).context (late_sampler s t c) (late_rect c.kind c)) }
-
--- the state behind a late draw with this outcome, once it is made with what a sampler gives
-abbrev pub late_state : State → ℕ → Outcome → Option SamplerValue → Rect → State
-late_state s t Done from r = drawn_state s t (drawing (own_of s t).context from r)
-late_state s t o from r = s

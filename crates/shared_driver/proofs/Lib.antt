@@ -9,5 +9,6 @@ pub mod OwnCalls
 pub mod Opening
 pub mod Attaching
 pub mod Picking
+pub mod LateTurns
 pub mod Learning
 pub mod Sending

@@ -1,9 +1,12 @@
 -- What a pick leaves.
-use Rattle.std.proofs.Common.{◌≡◌, ℕ, [], ◌∷◌, ◌++◌, refl, sym, ap, ◌∙◌}
+use Rattle.std.proofs.Common.{◌≡◌, ℕ, [], ◌∷◌, ◌++◌, refl, sym, ap, ◌∙◌, Option, None, Some}
 use Rattle.std.proofs.lemmas.List.{append-nil}
+use Rattle.egl_calls.specs.Calls.{CallValue}
 use Rattle.egl_calls.specs.Journals.{are_halted}
 use Rattle.model_laws.specs.Frame.{AreOf}
+use Rattle.driver_core.specs.LateDraws.{IsLeft}
 use Rattle.driver_core.specs.Machine.{Machine}
+use Rattle.driver_core.specs.declared.drawings.Drawing.{Drawing}
 use Rattle.shared_driver.specs.declared.cores.Core.{Core}
 use Rattle.shared_driver.specs.declared.picks.Pick.{Pick}
 use Rattle.shared_driver.specs.declared.picks.Pick.TheVariants.{Call, Wait, Stop}
@@ -15,8 +18,8 @@ use Rattle.shared_driver.specs.Turns.{IsTurn}
 use Rattle.shared_driver.proofs.Owned.{or_false, own_one}
 use Rattle.shared_driver.proofs.Standing.{IsRoomed, turn_more, turn_same}
 
--- the turn goes on with the value y, in which the picked call was played
-pub done : (f x y : Core) (n : ℕ) (p : Pick) (r : Picked) → IsTurn f x n [] → IsRoomed x y n → IsDone x n p r y → IsTurn f y n []
+-- the turn goes on with the value y, in which the picked call was played, and has left no draw
+pub done : (f x y : Core) (n : ℕ) (p : Pick) (r : Picked) → IsTurn f x n [] → IsRoomed x y n → IsDone x n p r None y → IsTurn f y n []
 done f x y n (Call mark call) (Replied reply) k r d = turn_more f x y n mark call reply [] k r d.1 d.2 (d.0 ∙ ap (λ l. l ++ entry n mark call reply ∷ []) (sym (append-nil x.journal.entries)))
 done f x y n (Call mark call) Waited k r d = absurd d
 done f x y n (Call mark call) Stopped k r d = absurd d
@@ -27,16 +30,22 @@ done f x y n Stop (Replied reply) k r d = absurd d
 done f x y n Stop Waited k r d = absurd d
 done f x y n Stop Stopped k r d = turn_same f x y n [] [] k r d.1 (ap (λ l. l ++ []) d.0) refl
 
-pub done_made : (x y : Core) (n : ℕ) (p : Pick) (r : Picked) → IsDone x n p r y → y.driver.made ≡ x.driver.made
-done_made x y n (Call mark call) (Replied reply) d = ap (λ (m : Machine). m.made) d.2
-done_made x y n (Call mark call) Waited d = absurd d
-done_made x y n (Call mark call) Stopped d = absurd d
-done_made x y n (Wait what) (Replied reply) d = absurd d
-done_made x y n (Wait what) Waited d = ap (λ (m : Machine). m.made) d.1
-done_made x y n (Wait what) Stopped d = absurd d
-done_made x y n Stop (Replied reply) d = absurd d
-done_made x y n Stop Waited d = absurd d
-done_made x y n Stop Stopped d = ap (λ (m : Machine). m.made) d.1
+left_made : (x y : Machine) (n : ℕ) (c : CallValue) (o : Option Drawing) → IsLeft x n c o y → y.made ≡ x.made
+left_made x y n c None l = ap (λ (m : Machine). m.made) l
+left_made x y n c (Some d) l = ap (λ (m : Machine). m.made) l.0
+
+pub done_made : (x y : Core) (n : ℕ) (p : Pick) (r : Picked) (o : Option Drawing) → IsDone x n p r o y → y.driver.made ≡ x.driver.made
+done_made x y n (Call mark call) (Replied reply) o d = left_made x.driver y.driver n call o d.2
+done_made x y n (Call mark call) Waited o d = absurd d
+done_made x y n (Call mark call) Stopped o d = absurd d
+done_made x y n (Wait what) (Replied reply) o d = absurd d
+done_made x y n (Wait what) Waited None d = ap (λ (m : Machine). m.made) d.1
+done_made x y n (Wait what) Waited (Some e) d = absurd d
+done_made x y n (Wait what) Stopped o d = absurd d
+done_made x y n Stop (Replied reply) o d = absurd d
+done_made x y n Stop Waited o d = absurd d
+done_made x y n Stop Stopped None d = ap (λ (m : Machine). m.made) d.1
+done_made x y n Stop Stopped (Some e) d = absurd d
 
 -- the entries of a pick are of its number, and halt as the pick does
 pub picked_of : (n : ℕ) (p : Pick) (r : Picked) → AreOf n (picked_entries n p r)
@@ -50,40 +59,44 @@ picked_of n Stop (Replied reply) = tt
 picked_of n Stop Waited = tt
 picked_of n Stop Stopped = tt
 
-pub picked_halts : (x y : Core) (n : ℕ) (p : Pick) (r : Picked) → IsDone x n p r y → are_halted (picked_entries n p r) ≡ halts p
-picked_halts x y n (Call mark call) (Replied reply) d = or_false _
-picked_halts x y n (Call mark call) Waited d = absurd d
-picked_halts x y n (Call mark call) Stopped d = absurd d
-picked_halts x y n (Wait what) (Replied reply) d = refl
-picked_halts x y n (Wait what) Waited d = refl
-picked_halts x y n (Wait what) Stopped d = refl
-picked_halts x y n Stop (Replied reply) d = refl
-picked_halts x y n Stop Waited d = refl
-picked_halts x y n Stop Stopped d = refl
+pub picked_halts : (x y : Core) (n : ℕ) (p : Pick) (r : Picked) (o : Option Drawing) → IsDone x n p r o y → are_halted (picked_entries n p r) ≡ halts p
+picked_halts x y n (Call mark call) (Replied reply) o d = or_false _
+picked_halts x y n (Call mark call) Waited o d = absurd d
+picked_halts x y n (Call mark call) Stopped o d = absurd d
+picked_halts x y n (Wait what) (Replied reply) o d = refl
+picked_halts x y n (Wait what) Waited o d = refl
+picked_halts x y n (Wait what) Stopped o d = refl
+picked_halts x y n Stop (Replied reply) o d = refl
+picked_halts x y n Stop Waited o d = refl
+picked_halts x y n Stop Stopped o d = refl
 
 -- each answer comes by its pick
-pub answers : (z y : Core) (n : ℕ) (p : Pick) (r : Picked) → IsDone z n p r y → IsAnswer p r
-answers z y n (Call mark call) (Replied reply) d = tt
-answers z y n (Call mark call) Waited d = absurd d
-answers z y n (Call mark call) Stopped d = absurd d
-answers z y n (Wait what) (Replied reply) d = absurd d
-answers z y n (Wait what) Waited d = tt
-answers z y n (Wait what) Stopped d = absurd d
-answers z y n Stop (Replied reply) d = absurd d
-answers z y n Stop Waited d = absurd d
-answers z y n Stop Stopped d = tt
+pub answers : (z y : Core) (n : ℕ) (p : Pick) (r : Picked) (o : Option Drawing) → IsDone z n p r o y → IsAnswer p r
+answers z y n (Call mark call) (Replied reply) o d = tt
+answers z y n (Call mark call) Waited o d = absurd d
+answers z y n (Call mark call) Stopped o d = absurd d
+answers z y n (Wait what) (Replied reply) o d = absurd d
+answers z y n (Wait what) Waited None d = tt
+answers z y n (Wait what) Waited (Some e) d = absurd d
+answers z y n (Wait what) Stopped o d = absurd d
+answers z y n Stop (Replied reply) o d = absurd d
+answers z y n Stop Waited o d = absurd d
+answers z y n Stop Stopped None d = tt
+answers z y n Stop Stopped (Some e) d = absurd d
 
 -- and adds its entries
-pub adds : (z y : Core) (n : ℕ) (p : Pick) (r : Picked) → IsDone z n p r y → y.journal.entries ≡ z.journal.entries ++ picked_entries n p r
-adds z y n (Call mark call) (Replied reply) d = d.0
-adds z y n (Call mark call) Waited d = absurd d
-adds z y n (Call mark call) Stopped d = absurd d
-adds z y n (Wait what) (Replied reply) d = absurd d
-adds z y n (Wait what) Waited d = d.0 ∙ sym (append-nil z.journal.entries)
-adds z y n (Wait what) Stopped d = absurd d
-adds z y n Stop (Replied reply) d = absurd d
-adds z y n Stop Waited d = absurd d
-adds z y n Stop Stopped d = d.0 ∙ sym (append-nil z.journal.entries)
+pub adds : (z y : Core) (n : ℕ) (p : Pick) (r : Picked) (o : Option Drawing) → IsDone z n p r o y → y.journal.entries ≡ z.journal.entries ++ picked_entries n p r
+adds z y n (Call mark call) (Replied reply) o d = d.0
+adds z y n (Call mark call) Waited o d = absurd d
+adds z y n (Call mark call) Stopped o d = absurd d
+adds z y n (Wait what) (Replied reply) o d = absurd d
+adds z y n (Wait what) Waited None d = d.0 ∙ sym (append-nil z.journal.entries)
+adds z y n (Wait what) Waited (Some e) d = absurd d
+adds z y n (Wait what) Stopped o d = absurd d
+adds z y n Stop (Replied reply) o d = absurd d
+adds z y n Stop Waited o d = absurd d
+adds z y n Stop Stopped None d = d.0 ∙ sym (append-nil z.journal.entries)
+adds z y n Stop Stopped (Some e) d = absurd d
 
 -- which are the token's own
 pub picked_own : (n : ℕ) (p : Pick) (r : Picked) → of_number n (picked_entries n p r) ≡ picked_entries n p r

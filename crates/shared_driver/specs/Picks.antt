@@ -1,8 +1,10 @@
 -- What comes of picks.
-use Rattle.std.specs.Prelude.{◌≡◌, ℕ, Bool, false, List, [], ◌∷◌, ◌++◌}
+use Rattle.std.specs.Prelude.{◌≡◌, ℕ, Bool, false, List, [], ◌∷◌, ◌++◌, Option, None}
 use Rattle.egl_calls.specs.Journals.{is_halt_kind}
 use Rattle.egl_calls.specs.declared.entries.Entry.{Entry}
 use Rattle.egl_model.specs.Step.{step}
+use Rattle.driver_core.specs.LateDraws.{IsLeft}
+use Rattle.driver_core.specs.declared.drawings.Drawing.{Drawing}
 use Rattle.shared_driver.specs.declared.cores.Core.{Core}
 use Rattle.shared_driver.specs.declared.picks.Pick.{Pick}
 use Rattle.shared_driver.specs.declared.picks.Pick.TheVariants.{Call, Wait, Stop}
@@ -27,13 +29,13 @@ IsAnswer (Wait what) Waited = Unit {0}
 IsAnswer Stop Stopped = Unit {0}
 IsAnswer p r = ⊥
 
--- the value y is x, with the entry of the picked call, if one was picked
-abbrev pub IsDone : Core → ℕ → Pick → Picked → Core → Type 0
-IsDone x n (Call mark call) (Replied reply) y =
-    (y.journal.entries ≡ x.journal.entries ++ entry n mark call reply ∷ []) × (reply ≡ (step x.driver.state n call).reply) × (y.driver ≡ record x.driver { state = (step x.driver.state n call).state })
-IsDone x n (Wait what) Waited y = (y.journal.entries ≡ x.journal.entries) × (y.driver ≡ x.driver)
-IsDone x n Stop Stopped y = (y.journal.entries ≡ x.journal.entries) × (y.driver ≡ x.driver)
-IsDone x n p r y = ⊥
+-- the value y is x, with the entry of the picked call, if one was picked, which may have left a draw
+abbrev pub IsDone : Core → ℕ → Pick → Picked → Option Drawing → Core → Type 0
+IsDone x n (Call mark call) (Replied reply) left y =
+    (y.journal.entries ≡ x.journal.entries ++ entry n mark call reply ∷ []) × (reply ≡ (step x.driver.state n call).reply) × IsLeft x.driver n call left y.driver
+IsDone x n (Wait what) Waited None y = (y.journal.entries ≡ x.journal.entries) × (y.driver ≡ x.driver)
+IsDone x n Stop Stopped None y = (y.journal.entries ≡ x.journal.entries) × (y.driver ≡ x.driver)
+IsDone x n p r left y = ⊥
 
 -- the journal in a token's turn, in which it has handed in
 abbrev pub IsAtTurn : Token → List Entry → Type 0

@@ -1,11 +1,14 @@
 -- What a thread holds between its turns, and what stands in a turn.
-use Rattle.std.specs.Prelude.{◌≡◌, ◌≢◌, ℕ, ◌<◌, ◌≤◌, true, false, List, ◌++◌, All, Contains, length, slice_index, slice_set, Some}
+use Rattle.std.specs.Prelude.{◌≡◌, ◌≢◌, ℕ, ◌<◌, ◌≤◌, true, false, List, ◌++◌, All, Contains, length, slice_index, slice_set, Option, None, Some}
 use Rattle.surface_store.specs.WindowTables.{HasSides}
 use Rattle.egl_calls.specs.declared.entries.Entry.{Entry}
 use Rattle.model_laws.specs.Frame.{IsReady}
 use Rattle.model_laws.specs.Hidden.{hide}
 use Rattle.egl_model.specs.History.{IsLegalFrom, replay_from}
+use Rattle.egl_model.specs.State.{State}
+use Rattle.driver_core.specs.LateDraws.{drawn_late}
 use Rattle.driver_core.specs.Machine.{outs}
+use Rattle.driver_core.specs.declared.drawings.Drawing.{Drawing}
 use Rattle.turn_lock.specs.Passes.{HasCome, IsFree, view_of}
 use Rattle.turn_lock.specs.Views.{AreOthers, AreOwn}
 use Rattle.turn_lock.specs.declared.pass.Pass.{Pass}
@@ -77,6 +80,22 @@ pub record Ends (first : Core) (u : Holding) (y : Core) : Type 0 where
   pub long : length y.rooms.items ≡ length (view_of u.pass).rooms
   pub other_rooms : (n : ℕ) → n ≢ (view_of u.pass).number → slice_index y.rooms.items n ≡ slice_index (view_of u.pass).rooms n
   pub room : length u.tail.items < slice_index y.rooms.items u.number
+
+-- the value, with its driver standing for this state
+abbrev pub standing_for : Core → State → Core
+standing_for x s = record x { driver = record x.driver { state = s } }
+
+-- a turn may end before the draw that its call has left: it might if the draw were made, and the driver stands for the state before that
+pub record EndsLate (first : Core) (u : Holding) (y : Core) (d : Drawing) : Type 0 where
+  pub before : State
+  pub ready : IsReady before u.number
+  pub driver : y.driver.state ≡ hide (outs y.driver.away) before
+  pub drawn : replay_from (origin first) (y.journal.entries ++ u.tail.items) ≡ drawn_late before u.number (Some d)
+  pub ends : Ends first u (standing_for y (hide (outs y.driver.away) (drawn_late before u.number (Some d))))
+
+abbrev pub EndsWith : Core → Holding → Core → Option Drawing → Type 0
+EndsWith first u y None = Ends first u y
+EndsWith first u y (Some d) = EndsLate first u y d
 
 -- the last turn of a pass: it has seen entries of others more, and then its thread's own calls
 abbrev pub Retires : Holding → Pass Core Entry → Type 0

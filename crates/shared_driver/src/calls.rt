@@ -12,7 +12,7 @@ ghost use Rattle.shared_driver.specs.Cores.{entry, is_waiting, takes_place};
 ghost use Rattle.shared_driver.specs.Picks.{IsAnswer, IsAtTurn, picked_entries};
 ghost use Rattle.shared_driver.specs.Tokens.{AnswersAfterWait, AnswersAtOnce, Goes, Halts, HasPlace, IsOf, IsSame, Learns, Owns, has_given_up, mine, opening_of, places_after, token_of};
 
-use crate::cores::{Core, PLACES, is_waiting};
+use crate::cores::{Core, PLACES, Played, is_waiting};
 use crate::newcomers::own_calls;
 use crate::news::News;
 use crate::picks::{Picked, PickedCall, Picker, has_stopped, is_halt};
@@ -89,7 +89,7 @@ impl Shared {
         })
     }
 
-    // The turn in which a call is played that gives the token's places back. Where it begins a wait, the token's room then has a place for the end.
+    // The turn in which a call is played that gives the token's places back, and the draw that it may leave. Where it begins a wait, the token's room then has a place for the end.
     fn begin<R: Wait>(
         &self,
         thread: &mut Thread,
@@ -123,12 +123,11 @@ impl Shared {
             &mut thread.hold.tail,
             back,
         ) {
-            Ok(reply) => {
+            Ok(Played { reply, drawing }) => {
                 let woken = self.news.rouse(rt, core, from);
-                self.end_turn(&mut thread.hold, held);
+                self.end_turn_with(&mut thread.hold, held, &woken, &drawing);
                 thread.places = PLACES;
                 thread.halted = either(thread.halted, halts);
-                self.news.call(&woken);
                 Ok(reply)
             }
             Err(error) => {
@@ -171,7 +170,7 @@ impl Shared {
 
     /// Plays a call, and answers its reply. Its entry stands after all that the token saw, and after what others added meanwhile. A client wait that blocks waits here, and answers what its end does; it sleeps between the turns of others, and may never return.
     ///
-    /// The token's own calls enter the history directly before it. Where memory runs out nothing is added. The end of a wait takes no memory, and neither does a call that destroys, releases, flushes or halts while the token has a free place: it then uses one. Each other call gives all of the token's places back.
+    /// The token's own calls enter the history directly before it. A draw to the thread's own surface is made once the turn is over, so that others go on meanwhile. Where memory runs out nothing is added. The end of a wait takes no memory, and neither does a call that destroys, releases, flushes or halts while the token has a free place: it then uses one. Each other call gives all of the token's places back.
     pub fn call<R: Wait>(
         &self,
         thread: &mut Thread,
@@ -364,14 +363,14 @@ impl Shared {
                     picked,
                     halts,
                     wanted,
+                    drawing,
                 },
             ) => {
                 let woken = self.news.rouse_by(rt, core, from, has_stopped(&picked));
                 self.news.lie_down(rt, thread.hold.number, wanted);
-                self.end_turn(&mut thread.hold, held);
+                self.end_turn_with(&mut thread.hold, held, &woken, &drawing);
                 thread.places = PLACES;
                 thread.halted = either(thread.halted, halts);
-                self.news.call(&woken);
                 Ok(picked)
             }
             Err(error) => {

@@ -10,11 +10,12 @@ ghost use Rattle.egl_model.specs.State.{State, opening};
 ghost use Rattle.egl_model.specs.Step.{step};
 ghost use Rattle.egl_model.specs.Waits.{is_ready};
 ghost use Rattle.driver_core.specs.Machine.{outs};
+ghost use Rattle.driver_core.specs.LateDraws.{IsLeft};
 ghost use Rattle.driver_core.specs.Memory.{takes_no_memory};
 ghost use Rattle.driver_core.specs.Parts.{FitsThread};
 ghost use Rattle.shared_driver.specs.Cores.{entry, halt_call, is_waiting, owed, own_call, place_for, wait_end_call, wait_ended};
 
-use driver_core::Driver;
+use driver_core::{Drawing, Driver, LateDraw};
 use egl_calls::{
     Call, Entry, Journal, Kind, NoMemory, Numbers, Outcome, OwnKind, Reply, ReplyPair,
 };
@@ -38,6 +39,13 @@ pub struct Core {
     pub rooms: Vec<u64>,
     /// How many entries the rooms promise together. The journal has room for as many.
     pub promised: u64,
+}
+
+/// What came of a call that was played: its reply, and the draw that is left to be made once its turn is over.
+#[derive(Drop)]
+pub struct Played {
+    pub reply: Reply,
+    pub drawing: Option<Drawing>,
 }
 
 impl Replays for Core {
@@ -101,6 +109,29 @@ fn stepped(
     ensures memory { takes_no_memory call.now.kind ≡ true → IsOk result }
 {
     uncounted::<Brand>(driver, alloc, thread, call, Blank::new(1))
+}
+
+/// The same of any call, but a draw to the thread's own surface is left to be made.
+fn stepped_late(
+    driver: &mut Driver,
+    alloc: Global,
+    thread: u32,
+    call: &Call,
+) -> Result<LateDraw, NoMemory>
+    requires made { thread < driver.old.made }
+    ensures reply { IfOk result (λ d. d.reply ≡ (step driver.old.state thread call.now).reply) }
+    ensures left { IfOk result (λ d. IsLeft driver.old thread call.now d.drawing driver.new) }
+    ensures err { OnErr result (driver.new ≡ driver.old) }
+{
+    if driver.is_late(thread, call) {
+        return driver.step_late_draw(alloc, thread, call);
+    }
+    let ReplyPair { reply, copy } = stepped(driver, alloc, thread, call)?;
+    Ok(LateDraw {
+        reply,
+        copy,
+        drawing: None,
+    })
 }
 
 // A call of this project's own, which has nothing but its kind.
@@ -242,7 +273,7 @@ impl Core {
         move_entries(&mut self.journal, tail);
     }
 
-    /// Plays a call, and adds the token's own calls and its entry. Its room then grows by so many places; the journal has room for these and for the entry.
+    /// Plays a call, and adds the token's own calls and its entry. A draw to the thread's own surface is left to be made. Its room then grows by so many places; the journal has room for these and for the entry.
     pub fn play(
         &mut self,
         alloc: Global,
@@ -251,15 +282,15 @@ impl Core {
         call: Call,
         tail: &mut VecDeque<Entry>,
         more: u64,
-    ) -> Result<Reply, NoMemory>
+    ) -> Result<Played, NoMemory>
         requires number { (number < self.old.driver.made) × (number < length self.old.rooms.items) }
         requires room { length tail.old.items < slice_index self.old.rooms.items number }
         requires owed { self.old.promised ≡ owed self.old.rooms.items }
         requires spare { self.old.promised + more + 1 ≤ self.old.journal.spare }
         requires fits { self.old.promised + more + 1 < 18446744073709551616 }
-        ensures reply { IfOk result (λ r. r ≡ (step self.old.driver.state number call).reply) }
-        ensures driver { OnOk result (self.new.driver ≡ record self.old.driver { state = (step self.old.driver.state number call).state }) }
-        ensures added { IfOk result (λ r. self.new.journal.entries ≡ (self.old.journal.entries ++ tail.old.items) ++ entry number mark call r ∷ []) }
+        ensures reply { IfOk result (λ p. p.reply ≡ (step self.old.driver.state number call).reply) }
+        ensures left { IfOk result (λ p. IsLeft self.old.driver number call p.drawing self.new.driver) }
+        ensures added { IfOk result (λ p. self.new.journal.entries ≡ (self.old.journal.entries ++ tail.old.items) ++ entry number mark call p.reply ∷ []) }
         ensures tail { OnOk result (tail.new.items ≡ []) }
         ensures capacity { deque_capacity tail.new ≡ deque_capacity tail.old }
         ensures rooms { OnOk result (self.new.rooms.items ≡ slice_set self.old.rooms.items number (slice_index self.old.rooms.items number - length tail.old.items + more)) }
@@ -269,7 +300,11 @@ impl Core {
         ensures err { OnErr result ((self.new ≡ self.old) × (tail.new.items ≡ tail.old.items)) }
         ensures live { self.new.live ≡ self.old.live }
     {
-        let ReplyPair { reply, copy } = stepped(&mut self.driver, alloc, number, &call)?;
+        let LateDraw {
+            reply,
+            copy,
+            drawing,
+        } = stepped_late(&mut self.driver, alloc, number, &call)?;
         self.hand_in(number, tail);
         self.journal.push(Entry {
             thread: number,
@@ -278,7 +313,7 @@ impl Core {
             reply: copy,
         });
         self.promise(number, more);
-        Ok(reply)
+        Ok(Played { reply, drawing })
     }
 
     /// Plays a call that gives places back, and adds the token's own calls and its entry. Where the call begins a wait, the token's room has a place more then, for the end of the wait. Where memory runs out nothing has changed.
@@ -290,28 +325,28 @@ impl Core {
         call: Call,
         tail: &mut VecDeque<Entry>,
         back: u64,
-    ) -> Result<Reply, NoMemory>
+    ) -> Result<Played, NoMemory>
         requires number { (number < self.old.driver.made) × (number < length self.old.rooms.items) }
         requires room { length tail.old.items < slice_index self.old.rooms.items number }
         requires back { back ≤ 256 }
         requires owed { self.old.promised ≡ owed self.old.rooms.items }
         requires spare { self.old.promised ≤ self.old.journal.spare }
-        ensures reply { IfOk result (λ r. r ≡ (step self.old.driver.state number call).reply) }
-        ensures driver { OnOk result (self.new.driver ≡ record self.old.driver { state = (step self.old.driver.state number call).state }) }
-        ensures added { IfOk result (λ r. self.new.journal.entries ≡ (self.old.journal.entries ++ tail.old.items) ++ entry number mark call r ∷ []) }
+        ensures reply { IfOk result (λ p. p.reply ≡ (step self.old.driver.state number call).reply) }
+        ensures left { IfOk result (λ p. IsLeft self.old.driver number call p.drawing self.new.driver) }
+        ensures added { IfOk result (λ p. self.new.journal.entries ≡ (self.old.journal.entries ++ tail.old.items) ++ entry number mark call p.reply ∷ []) }
         ensures tail { OnOk result (tail.new.items ≡ []) }
         ensures capacity { deque_capacity tail.new ≡ deque_capacity tail.old }
-        ensures rooms { IfOk result (λ r. self.new.rooms.items ≡ slice_set self.old.rooms.items number (slice_index self.old.rooms.items number - length tail.old.items + back + place_for (is_waiting r.outcome))) }
+        ensures rooms { IfOk result (λ p. self.new.rooms.items ≡ slice_set self.old.rooms.items number (slice_index self.old.rooms.items number - length tail.old.items + back + place_for (is_waiting p.reply.outcome))) }
         ensures owed { self.new.promised ≡ owed self.new.rooms.items }
         ensures err { OnErr result ((self.new.driver ≡ self.old.driver) × (self.new.journal.entries ≡ self.old.journal.entries) × (self.new.rooms ≡ self.old.rooms) × (tail.new.items ≡ tail.old.items)) }
         ensures spare { self.new.promised ≤ self.new.journal.spare }
         ensures live { self.new.live ≡ self.old.live }
     {
         self.make_room(back + 2)?;
-        let reply = self.play(alloc, number, mark, call, tail, back)?;
-        let place = place_for(is_waiting(reply.outcome));
+        let played = self.play(alloc, number, mark, call, tail, back)?;
+        let place = place_for(is_waiting(played.reply.outcome));
         self.promise(number, place);
-        Ok(reply)
+        Ok(played)
     }
 
     /// Plays a call that takes no memory. The token's own calls and its entry are added in places that the token's room promises.

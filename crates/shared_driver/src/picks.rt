@@ -8,9 +8,9 @@ ghost use Rattle.shared_driver.specs.declared.picks.Pick.{Pick as ThePick};
 ghost use Rattle.shared_driver.specs.Cores.{owed};
 ghost use Rattle.shared_driver.specs.Picks.{IsDone, halts};
 
-use crate::cores::Core;
+use crate::cores::{Core, Played};
 use crate::sleepers::Wanted;
-use driver_core::Driver;
+use driver_core::{Drawing, Driver};
 use egl_calls::{Call, Entry, Journal, Kind, NoMemory, OwnKind, Reply};
 use std::alloc::Global;
 use std::collections::VecDeque;
@@ -50,12 +50,13 @@ pub trait Picker {
         ensures picked { IfOk result (λ p. picks self.old journal.now.entries driver.now p self.new) };
 }
 
-/// What came of a pick, whether it was a Halt, and what it waits for.
+/// What came of a pick, whether it was a Halt, what it waits for, and the draw that is left to be made once its turn is over.
 #[derive(Drop)]
 pub struct PickedCall {
     pub picked: Picked,
     pub halts: bool,
     pub wanted: Option<Wanted>,
+    pub drawing: Option<Drawing>,
 }
 
 /// Whether nothing is to be played any more.
@@ -87,7 +88,7 @@ impl Core {
         requires back { back ≤ 256 }
         requires owed { self.old.promised ≡ owed self.old.rooms.items }
         requires spare { self.old.promised ≤ self.old.journal.spare }
-        ensures ok { IfOk result (λ r. (p : ThePick) × P.picks picker.old self.old.journal.entries self.old.driver p picker.new × IsDone self.old number p r.picked self.new × (r.halts ≡ halts p)) }
+        ensures ok { IfOk result (λ r. (p : ThePick) × P.picks picker.old self.old.journal.entries self.old.driver p picker.new × IsDone self.old number p r.picked r.drawing self.new × (r.halts ≡ halts p)) }
         ensures rooms { OnOk result (self.new.rooms.items ≡ slice_set self.old.rooms.items number (slice_index self.old.rooms.items number + back)) }
         ensures err { OnErr result ((self.new.driver ≡ self.old.driver) × (self.new.journal.entries ≡ self.old.journal.entries) × (self.new.rooms ≡ self.old.rooms)) }
         ensures tail { (tail.new.items ≡ []) × (deque_capacity tail.new ≡ deque_capacity tail.old) }
@@ -99,11 +100,12 @@ impl Core {
         match picker.pick(&self.journal, &self.driver)? {
             Pick::Call(mark, call) => {
                 let halts = is_halt(call.kind);
-                let reply = self.play(alloc, number, mark, call, tail, back)?;
+                let Played { reply, drawing } = self.play(alloc, number, mark, call, tail, back)?;
                 Ok(PickedCall {
                     picked: Picked::Replied(reply),
                     halts,
                     wanted: None,
+                    drawing,
                 })
             }
             Pick::Wait(wanted) => {
@@ -112,6 +114,7 @@ impl Core {
                     picked: Picked::Waited,
                     halts: false,
                     wanted: Some(wanted),
+                    drawing: None,
                 })
             }
             Pick::Stop => {
@@ -120,6 +123,7 @@ impl Core {
                     picked: Picked::Stopped,
                     halts: false,
                     wanted: None,
+                    drawing: None,
                 })
             }
         }

@@ -6,11 +6,12 @@ use Rattle.egl_calls.specs.Journals.{is_halt_kind}
 use Rattle.turn_lock.specs.Passes.{first_of, view_of}
 use Rattle.shared_driver.specs.Cores.{entry, is_waiting, place_for, room_for}
 use Rattle.shared_driver.proofs.Owned.{halted_more, halted_same, or_false}
-use Rattle.shared_driver.proofs.Turning.{adds_ends, adds_goes, adds_mine, after, enough_back, keeps_ends, keeps_learns, keeps_mine, kept_rooms, lent_begun, many_kept, many_now, room_back, room_found, room_kept, room_now}
+use Rattle.shared_driver.proofs.LateTurns.{adds_with}
+use Rattle.shared_driver.proofs.Turning.{adds_goes, adds_mine, after, enough_back, keeps_ends, keeps_learns, keeps_mine, kept_rooms, lent_begun, many_kept, many_now, room_back, room_found, room_kept, room_now}
 use Rattle.shared_driver.proofs.tokens.Shared.begin.Goals as goal
 
-pub end_turn-requires-clause-ends : goal.end_turn-requires-clause-ends
-end_turn-requires-clause-ends g c =
+pub end_turn_with-requires-clause-ends : goal.end_turn_with-requires-clause-ends
+end_turn_with-requires-clause-ends g c =
     let t = c.args.thread.now in
     let h = t.hold in
     let f = (first_of c.args.self.now.turns).value in
@@ -18,10 +19,10 @@ end_turn-requires-clause-ends g c =
     let z = c.value-core.result.now in
     let b = lent_begun f h u c.begin_turn-held.result.value z c.value-core.ensures.value c.begin_turn-held.ensures.begun in
     let p = c.in-Ok.ensures in
-    adds_ends f h u _ z c.begin.new.self c.args.mark c.args.call c.in-Ok.reply _ b refl refl p.tail p.reply p.driver p.added p.rooms p.owed p.spare p.live (enough_back _ _ _ _ b.room)
+    adds_with f h u _ z c.begin.new.self c.args.mark c.args.call c.in-Ok.field-0.reply _ c.in-Ok.field-0.drawing b refl refl p.tail p.reply p.left p.added p.rooms p.owed p.spare p.live (enough_back _ _ _ _ b.room)
 
-pub end_turn-requires-in-Err-clause-ends : goal.end_turn-requires-in-Err-clause-ends
-end_turn-requires-in-Err-clause-ends g c =
+pub end_turn-requires-clause-ends : goal.end_turn-requires-clause-ends
+end_turn-requires-clause-ends g c =
     let t = c.args.thread.now in
     let h = t.hold in
     let f = (first_of c.args.self.now.turns).value in
@@ -39,13 +40,13 @@ invariant_of-thread g c =
     let u = c.begin_turn-held.new.hold in
     let z = c.value-core.result.now in
     let b = lent_begun f h u c.begin_turn-held.result.value z c.value-core.ensures.value c.begin_turn-held.ensures.begun in
-    let w = c.end_turn.new.hold in
-    let k = c.end_turn.ensures.holds in
+    let w = c.end_turn_with.new.hold in
+    let k = c.end_turn_with.ensures.holds in
     let y = c.begin.new.self in
     let p = c.in-Ok.ensures in
-    let a = after f h u u w z y _ b refl c.end_turn.ensures.view p.rooms in
-    let none : w.tail.items ≡ [] = ap (λ q. q.items) c.end_turn.ensures.kept.1 ∙ p.tail in
-    let goes = adds_goes f h u w z y _ c.args.mark c.args.call c.in-Ok.reply b a none p.added in
+    let a = after f h u u w z y _ b refl c.end_turn_with.ensures.view p.rooms in
+    let none : w.tail.items ≡ [] = ap (λ q. q.items) c.end_turn_with.ensures.kept.1 ∙ p.tail in
+    let goes = adds_goes f h u w z y _ c.args.mark c.args.call c.in-Ok.field-0.reply b a none p.added in
     record {
       free = k.free;
       numbered = k.numbered;
@@ -54,10 +55,10 @@ invariant_of-thread g c =
       legal = k.legal;
       local = k.local;
       part = k.part;
-      room = room_now c.either-thread.result 256 w _ none a.room_is (subst (λ (q : Bool). room_for q + 256 ≤ ((slice_index z.rooms.items u.number - length u.tail.items) + (256 - t.places)) + place_for (is_waiting c.in-Ok.reply.outcome)) (sym c.either-thread.ensures) (room_back t.halted c.is_halt-halts.result t.places (length u.tail.items) (slice_index z.rooms.items u.number) (place_for (is_waiting c.in-Ok.reply.outcome)) (room_found f h u z t.halted t.places b t.room) (omega (arith, t.many))));
+      room = room_now c.either-thread.result 256 w _ none a.room_is (subst (λ (q : Bool). room_for q + 256 ≤ ((slice_index z.rooms.items u.number - length u.tail.items) + (256 - t.places)) + place_for (is_waiting c.in-Ok.field-0.reply.outcome)) (sym c.either-thread.ensures) (room_back t.halted c.is_halt-halts.result t.places (length u.tail.items) (slice_index z.rooms.items u.number) (place_for (is_waiting c.in-Ok.field-0.reply.outcome)) (room_found f h u z t.halted t.places b t.room) (omega (arith, t.many))));
       many = many_now 256 w none (omega arith);
-      spare = subst (λ n. 256 ≤ n) (sym (ap (λ q. deque_capacity q) c.end_turn.ensures.kept.1 ∙ p.capacity ∙ ap (λ q. deque_capacity q) b.same_tail)) t.spare;
-      halts = c.either-thread.ensures ∙ halted_more (view_of h.pass).number (view_of w.pass).number ((view_of h.pass).seen ++ h.tail.items) ((view_of w.pass).seen ++ w.tail.items) (entry (view_of h.pass).number c.args.mark c.args.call c.in-Ok.reply ∷ []) t.halted c.is_halt-halts.result a.number t.halts (adds_mine h w c.args.mark c.args.call c.in-Ok.reply a.number goes) (or_false (is_halt_kind c.args.call.kind) ∙ sym (c.is_halt-halts.ensures ∙ ap (λ (m : CallValue). is_halt_kind m.kind) c.call.view_is));
+      spare = subst (λ n. 256 ≤ n) (sym (ap (λ q. deque_capacity q) c.end_turn_with.ensures.kept.1 ∙ p.capacity ∙ ap (λ q. deque_capacity q) b.same_tail)) t.spare;
+      halts = c.either-thread.ensures ∙ halted_more (view_of h.pass).number (view_of w.pass).number ((view_of h.pass).seen ++ h.tail.items) ((view_of w.pass).seen ++ w.tail.items) (entry (view_of h.pass).number c.args.mark c.args.call c.in-Ok.field-0.reply ∷ []) t.halted c.is_halt-halts.result a.number t.halts (adds_mine h w c.args.mark c.args.call c.in-Ok.field-0.reply a.number goes) (or_false (is_halt_kind c.args.call.kind) ∙ sym (c.is_halt-halts.ensures ∙ ap (λ (m : CallValue). is_halt_kind m.kind) c.call.view_is));
       counted = λ s. a.sole (t.counted s);
     }
 
@@ -69,12 +70,12 @@ invariant_of-thread-in-Err g c =
     let u = c.begin_turn-held.new.hold in
     let z = c.value-core.result.now in
     let b = lent_begun f h u c.begin_turn-held.result.value z c.value-core.ensures.value c.begin_turn-held.ensures.begun in
-    let w = c.end_turn-in-Err.new.hold in
-    let k = c.end_turn-in-Err.ensures.holds in
+    let w = c.end_turn.new.hold in
+    let k = c.end_turn.ensures.holds in
     let y = c.begin.new.self in
     let p = c.in-Err.ensures in
-    let a = after f h u u w z y _ b refl c.end_turn-in-Err.ensures.view (kept_rooms f h u z y b (ap (λ r. r.items) p.err.2)) in
-    let left : w.tail.items ≡ u.tail.items = ap (λ q. q.items) c.end_turn-in-Err.ensures.kept.1 ∙ p.err.3 in
+    let a = after f h u u w z y _ b refl c.end_turn.ensures.view (kept_rooms f h u z y b (ap (λ r. r.items) p.err.2)) in
+    let left : w.tail.items ≡ u.tail.items = ap (λ q. q.items) c.end_turn.ensures.kept.1 ∙ p.err.3 in
     let learns = keeps_learns f h u w z y _ b a left p.err.1 in
     record {
       free = k.free;
@@ -86,7 +87,7 @@ invariant_of-thread-in-Err g c =
       part = k.part;
       room = room_kept t.halted t.places u w _ left a.room_is (room_found f h u z t.halted t.places b t.room);
       many = many_kept t.places h w (left ∙ ap (λ q. q.items) b.same_tail) t.many;
-      spare = subst (λ n. 256 ≤ n) (sym (ap (λ q. deque_capacity q) c.end_turn-in-Err.ensures.kept.1 ∙ p.capacity ∙ ap (λ q. deque_capacity q) b.same_tail)) t.spare;
+      spare = subst (λ n. 256 ≤ n) (sym (ap (λ q. deque_capacity q) c.end_turn.ensures.kept.1 ∙ p.capacity ∙ ap (λ q. deque_capacity q) b.same_tail)) t.spare;
       halts = halted_same (view_of h.pass).number (view_of w.pass).number ((view_of h.pass).seen ++ h.tail.items) ((view_of w.pass).seen ++ w.tail.items) t.halted a.number t.halts (keeps_mine h w a.number learns);
       counted = λ s. a.sole (t.counted s);
     }
@@ -99,10 +100,10 @@ returns-in-Ok-clause-mine g c =
     let u = c.begin_turn-held.new.hold in
     let z = c.value-core.result.now in
     let b = lent_begun f h u c.begin_turn-held.result.value z c.value-core.ensures.value c.begin_turn-held.ensures.begun in
-    let w = c.end_turn.new.hold in
+    let w = c.end_turn_with.new.hold in
     let p = c.in-Ok.ensures in
-    let a = after f h u u w z c.begin.new.self _ b refl c.end_turn.ensures.view p.rooms in
-    adds_mine h w c.args.mark c.args.call c.in-Ok.reply a.number (adds_goes f h u w z c.begin.new.self _ c.args.mark c.args.call c.in-Ok.reply b a (ap (λ q. q.items) c.end_turn.ensures.kept.1 ∙ p.tail) p.added)
+    let a = after f h u u w z c.begin.new.self _ b refl c.end_turn_with.ensures.view p.rooms in
+    adds_mine h w c.args.mark c.args.call c.in-Ok.field-0.reply a.number (adds_goes f h u w z c.begin.new.self _ c.args.mark c.args.call c.in-Ok.field-0.reply b a (ap (λ q. q.items) c.end_turn_with.ensures.kept.1 ∙ p.tail) p.added)
 
 pub returns-in-Err-clause-err_mine : goal.returns-in-Err-clause-err_mine
 returns-in-Err-clause-err_mine g c =
@@ -112,7 +113,7 @@ returns-in-Err-clause-err_mine g c =
     let u = c.begin_turn-held.new.hold in
     let z = c.value-core.result.now in
     let b = lent_begun f h u c.begin_turn-held.result.value z c.value-core.ensures.value c.begin_turn-held.ensures.begun in
-    let w = c.end_turn-in-Err.new.hold in
+    let w = c.end_turn.new.hold in
     let p = c.in-Err.ensures in
-    let a = after f h u u w z c.begin.new.self _ b refl c.end_turn-in-Err.ensures.view (kept_rooms f h u z c.begin.new.self b (ap (λ r. r.items) p.err.2)) in
-    keeps_mine h w a.number (keeps_learns f h u w z c.begin.new.self _ b a (ap (λ q. q.items) c.end_turn-in-Err.ensures.kept.1 ∙ p.err.3) p.err.1)
+    let a = after f h u u w z c.begin.new.self _ b refl c.end_turn.ensures.view (kept_rooms f h u z c.begin.new.self b (ap (λ r. r.items) p.err.2)) in
+    keeps_mine h w a.number (keeps_learns f h u w z c.begin.new.self _ b a (ap (λ q. q.items) c.end_turn.ensures.kept.1 ∙ p.err.3) p.err.1)

@@ -13,16 +13,16 @@ use Rattle.turn_lock.specs.declared.view.View.{View}
 use Rattle.shared_driver.specs.declared.cores.Core.{Core}
 use Rattle.shared_driver.specs.Cores.{origin, room_for}
 use Rattle.shared_driver.specs.Picks.{picked_entries}
-use Rattle.shared_driver.specs.Turns.{IsTurn}
 use Rattle.shared_driver.proofs.Histories.{of_thread}
 use Rattle.shared_driver.proofs.Owned.{halted_more, halted_same, mine_goes, own_append}
 use Rattle.shared_driver.proofs.Standing.{has_part}
 use Rattle.shared_driver.proofs.Rooms.{set_twice}
-use Rattle.shared_driver.proofs.Turning.{after, hands_ends, hands_goes, hands_mine, hands_turn, lent_begun, many_now, may_end, room_found, room_hands, room_now, room_picks, tok}
+use Rattle.shared_driver.proofs.Turning.{after, hands_ends, hands_goes, hands_mine, hands_turn, lent_begun, many_now, room_found, room_hands, room_now, room_picks, tok}
 use Rattle.std.proofs.Common.{set}
 use Rattle.shared_driver.specs.Tokens.{Goes, mine}
 use Rattle.shared_driver.proofs.Owned.{all_own}
-use Rattle.shared_driver.proofs.Picking.{adds, answers, done, done_made, picked_halts, picked_of}
+use Rattle.shared_driver.proofs.Picking.{adds, answers, picked_halts, picked_of}
+use Rattle.shared_driver.proofs.LateTurns.{picks_with}
 use Rattle.shared_driver.proofs.tokens.Shared.call_picked.Goals as goal
 
 pub pick-requires-clause-may : goal.pick-requires-clause-may
@@ -42,8 +42,8 @@ pick-requires-clause-may g c =
     (handed.driver ∙ ap (λ (l : List Entry). hide (outs m.driver.away) (replay_from (origin f) l)) (append-nil m.journal.entries))
     (subst (λ k. k < m.driver.made) its (subst (λ k. n < k) handed.known handed.number)) (subst (λ k. std.slice_index_or m.driver.away k false ≡ false) its (has_part f m n [] handed))
 
-pub end_turn-requires-clause-ends : goal.end_turn-requires-clause-ends
-end_turn-requires-clause-ends g c =
+pub end_turn_with-requires-clause-ends : goal.end_turn_with-requires-clause-ends
+end_turn_with-requires-clause-ends g c =
     let t = c.args.thread.now in
     let h = t.hold in
     let f = (first_of c.args.self.now.turns).value in
@@ -59,15 +59,15 @@ end_turn-requires-clause-ends g c =
     let r = c.in-Ok.field-0.picked in
     let rooms = p.rooms ∙ ap (λ (l : List ℕ). set l n (slice_index m.rooms.items n + (256 - t.places))) q.rooms ∙ set_twice z.rooms.items n (slice_index z.rooms.items n - length u.tail.items) (slice_index m.rooms.items n + (256 - t.places)) in
     let left : slice_index m.rooms.items n ≡ slice_index z.rooms.items n - length u.tail.items = ap (λ (l : List ℕ). slice_index l n) q.rooms ∙ get_or-set_same z.rooms.items n _ 0 b.turn.number in
-    let added : y.journal.entries ≡ (z.journal.entries ++ u.tail.items) ++ picked_entries n p.ok.0 r = adds m y n p.ok.0 r p.ok.2 ∙ ap (λ l. l ++ picked_entries n p.ok.0 r) q.entries in
-    may_end f h u _ z y (u.tail.items ++ picked_entries n p.ok.0 r) _ b refl refl
-    (subst (IsTurn f y n) (sym p.tail.0) (done f m y n p.ok.0 r handed (record { room = slice_index m.rooms.items n + (256 - t.places); rooms = p.rooms; promised = p.owed; spare = p.spare }) p.ok.2))
+    let added : y.journal.entries ≡ (z.journal.entries ++ u.tail.items) ++ picked_entries n p.ok.0 r = adds m y n p.ok.0 r c.in-Ok.field-0.drawing p.ok.2 ∙ ap (λ l. l ++ picked_entries n p.ok.0 r) q.entries in
+    picks_with f h u _ z m y p.ok.0 r (u.tail.items ++ picked_entries n p.ok.0 r) _ c.in-Ok.field-0.drawing b refl refl p.tail.0
+    handed (record { room = slice_index m.rooms.items n + (256 - t.places); rooms = p.rooms; promised = p.owed; spare = p.spare }) p.ok.2
     (added ∙ append_assoc z.journal.entries u.tail.items (picked_entries n p.ok.0 r)) (own_append n u.tail.items (picked_entries n p.ok.0 r) (of_thread _ n u.tail.items b.turn.local) (picked_of n p.ok.0 r))
-    (done_made m y n p.ok.0 r p.ok.2 ∙ ap (λ (x : Machine). x.made) q.kept.0) (p.live ∙ q.kept.1) rooms
+    (ap (λ (x : Machine). x.made) q.kept.0) (p.live ∙ q.kept.1) rooms
     (subst (λ (l : List Entry). length l < slice_index m.rooms.items n + (256 - t.places)) (sym p.tail.0) (omega (arith, left, b.room)))
 
-pub end_turn-requires-in-Err-clause-ends : goal.end_turn-requires-in-Err-clause-ends
-end_turn-requires-in-Err-clause-ends g c =
+pub end_turn-requires-clause-ends : goal.end_turn-requires-clause-ends
+end_turn-requires-clause-ends g c =
     let t = c.args.thread.now in
     let h = t.hold in
     let f = (first_of c.args.self.now.turns).value in
@@ -100,11 +100,11 @@ invariant_of-thread g c =
     let r = c.in-Ok.field-0.picked in
     let rooms = p.rooms ∙ ap (λ (l : List ℕ). set l n (slice_index m.rooms.items n + (256 - t.places))) q.rooms ∙ set_twice z.rooms.items n (slice_index z.rooms.items n - length u.tail.items) (slice_index m.rooms.items n + (256 - t.places)) in
     let left : slice_index m.rooms.items n ≡ slice_index z.rooms.items n - length u.tail.items = ap (λ (l : List ℕ). slice_index l n) q.rooms ∙ get_or-set_same z.rooms.items n _ 0 b.turn.number in
-    let added : y.journal.entries ≡ (z.journal.entries ++ u.tail.items) ++ picked_entries n p.ok.0 r = adds m y n p.ok.0 r p.ok.2 ∙ ap (λ l. l ++ picked_entries n p.ok.0 r) q.entries in
-    let w = c.end_turn.new.hold in
-    let k = c.end_turn.ensures.holds in
-    let a = after f h u u w z y _ b refl c.end_turn.ensures.view rooms in
-    let none : w.tail.items ≡ [] = ap (λ s. s.items) c.end_turn.ensures.kept.1 ∙ p.tail.0 in
+    let added : y.journal.entries ≡ (z.journal.entries ++ u.tail.items) ++ picked_entries n p.ok.0 r = adds m y n p.ok.0 r c.in-Ok.field-0.drawing p.ok.2 ∙ ap (λ l. l ++ picked_entries n p.ok.0 r) q.entries in
+    let w = c.end_turn_with.new.hold in
+    let k = c.end_turn_with.ensures.holds in
+    let a = after f h u u w z y _ b refl c.end_turn_with.ensures.view rooms in
+    let none : w.tail.items ≡ [] = ap (λ s. s.items) c.end_turn_with.ensures.kept.1 ∙ p.tail.0 in
     let its : n ≡ (view_of h.pass).number = b.numbered ∙ ap (λ (v : View Core Entry). v.number) b.view in
     let goes : Goes (tok h) (picked_entries (view_of h.pass).number p.ok.0 r) (tok w) =
     (b.between, b.others, a.seen ∙ added ∙ (λ j. (b.entries j ++ (b.same_tail j).items) ++ picked_entries (its j) p.ok.0 r), none) in
@@ -119,8 +119,8 @@ invariant_of-thread g c =
       part = k.part;
       room = room_now c.either-thread.result 256 w _ none a.room_is (subst (λ (x : Bool). room_for x + 256 ≤ slice_index m.rooms.items n + (256 - t.places)) (sym c.either-thread.ensures) (room_picks t.halted c.in-Ok.field-0.halts t.places (length u.tail.items) (slice_index z.rooms.items n) (slice_index m.rooms.items n) (room_found f h u z t.halted t.places b t.room) (omega (arith, t.many)) left));
       many = many_now 256 w none (omega arith);
-      spare = subst (λ k. 256 ≤ k) (sym (ap (λ s. deque_capacity s) c.end_turn.ensures.kept.1 ∙ p.tail.1 ∙ q.capacity ∙ ap (λ s. deque_capacity s) b.same_tail)) t.spare;
-      halts = c.either-thread.ensures ∙ halted_more (view_of h.pass).number (view_of w.pass).number ((view_of h.pass).seen ++ h.tail.items) ((view_of w.pass).seen ++ w.tail.items) (picked_entries (view_of h.pass).number p.ok.0 r) t.halted c.in-Ok.field-0.halts a.number t.halts own (ap (λ k. are_halted (picked_entries k p.ok.0 r)) (sym its) ∙ picked_halts m y n p.ok.0 r p.ok.2 ∙ sym p.ok.3);
+      spare = subst (λ k. 256 ≤ k) (sym (ap (λ s. deque_capacity s) c.end_turn_with.ensures.kept.1 ∙ p.tail.1 ∙ q.capacity ∙ ap (λ s. deque_capacity s) b.same_tail)) t.spare;
+      halts = c.either-thread.ensures ∙ halted_more (view_of h.pass).number (view_of w.pass).number ((view_of h.pass).seen ++ h.tail.items) ((view_of w.pass).seen ++ w.tail.items) (picked_entries (view_of h.pass).number p.ok.0 r) t.halted c.in-Ok.field-0.halts a.number t.halts own (ap (λ k. are_halted (picked_entries k p.ok.0 r)) (sym its) ∙ picked_halts m y n p.ok.0 r c.in-Ok.field-0.drawing p.ok.2 ∙ sym p.ok.3);
       counted = λ s. a.sole (t.counted s);
     }
 
@@ -139,10 +139,10 @@ invariant_of-thread-in-Err g c =
     let y = c.pick.new.self in
     let p = c.in-Err.ensures in
     let rooms = ap (λ r. r.items) p.err.2 ∙ q.rooms in
-    let w = c.end_turn-in-Err.new.hold in
-    let k = c.end_turn-in-Err.ensures.holds in
-    let a = after f h u u w z y _ b refl c.end_turn-in-Err.ensures.view rooms in
-    let none : w.tail.items ≡ [] = ap (λ s. s.items) c.end_turn-in-Err.ensures.kept.1 ∙ p.tail.0 in
+    let w = c.end_turn.new.hold in
+    let k = c.end_turn.ensures.holds in
+    let a = after f h u u w z y _ b refl c.end_turn.ensures.view rooms in
+    let none : w.tail.items ≡ [] = ap (λ s. s.items) c.end_turn.ensures.kept.1 ∙ p.tail.0 in
     let goes = hands_goes f h u w z y _ b a none (p.err.1 ∙ q.entries) in
     record {
       free = k.free;
@@ -154,7 +154,7 @@ invariant_of-thread-in-Err g c =
       part = k.part;
       room = room_now t.halted t.places w _ none a.room_is (room_hands t.halted t.places _ _ (room_found f h u z t.halted t.places b t.room));
       many = many_now t.places w none (omega (arith, t.many));
-      spare = subst (λ k. 256 ≤ k) (sym (ap (λ s. deque_capacity s) c.end_turn-in-Err.ensures.kept.1 ∙ p.tail.1 ∙ q.capacity ∙ ap (λ s. deque_capacity s) b.same_tail)) t.spare;
+      spare = subst (λ k. 256 ≤ k) (sym (ap (λ s. deque_capacity s) c.end_turn.ensures.kept.1 ∙ p.tail.1 ∙ q.capacity ∙ ap (λ s. deque_capacity s) b.same_tail)) t.spare;
       halts = halted_same (view_of h.pass).number (view_of w.pass).number ((view_of h.pass).seen ++ h.tail.items) ((view_of w.pass).seen ++ w.tail.items) t.halted a.number t.halts (hands_mine h w a.number goes);
       counted = λ s. a.sole (t.counted s);
     }
@@ -176,10 +176,10 @@ returns-in-Ok-clause-ok g c =
     let r = c.in-Ok.field-0.picked in
     let rooms = p.rooms ∙ ap (λ (l : List ℕ). set l n (slice_index m.rooms.items n + (256 - t.places))) q.rooms ∙ set_twice z.rooms.items n (slice_index z.rooms.items n - length u.tail.items) (slice_index m.rooms.items n + (256 - t.places)) in
     let left : slice_index m.rooms.items n ≡ slice_index z.rooms.items n - length u.tail.items = ap (λ (l : List ℕ). slice_index l n) q.rooms ∙ get_or-set_same z.rooms.items n _ 0 b.turn.number in
-    let added : y.journal.entries ≡ (z.journal.entries ++ u.tail.items) ++ picked_entries n p.ok.0 r = adds m y n p.ok.0 r p.ok.2 ∙ ap (λ l. l ++ picked_entries n p.ok.0 r) q.entries in
-    let w = c.end_turn.new.hold in
-    let a = after f h u u w z y _ b refl c.end_turn.ensures.view rooms in
-    let none : w.tail.items ≡ [] = ap (λ s. s.items) c.end_turn.ensures.kept.1 ∙ p.tail.0 in
+    let added : y.journal.entries ≡ (z.journal.entries ++ u.tail.items) ++ picked_entries n p.ok.0 r = adds m y n p.ok.0 r c.in-Ok.field-0.drawing p.ok.2 ∙ ap (λ l. l ++ picked_entries n p.ok.0 r) q.entries in
+    let w = c.end_turn_with.new.hold in
+    let a = after f h u u w z y _ b refl c.end_turn_with.ensures.view rooms in
+    let none : w.tail.items ≡ [] = ap (λ s. s.items) c.end_turn_with.ensures.kept.1 ∙ p.tail.0 in
     let its : n ≡ (view_of h.pass).number = b.numbered ∙ ap (λ (v : View Core Entry). v.number) b.view in
     let goes : Goes (tok h) (picked_entries (view_of h.pass).number p.ok.0 r) (tok w) =
     (b.between, b.others, a.seen ∙ added ∙ (λ j. (b.entries j ++ (b.same_tail j).items) ++ picked_entries (its j) p.ok.0 r), none) in
@@ -190,8 +190,8 @@ returns-in-Ok-clause-ok g c =
       (b.between, b.others, q.entries ∙ (λ j. b.entries j ++ (b.same_tail j).items)),
       handed.driver ∙ ap (λ (l : List Entry). hide (outs m.driver.away) (replay_from (origin f) l)) (append-nil m.journal.entries),
       p.ok.1,
-      answers m y n p.ok.0 r p.ok.2,
-      a.seen ∙ adds m y n p.ok.0 r p.ok.2 ∙ ap (λ k. m.journal.entries ++ picked_entries k p.ok.0 r) its,
+      answers m y n p.ok.0 r c.in-Ok.field-0.drawing p.ok.2,
+      a.seen ∙ adds m y n p.ok.0 r c.in-Ok.field-0.drawing p.ok.2 ∙ ap (λ k. m.journal.entries ++ picked_entries k p.ok.0 r) its,
       own,
     )
 
@@ -210,6 +210,6 @@ returns-in-Err-clause-err_mine g c =
     let y = c.pick.new.self in
     let p = c.in-Err.ensures in
     let rooms = ap (λ r. r.items) p.err.2 ∙ q.rooms in
-    let w = c.end_turn-in-Err.new.hold in
-    let a = after f h u u w z y _ b refl c.end_turn-in-Err.ensures.view rooms in
-    hands_mine h w a.number (hands_goes f h u w z y _ b a (ap (λ s. s.items) c.end_turn-in-Err.ensures.kept.1 ∙ p.tail.0) (p.err.1 ∙ q.entries))
+    let w = c.end_turn.new.hold in
+    let a = after f h u u w z y _ b refl c.end_turn.ensures.view rooms in
+    hands_mine h w a.number (hands_goes f h u w z y _ b a (ap (λ s. s.items) c.end_turn.ensures.kept.1 ∙ p.tail.0) (p.err.1 ∙ q.entries))

@@ -1,9 +1,10 @@
-use Rattle.std.proofs.Common.{◌≡◌, ◌≤◌, ◌+◌, ◌-◌, ◌++◌, ◌∙◌, true, List, Some, ap, refl, sym, subst, length}
+use Rattle.std.proofs.Common.{◌≡◌, ◌≤◌, ◌+◌, ◌-◌, ◌++◌, ◌∙◌, true, false, List, Some, IfSome, ap, refl, sym, subst, length}
 use Rattle.std.specs.Prelude.{slice_index}
 use Rattle.std.proofs.lemmas.Bool.{and_parts}
 use Rattle.egl_calls.specs.declared.entries.Entry.{Entry}
 use Rattle.egl_model.specs.History.{replay_from}
 use Rattle.model_laws.specs.Local.{is_local}
+use Rattle.model_laws.proofs.OwnedPixels.{draw_owned}
 use Rattle.egl_model.specs.Parts.{Private, part_of}
 use Rattle.egl_model.specs.Step.{step}
 use Rattle.turn_lock.specs.Passes.{view_of}
@@ -55,3 +56,16 @@ returns-clause-reply c =
     let s = replay_from o (v.seen ++ h.tail.items) in
     let old : c.in-Some.part ≡ part_of s n = ap (some_of c.in-Some.part) (sym c.in-Some.is ∙ t.part) in
     (c.in_ok-reply.ensures.step s n (ready_replay o n (v.seen ++ h.tail.items) (ready_start v.first n t.sides t.few)) old).0 ∙ ap (λ k. (step s k c.args.call).reply) t.numbered
+
+-- a surface's pixels are its own
+pub returns-in_err-reply-clause-clears : goal.returns-in_err-reply-clause-clears
+returns-in_err-reply-clause-clears c kind =
+    let t = c.args.self.now in
+    let h = t.hold in
+    let v = view_of h.pass in
+    let o = start_in v.first in
+    let n = h.number in
+    let s = replay_from o (v.seen ++ h.tail.items) in
+    let old : c.in-Some.part ≡ part_of s n = ap (some_of c.in-Some.part) (sym c.in-Some.is ∙ t.part) in
+    let owned = subst (λ (p : Private). IfSome p.own.draw (λ i. i.owned ≡ true)) (sym old) (draw_owned s n (ready_replay o n (v.seen ++ h.tail.items) (ready_start v.first n t.sides t.few))) in
+    absurd (let e : false ≡ true = c.in_err-reply.ensures.room kind owned in cc)
