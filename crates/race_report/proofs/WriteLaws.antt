@@ -82,10 +82,10 @@ use Rattle.egl_model.specs.Textures.{change_pixels}
 use Rattle.egl_model.specs.Waits.{is_signalled, is_wait_end, waiting}
 use Rattle.egl_model.specs.Windows.{swapped_surface, swapped_with}
 use Rattle.model_laws.proofs.SweepLaws.{length-swept, object_at-swept}
-use Rattle.race_report.specs.Leading.{is_done}
-use Rattle.race_report.specs.Touches.{buffer_touches_on, drawing, egl_touches, front, gl_touches, gl_touches_on, is_attached, nothing, object, object_touches, own_touches, swap_of, swap_with, target_objects, touches_by, touches_by_class, touches_of}
+use Rattle.driver_core.proofs.TouchLaws.{gl_never_waits}
+use Rattle.driver_core.specs.Touches.{buffer_touches_on, drawing, egl_touches, front, gl_touches, gl_touches_on, is_attached, is_done, nothing, object, object_touches, own_touches, swap_of, swap_with, target_objects, touches_by, touches_by_class, touches_of}
 use Rattle.race_report.specs.Writes.{IsAsItWas, IsWrittenBy, Shows, Spares, StaysOrGoes}
-use Rattle.race_report.specs.declared.touched.Touches.{Touches}
+use Rattle.driver_core.specs.declared.touches.Touches.{Touches}
 use Rattle.race_report.proofs.DetachLaws.{CountsDetached, counts_all, counts_later, unattached}
 use Rattle.race_report.proofs.WordLaws.{contains_first, contains_later}
 
@@ -501,6 +501,10 @@ egl_done s t c SwapBuffers = let a = (egl_effect s t SwapBuffers c).state in let
 egl_done s t c k = let a = (egl_effect s t k c).state in idle (is_done (outcome_of (egl_effect s t k c))) s.objects _ s.windows _ (tells_then [] s.objects a.objects _ s.windows _ (told-egl s t c k) (kept_swept [] _ a.objects))
 
 egl_ruled : (s : State) (t : ℕ) (c : CallValue) (k : EglKind) (o : Option EglError) → ToldBy (egl_touches s t k) s (after_egl_rules s t o (egl_effect s t k c))
+egl_ruled s t c k (Some e) = tells_self [] s.objects s.windows
+egl_ruled s t c k None = egl_done s t c k
+
+gl_ruled : (s : State) (t : ℕ) (c : CallValue) (k : EglKind) (o : Option EglError) → ToldBy (egl_touches s t k) s (after_egl_rules s t o (egl_effect s t k c))
 egl_ruled s t c k (Some e) = tells_self [] s.objects s.windows
 egl_ruled s t c k None = egl_done s t c k
 
