@@ -37,7 +37,7 @@ use Rattle.egl_model.specs.Textures.{storage_at}
 use Rattle.egl_model.specs.Waits.{is_signalled, is_wait_end}
 use Rattle.model_laws.proofs.StepLaws.{egl_done, egl_refused, gl_done, gl_refused, gl_without_context, step_goes, step_waits}
 use Rattle.driver_core.specs.declared.touches.Touches.{Touches}
-use Rattle.driver_core.specs.Touches.{buffer_touches_on, egl_touches, gl_touches, gl_touches_on, is_attached, is_done, is_one_attached, nothing, object, objects_named, own_touches, touches_by, touches_of, where_done}
+use Rattle.driver_core.specs.Touches.{buffer_touches_on, egl_touches, gl_touches, gl_touches_on, is_attached, is_done, is_one_attached, levels_in, nothing, object, objects_named, own_touches, touches_by, touches_of, where_done}
 
 -- ---- A thread that waits.
 wait_nothing : (s : State) (t : ℕ) (c : CallValue) (k : Kind) (signalled : Bool) → where_done (wait_step s t (is_wait_end k) signalled) (touches_by s t k c) ≡ nothing
@@ -125,10 +125,6 @@ slot_step [] zero = refl
 slot_step [] (suc k) = refl
 slot_step (x ∷ xs) zero = slot_first x xs
 slot_step (x ∷ xs) (suc k) = slot_step xs k
-
--- the storages of a texture's levels
-abbrev pub levels_in : State → ℕ → List (Option ℕ)
-levels_in s x = option_map_or (λ (y : BackedTexture). y.levels) (texture_in s.objects x) []
 
 level_at : (o : Option BackedTexture) (k : ℕ) → option_and_then (storage_at k) o ≡ get_or (option_map_or (λ (y : BackedTexture). y.levels) o []) k None
 level_at None zero = refl

@@ -73,10 +73,14 @@ egl_touches s t SwapBuffers = swap_of (bound_surface s (record_of s t).draw)
 egl_touches s t k = nothing
 
 -- ---- Calls of OpenGL ES, of thread t, whose current context is n.
--- a texture, and the storages of its levels
+-- the storages of a texture's levels, where it has them
+abbrev pub levels_in : State → ℕ → List (Option ℕ)
+levels_in s x = option_map_or (λ y. y.levels) (texture_in s.objects x) []
+
+-- a texture, and these storages
 abbrev pub with_levels : State → Option ℕ → List ℤ
 with_levels s None = []
-with_levels s (Some x) = map pos (x ∷ filled (option_map_or (λ y. y.levels) (texture_in s.objects x) []))
+with_levels s (Some x) = map pos (x ∷ filled (levels_in s x))
 
 -- those of the texture on which calls work, where GL_TEXTURE_2D is enabled
 abbrev pub sampled_by : Option PartValue → State → Option ℕ → List ℤ

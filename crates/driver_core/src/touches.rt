@@ -11,8 +11,7 @@ ghost use Rattle.egl_model.specs.Parts.{is_place};
 ghost use Rattle.egl_model.specs.State.{record_of};
 ghost use Rattle.egl_model.specs.Step.{egl_step, gl_step, own_step, step_by};
 ghost use Rattle.egl_model.specs.Textures.{target_texture};
-ghost use Rattle.driver_core.specs.Touches.{color_object, deletion_touches, detached_framebuffer, draw_touches, egl_touches, front, gl_touches, gl_touches_on, is_attached, is_one_attached, nothing, object, object_touches, objects_named, own_touches, pixels_read, reading, sampled_by, swap_of, target_objects, touches_by, touches_of, where_done, with_color, with_levels, writing};
-ghost use Rattle.driver_core.proofs.TouchLaws.{levels_in};
+ghost use Rattle.driver_core.specs.Touches.{color_object, deletion_touches, detached_framebuffer, draw_touches, egl_touches, front, gl_touches, gl_touches_on, is_attached, is_one_attached, levels_in, nothing, object, object_touches, objects_named, own_touches, pixels_read, reading, sampled_by, swap_of, target_objects, touches_by, touches_of, where_done, with_color, with_levels, writing};
 
 use crate::machine::Driver;
 use crate::names::listed_name;
@@ -457,7 +456,7 @@ impl Driver {
         }
     }
 
-    #[tactic(auto, using(crate::proofs::TouchLaws::gl_without, crate::proofs::TouchLaws::gl_untouched, crate::proofs::TouchLaws::gl_touched))]
+    #[tactic(auto, using(crate::proofs::TouchLaws::gl_without, crate::proofs::TouchLaws::gl_touched))]
     fn gl_touches(
         &self,
         alloc: Global,

@@ -504,21 +504,6 @@ egl_ruled : (s : State) (t : ℕ) (c : CallValue) (k : EglKind) (o : Option EglE
 egl_ruled s t c k (Some e) = tells_self [] s.objects s.windows
 egl_ruled s t c k None = egl_done s t c k
 
-gl_ruled : (s : State) (t : ℕ) (c : CallValue) (k : EglKind) (o : Option EglError) → ToldBy (egl_touches s t k) s (after_egl_rules s t o (egl_effect s t k c))
-egl_ruled s t c k (Some e) = tells_self [] s.objects s.windows
-egl_ruled s t c k None = egl_done s t c k
-
-object_never_waits : (s : State) (t n : ℕ) (c : CallValue) (k : GlKind) → (object_effect s t n k c).waits ≡ false
-object_never_waits s t n c ReadPixels = refl
-object_never_waits s t n c k = refl
-
-waits_by : (o : Option ContextCall) (s : State) (t n : ℕ) (c : CallValue) (k : GlKind) → (effect_by o s t n k c).waits ≡ false
-waits_by (Some own) s t n c k = refl
-waits_by None s t n c k = object_never_waits s t n c k
-
-gl_never_waits : (s : State) (t n : ℕ) (c : CallValue) (k : GlKind) → (gl_effect s t n k c).waits ≡ false
-gl_never_waits s t n c k = waits_by (context_gl_call k) s t n c k
-
 gl_ruled : (s : State) (t n : ℕ) (c : CallValue) (k : GlKind) (o : Option GlError) → ToldBy (gl_touches s t n k c) s (after_gl_rules s n o (gl_effect s t n k c))
 gl_ruled s t n c k (Some e) = told-part [] s n (noted e)
 gl_ruled s t n c k None =

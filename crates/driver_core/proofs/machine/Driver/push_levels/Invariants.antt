@@ -1,6 +1,6 @@
 use Rattle.std.proofs.Common.{◌≡◌, ◌++◌, drop, map, pos}
 use Rattle.driver_objects.specs.Objects.{filled}
-use Rattle.driver_core.proofs.TouchLaws.{levels_in}
+use Rattle.driver_core.specs.Touches.{levels_in}
 use Rattle.driver_core.proofs.machine.Driver.push_levels.Given as goal
 
 abbrev pub invariant-each : goal.invariant-each
