@@ -197,7 +197,11 @@ impl Driver {
     }
 
     /// Adds a framebuffer and what is at its colour point.
-    fn push_with_color(&self, numbers: &mut Numbers, framebuffer: Option<u64>) -> Result<(), NoMemory>
+    fn push_with_color(
+        &self,
+        numbers: &mut Numbers,
+        framebuffer: Option<u64>,
+    ) -> Result<(), NoMemory>
         ensures { OnOk result (numbers.new ≡ numbers.old ++ with_color self.now.state framebuffer) }
     {
         let Some(framebuffer) = framebuffer else {
@@ -323,13 +327,7 @@ impl Driver {
 
     /// Whether the object of one of the names of a call's list is attached to a framebuffer.
     #[tactic(auto, using(crate::proofs::TouchLaws::attached_step))]
-    fn is_one_attached(
-        &self,
-        context: u64,
-        kind: NameKind,
-        call: &Call,
-        framebuffer: u64,
-    ) -> bool
+    fn is_one_attached(&self, context: u64, kind: NameKind, call: &Call, framebuffer: u64) -> bool
         ensures { result ≡ is_one_attached self.now.state context kind call.now.list framebuffer }
     {
         'each: for k in 0..call.list.as_slice().len() {
@@ -418,7 +416,12 @@ impl Driver {
             GlKind::FramebufferTexture2d | GlKind::FramebufferRenderbuffer => {
                 Ok(writing(alloc, object(alloc, self.target_framebuffer(context))?))
             }
-            GlKind::DeleteTextures => self.deletion_touches(alloc, context, NameKind::Texture, call),
+            GlKind::DeleteTextures => self.deletion_touches(
+                alloc,
+                context,
+                NameKind::Texture,
+                call,
+            ),
             GlKind::DeleteBuffers => self.deletion_touches(alloc, context, NameKind::Buffer, call),
             GlKind::DeleteRenderbuffers => {
                 self.deletion_touches(alloc, context, NameKind::Renderbuffer, call)
@@ -499,7 +502,12 @@ impl Driver {
     }
 
     /// What a `readFront` touches.
-    fn read_front_touches(&self, alloc: Global, thread: u32, call: &Call) -> Result<Touches, NoMemory>
+    fn read_front_touches(
+        &self,
+        alloc: Global,
+        thread: u32,
+        call: &Call,
+    ) -> Result<Touches, NoMemory>
         ensures { IfOk result (λ x. x ≡ own_touches self.now.state thread ReadFront call.now) }
     {
         let _ = thread;
