@@ -94,10 +94,10 @@ gl_touched s t n k c current h =
     ∙ ap (λ o. gl_touches_on s t o k c) current
 
 -- ---- This project's own calls.
-buffer_by : (s : State) (t n : ℕ) (c : CallValue) → Option GlError → Touches
+abbrev buffer_by : (s : State) (t n : ℕ) (c : CallValue) → Option GlError → Touches
 buffer_by s t n c o = where_done (after_gl_rules s n o (buffer_effect s t n c)) (buffer_touches_on s (Some n) c)
 
-buffer_on : (s : State) (t : ℕ) (c : CallValue) → Option ℕ → Touches
+abbrev buffer_on : (s : State) (t : ℕ) (c : CallValue) → Option ℕ → Touches
 buffer_on s t c o = where_done (buffer_step_on s t o c) (buffer_touches_on s o c)
 
 pub buffer_without : (s : State) (t : ℕ) (c : CallValue) → current_context s t ≡ None → where_done (own_step s t ReadBuffer c) (own_touches s t ReadBuffer c) ≡ nothing
