@@ -21,7 +21,7 @@ use thread_part::{bare, read};
 
 impl Driver {
     /// The number of the buffer on which a call works: of what the context has bound to the call's target.
-    fn target_buffer(&self, context: u64, call: &Call) -> Option<u64>
+    pub(crate) fn target_buffer(&self, context: u64, call: &Call) -> Option<u64>
         ensures { result ≡ target_buffer self.now.state context call.now }
     {
         match self.objects.context(context) {
@@ -110,7 +110,7 @@ impl Driver {
 
     /// The error by which a `readBuffer` is refused.
     #[tactic(auto, unfolding(egl_model::specs::OwnCalls::buffer_refusal))]
-    fn buffer_refusal(&self, thread: u32, context: u64, call: &Call) -> Option<GlError>
+    pub(crate) fn buffer_refusal(&self, thread: u32, context: u64, call: &Call) -> Option<GlError>
         requires { call.now.kind ≡ OwnCall ReadBuffer }
         ensures { result ≡ buffer_refusal self.now.state thread context call.now }
     {

@@ -100,7 +100,7 @@ fn attached_name(attached: Option<Attached>) -> u32
 
 impl Driver {
     /// The number of the framebuffer on which calls work: of what the context has bound.
-    fn target_framebuffer(&self, context: u64) -> Option<u64>
+    pub(crate) fn target_framebuffer(&self, context: u64) -> Option<u64>
         ensures { result ≡ target_framebuffer self.now.state context }
     {
         match self.objects.context(context) {

@@ -70,7 +70,7 @@ fn new_object(alloc: Global, target: BindTarget) -> Object
 }
 
 /// A name that a list of a call gives at a place.
-fn listed_name(call: &Call, k: usize) -> u32
+pub(crate) fn listed_name(call: &Call, k: usize) -> u32
     requires { k < length call.now.list }
     ensures { result ≡ unsigned (slice_index_or call.now.list k (pos 0)) }
 {

@@ -82,10 +82,10 @@ use Rattle.egl_model.specs.Textures.{change_pixels}
 use Rattle.egl_model.specs.Waits.{is_signalled, is_wait_end, waiting}
 use Rattle.egl_model.specs.Windows.{swapped_surface, swapped_with}
 use Rattle.model_laws.proofs.SweepLaws.{length-swept, object_at-swept}
-use Rattle.race_report.specs.Leading.{is_done}
-use Rattle.race_report.specs.Touches.{buffer_touches_on, drawing, egl_touches, front, gl_touches, gl_touches_on, is_attached, nothing, object, object_touches, own_touches, swap_of, swap_with, target_objects, touches_by, touches_by_class, touches_of}
+use Rattle.driver_core.proofs.TouchLaws.{gl_never_waits}
+use Rattle.driver_core.specs.Touches.{buffer_touches_on, drawing, egl_touches, front, gl_touches, gl_touches_on, is_attached, is_done, nothing, object, object_touches, own_touches, swap_of, swap_with, target_objects, touches_by, touches_by_class, touches_of}
 use Rattle.race_report.specs.Writes.{IsAsItWas, IsWrittenBy, Shows, Spares, StaysOrGoes}
-use Rattle.race_report.specs.declared.touched.Touches.{Touches}
+use Rattle.driver_core.specs.declared.touches.Touches.{Touches}
 use Rattle.race_report.proofs.DetachLaws.{CountsDetached, counts_all, counts_later, unattached}
 use Rattle.race_report.proofs.WordLaws.{contains_first, contains_later}
 
@@ -503,17 +503,6 @@ egl_done s t c k = let a = (egl_effect s t k c).state in idle (is_done (outcome_
 egl_ruled : (s : State) (t : ℕ) (c : CallValue) (k : EglKind) (o : Option EglError) → ToldBy (egl_touches s t k) s (after_egl_rules s t o (egl_effect s t k c))
 egl_ruled s t c k (Some e) = tells_self [] s.objects s.windows
 egl_ruled s t c k None = egl_done s t c k
-
-object_never_waits : (s : State) (t n : ℕ) (c : CallValue) (k : GlKind) → (object_effect s t n k c).waits ≡ false
-object_never_waits s t n c ReadPixels = refl
-object_never_waits s t n c k = refl
-
-waits_by : (o : Option ContextCall) (s : State) (t n : ℕ) (c : CallValue) (k : GlKind) → (effect_by o s t n k c).waits ≡ false
-waits_by (Some own) s t n c k = refl
-waits_by None s t n c k = object_never_waits s t n c k
-
-gl_never_waits : (s : State) (t n : ℕ) (c : CallValue) (k : GlKind) → (gl_effect s t n k c).waits ≡ false
-gl_never_waits s t n c k = waits_by (context_gl_call k) s t n c k
 
 gl_ruled : (s : State) (t n : ℕ) (c : CallValue) (k : GlKind) (o : Option GlError) → ToldBy (gl_touches s t n k c) s (after_gl_rules s n o (gl_effect s t n k c))
 gl_ruled s t n c k (Some e) = told-part [] s n (noted e)

@@ -5,8 +5,6 @@ use Rattle.std.specs.Option.{option_or, option_to_list}
 use Rattle.std.specs.Ordering.{int_eq}
 use Rattle.egl_calls.specs.Calls.{CallValue, ReplyValue}
 use Rattle.egl_calls.specs.declared.entries.Entry.{Entry}
-use Rattle.egl_calls.specs.declared.errors.Outcome.{Outcome}
-use Rattle.egl_calls.specs.declared.errors.Outcome.TheVariants.{Done}
 use Rattle.egl_calls.specs.declared.kinds.Kind.{Kind}
 use Rattle.egl_calls.specs.declared.kinds.Kind.TheVariants.{Egl, Own}
 use Rattle.egl_calls.specs.declared.kinds.EglKind.TheVariants.{CreateSync, ClientWaitSync, WaitSync}
@@ -14,6 +12,7 @@ use Rattle.egl_calls.specs.declared.kinds.OwnKind.TheVariants.{WaitEnd}
 use Rattle.egl_names.specs.declared.codes.TheConstants.{EGL_CONDITION_SATISFIED}
 use Rattle.egl_calls.specs.declared.places.TheConstants.{NAMED, POSTED}
 use Rattle.egl_model.specs.Arguments.{number}
+use Rattle.driver_core.specs.Touches.{is_done}
 use Rattle.trace_reader.specs.declared.traces.Line.{Line}
 use Rattle.trace_reader.specs.declared.traces.Reference.{Reference}
 use Rattle.trace_model.specs.Resolve.{is_waiting, answers, assigns}
@@ -55,10 +54,6 @@ abbrev pub awaited_place : List Entry → CallValue → Option ℕ
 awaited_place journal c = if is_await c.kind then position_from (posts (number c POSTED)) 0 journal else None
 
 -- ---- Syncs.
-abbrev pub is_done : Outcome → Bool
-is_done Done = true
-is_done o = false
-
 abbrev pub is_create_sync : Kind → Bool
 is_create_sync (Egl CreateSync) = true
 is_create_sync k = false

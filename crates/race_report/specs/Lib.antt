@@ -5,5 +5,4 @@ pub mod Races
 pub mod Leading
 pub mod Events
 pub mod Words
-pub mod Touches
 pub mod Writes

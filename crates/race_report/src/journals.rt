@@ -7,7 +7,7 @@ ghost use Rattle.race_report.specs.Events.{event_of, events_of};
 use crate::events::Event;
 use crate::leading::{behind_of, places_of};
 use crate::reports::{Pair, races};
-use crate::touched::Touches;
+use driver_core::Touches;
 use egl_calls::{Entry, List, NoMemory};
 use std::alloc::Global;
 use trace_reader::Line;

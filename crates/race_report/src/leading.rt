@@ -5,7 +5,8 @@ ghost use Rattle.std.specs.Option.{option_to_list};
 ghost use Rattle.egl_model.specs.Arguments.{number};
 ghost use Rattle.trace_model.specs.Resolve.{answers, assigns, is_waiting};
 ghost use Rattle.trace_model.specs.Turns.{is_await, posts};
-ghost use Rattle.race_report.specs.Leading.{last_from, variable_place, ArePlaces, is_played_by, uses_of, used_places, awaited_place, is_done, makes, begins, named, is_satisfied, named_by, waited_by, maker_place, behind_of};
+ghost use Rattle.driver_core.specs.Touches.{is_done};
+ghost use Rattle.race_report.specs.Leading.{last_from, variable_place, ArePlaces, is_played_by, uses_of, used_places, awaited_place, makes, begins, named, is_satisfied, named_by, waited_by, maker_place, behind_of};
 
 use egl_calls::places::{NAMED, POSTED};
 use egl_calls::{Call, EglKind, Entry, Kind, List, NoMemory, Outcome, OwnKind, Reply, unsigned};

@@ -9,9 +9,7 @@ mod journals;
 pub mod laws;
 mod leading;
 mod reports;
-mod touched;
 
 pub use events::Event;
 pub use journals::races_of;
 pub use reports::{Pair, races};
-pub use touched::Touches;

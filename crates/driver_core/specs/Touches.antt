@@ -1,9 +1,11 @@
 -- What a call reads and writes, beside what its thread has for itself: objects, and what windows show.
-use Rattle.std.specs.Prelude.{ℕ, ℤ, pos, neg_ℤ, Bool, false, ◌||◌, List, [], ◌∷◌, ◌++◌, map, if◌then◌else◌, is_some, option_to_list, Option, None, Some}
+use Rattle.std.specs.Prelude.{ℕ, ℤ, pos, neg_ℤ, Bool, true, false, ◌||◌, List, [], ◌∷◌, ◌++◌, map, if◌then◌else◌, is_some, option_to_list, Option, None, Some}
 use Rattle.std.specs.List.{filter_map, list_any}
 use Rattle.std.specs.Option.{option_and_then, option_map_or}
 use Rattle.egl_calls.specs.Calls.{CallValue}
 use Rattle.egl_calls.specs.Ranges.{unsigned}
+use Rattle.egl_calls.specs.declared.errors.Outcome.{Outcome}
+use Rattle.egl_calls.specs.declared.errors.Outcome.TheVariants.{Done}
 use Rattle.egl_calls.specs.declared.kinds.Kind.{Kind}
 use Rattle.egl_calls.specs.declared.kinds.Kind.TheVariants.{Egl, Gl, Own}
 use Rattle.egl_calls.specs.declared.kinds.EglKind.{EglKind}
@@ -31,11 +33,10 @@ use Rattle.egl_model.specs.Objects.{framebuffer_in, texture_in}
 use Rattle.egl_model.specs.Parts.{is_place}
 use Rattle.egl_model.specs.Renderbuffers.{target_renderbuffer}
 use Rattle.egl_model.specs.State.{State, record_of}
-use Rattle.egl_model.specs.Step.{step}
+use Rattle.egl_model.specs.Step.{Stepped, step}
 use Rattle.egl_model.specs.Textures.{level_of, level_storage, target_texture}
 use Rattle.egl_model.specs.Windows.{front_of}
-use Rattle.race_report.specs.Leading.{is_done}
-use Rattle.race_report.specs.declared.touched.Touches.{Touches}
+use Rattle.driver_core.specs.declared.touches.Touches.{Touches}
 
 abbrev pub nothing : Touches
 nothing = record { reads = []; writes = [] }
@@ -72,10 +73,14 @@ egl_touches s t SwapBuffers = swap_of (bound_surface s (record_of s t).draw)
 egl_touches s t k = nothing
 
 -- ---- Calls of OpenGL ES, of thread t, whose current context is n.
--- a texture, and the storages of its levels
+-- the storages of a texture's levels, where it has them
+abbrev pub levels_in : State → ℕ → List (Option ℕ)
+levels_in s x = option_map_or (λ y. y.levels) (texture_in s.objects x) []
+
+-- a texture, and these storages
 abbrev pub with_levels : State → Option ℕ → List ℤ
 with_levels s None = []
-with_levels s (Some x) = map pos (x ∷ filled (option_map_or (λ y. y.levels) (texture_in s.objects x) []))
+with_levels s (Some x) = map pos (x ∷ filled (levels_in s x))
 
 -- those of the texture on which calls work, where GL_TEXTURE_2D is enabled
 abbrev pub sampled_by : Option PartValue → State → Option ℕ → List ℤ
@@ -204,6 +209,14 @@ touches_by s t (Egl k) c = egl_touches s t k
 touches_by s t (Gl k) c = gl_touches_on s t (current_context s t) k c
 touches_by s t (Own k) c = own_touches s t k c
 
--- what a call of thread t touches: nothing where it is refused or waits
+-- a call that is refused or waits touches nothing
+abbrev pub is_done : Outcome → Bool
+is_done Done = true
+is_done o = false
+
+abbrev pub where_done : Stepped → Touches → Touches
+where_done a x = if is_done a.reply.outcome then x else nothing
+
+-- what a call of thread t touches
 unfoldable pub touches_of : State → ℕ → CallValue → Touches
-touches_of s t c = if is_done (step s t c).reply.outcome then touches_by s t c.kind c else nothing
+touches_of s t c = where_done (step s t c) (touches_by s t c.kind c)
