@@ -20,18 +20,18 @@ pub kept_owned : (p : PartValue) (i new : ImageValue) → i.owned ≡ true → n
 unfolding coloured painted
 kept_owned p i new e h = h ∙ ap (λ o. record (coloured i p) { owned = o }) (sym e)
 
-pub kept_frozen : (p : PartValue) (i copy mid new : ImageValue) → i.owned ≡ false → copy ≡ i → mid ≡ coloured copy p → new ≡ frozen mid → new ≡ cleared_image p i
+pub kept_frozen : (p : PartValue) (i mid new : ImageValue) → i.owned ≡ false → mid ≡ coloured i p → new ≡ frozen mid → new ≡ cleared_image p i
 unfolding coloured painted
-kept_frozen p i copy mid new e c m h = h ∙ ap frozen (m ∙ ap (λ x. coloured x p) c) ∙ ap (λ o. record (coloured i p) { owned = o }) (sym e)
+kept_frozen p i mid new e m h = h ∙ ap frozen m ∙ ap (λ o. record (coloured i p) { owned = o }) (sym e)
 
 -- ---- The same of one that is drawn into.
 pub drawn_owned : (p : PartValue) (from : Option SamplerValue) (r : Rect) (i new : ImageValue) → i.owned ≡ true → new ≡ drawn_with i p from r.x r.y r.w r.h → new ≡ drawn_image p from r i
 unfolding drawn painted
 drawn_owned p from r i new e h = h ∙ ap (λ o. record (drawn_with i p from r.x r.y r.w r.h) { owned = o }) (sym e)
 
-pub drawn_frozen : (p : PartValue) (from : Option SamplerValue) (r : Rect) (i copy mid new : ImageValue) → i.owned ≡ false → copy ≡ i → mid ≡ drawn_with copy p from r.x r.y r.w r.h → new ≡ frozen mid → new ≡ drawn_image p from r i
+pub drawn_frozen : (p : PartValue) (from : Option SamplerValue) (r : Rect) (i mid new : ImageValue) → i.owned ≡ false → mid ≡ drawn_with i p from r.x r.y r.w r.h → new ≡ frozen mid → new ≡ drawn_image p from r i
 unfolding drawn painted
-drawn_frozen p from r i copy mid new e c m h = h ∙ ap frozen (m ∙ ap (λ x. drawn_with x p from r.x r.y r.w r.h) c) ∙ ap (λ o. record (drawn_with i p from r.x r.y r.w r.h) { owned = o }) (sym e)
+drawn_frozen p from r i mid new e m h = h ∙ ap frozen m ∙ ap (λ o. record (drawn_with i p from r.x r.y r.w r.h) { owned = o }) (sym e)
 
 -- the numbers of a draw have 64 bits
 pub fits : (z : ℤ) → IsDrawNumber z → SFits w64 z
@@ -42,6 +42,6 @@ pub copied_owned : (x y : ℕ) (from : ImageValue) (r : Rect) (i new : ImageValu
 unfolding copied_into painted
 copied_owned x y from r i new e h = h ∙ ap (λ o. record (copied_into i x y from r) { owned = o }) (sym e)
 
-pub copied_frozen : (x y : ℕ) (from : ImageValue) (r : Rect) (i copy mid new : ImageValue) → i.owned ≡ false → copy ≡ i → mid ≡ copied_into copy x y from r → new ≡ frozen mid → new ≡ recopied_image x y from r i
+pub copied_frozen : (x y : ℕ) (from : ImageValue) (r : Rect) (i mid new : ImageValue) → i.owned ≡ false → mid ≡ copied_into i x y from r → new ≡ frozen mid → new ≡ recopied_image x y from r i
 unfolding copied_into painted
-copied_frozen x y from r i copy mid new e c m h = h ∙ ap frozen (m ∙ ap (λ v. copied_into v x y from r) c) ∙ ap (λ o. record (copied_into i x y from r) { owned = o }) (sym e)
+copied_frozen x y from r i mid new e m h = h ∙ ap frozen m ∙ ap (λ o. record (copied_into i x y from r) { owned = o }) (sym e)
