@@ -16,8 +16,8 @@ use crate::cells::Cells;
 use crate::masks::Mask;
 use crate::rects::Rect;
 use crate::rows::{
-    Rows, copy_rows, fill_rows, gather_row, load_rows, own, owns, pixel_in_rows, put_row,
-    refreeze, reload_rows,
+    Rows, copy_rows, fill_rows, gather_row, load_rows, own, owns, pixel_in_rows, put_row, refreeze,
+    reload_rows,
 };
 use crate::{rows, transfers};
 use egl_calls::{Bytes, NoMemory};

@@ -123,11 +123,14 @@ pub(crate) fn refreeze(rows: &mut Rows)
     ensures frozen { is_owned rows.new ≡ false }
 {
     let none = Rows::Alone(Cells::One(Vec::new(cells_of(rows).allocator())));
-    match frozen(mem::replace(rows, none)) {
-        Ok(shared) => *rows = shared,
-        Err(Rows::Owned(cells)) => *rows = Rows::Alone(cells),
-        Err(same) => *rows = same,
-    }
+    *rows = match mem::replace(rows, none) {
+        Rows::Owned(cells) => match Arc::new(cells.allocator(), cells) {
+            Ok(shared) => Rows::Frozen(shared),
+            Err(failed) => Rows::Alone(failed.value),
+        },
+        Rows::Frozen(shared) => Rows::Frozen(shared),
+        Rows::Alone(cells) => Rows::Alone(cells),
+    };
 }
 
 /// The same pixels for another image: a copy of one image's, and shared ones in the same memory.
