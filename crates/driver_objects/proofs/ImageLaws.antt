@@ -1,8 +1,7 @@
 -- A cleared image is frozen exactly where it was.
-use Rattle.std.proofs.Common.{◌≡◌, ℕ, ℤ, true, false, Option, Result, Ok, Err, sym, ap, ◌∙◌, rules, SFits, w64}
-use Rattle.std.specs.Prelude.{OnOk}
+use Rattle.std.proofs.Common.{◌≡◌, ℕ, ℤ, true, Option, sym, ap, ◌∙◌, rules, SFits, w64}
 use Rattle.context_state.specs.Parts.{PartValue}
-use Rattle.pixel_rows.specs.Images.{ImageValue, frozen}
+use Rattle.pixel_rows.specs.Images.{ImageValue}
 use Rattle.pixel_rows.specs.Painting.{painted}
 use Rattle.rect_pipeline.specs.Clearing.{coloured}
 use Rattle.rect_pipeline.specs.Copying.{copied_into}
@@ -12,26 +11,14 @@ use Rattle.rect_pipeline.specs.Samplers.{SamplerValue, drawn_with}
 use Rattle.rect_pipeline.specs.Signed.{IsDrawNumber}
 use Rattle.driver_objects.specs.Storages.{cleared_image, drawn_image, recopied_image}
 
-pub on_ok : {A E P Q : Type 0} (r : Result A E) → (P → Q) → OnOk r P → OnOk r Q
-on_ok (Ok x) f p = f p
-on_ok (Err e) f p = tt
-
 pub kept_owned : (p : PartValue) (i new : ImageValue) → i.owned ≡ true → new ≡ coloured i p → new ≡ cleared_image p i
 unfolding coloured painted
 kept_owned p i new e h = h ∙ ap (λ o. record (coloured i p) { owned = o }) (sym e)
-
-pub kept_frozen : (p : PartValue) (i copy mid new : ImageValue) → i.owned ≡ false → copy ≡ i → mid ≡ coloured copy p → new ≡ frozen mid → new ≡ cleared_image p i
-unfolding coloured painted
-kept_frozen p i copy mid new e c m h = h ∙ ap frozen (m ∙ ap (λ x. coloured x p) c) ∙ ap (λ o. record (coloured i p) { owned = o }) (sym e)
 
 -- ---- The same of one that is drawn into.
 pub drawn_owned : (p : PartValue) (from : Option SamplerValue) (r : Rect) (i new : ImageValue) → i.owned ≡ true → new ≡ drawn_with i p from r.x r.y r.w r.h → new ≡ drawn_image p from r i
 unfolding drawn painted
 drawn_owned p from r i new e h = h ∙ ap (λ o. record (drawn_with i p from r.x r.y r.w r.h) { owned = o }) (sym e)
-
-pub drawn_frozen : (p : PartValue) (from : Option SamplerValue) (r : Rect) (i copy mid new : ImageValue) → i.owned ≡ false → copy ≡ i → mid ≡ drawn_with copy p from r.x r.y r.w r.h → new ≡ frozen mid → new ≡ drawn_image p from r i
-unfolding drawn painted
-drawn_frozen p from r i copy mid new e c m h = h ∙ ap frozen (m ∙ ap (λ x. drawn_with x p from r.x r.y r.w r.h) c) ∙ ap (λ o. record (drawn_with i p from r.x r.y r.w r.h) { owned = o }) (sym e)
 
 -- the numbers of a draw have 64 bits
 pub fits : (z : ℤ) → IsDrawNumber z → SFits w64 z
@@ -41,7 +28,3 @@ fits z n = let low = n.low in let high = n.high in search rules
 pub copied_owned : (x y : ℕ) (from : ImageValue) (r : Rect) (i new : ImageValue) → i.owned ≡ true → new ≡ copied_into i x y from r → new ≡ recopied_image x y from r i
 unfolding copied_into painted
 copied_owned x y from r i new e h = h ∙ ap (λ o. record (copied_into i x y from r) { owned = o }) (sym e)
-
-pub copied_frozen : (x y : ℕ) (from : ImageValue) (r : Rect) (i copy mid new : ImageValue) → i.owned ≡ false → copy ≡ i → mid ≡ copied_into copy x y from r → new ≡ frozen mid → new ≡ recopied_image x y from r i
-unfolding copied_into painted
-copied_frozen x y from r i copy mid new e c m h = h ∙ ap frozen (m ∙ ap (λ v. copied_into v x y from r) c) ∙ ap (λ o. record (copied_into i x y from r) { owned = o }) (sym e)

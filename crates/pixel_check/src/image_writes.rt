@@ -351,6 +351,20 @@ fn a_write_to_one_of_two_shared_images_leaves_the_other(rt: HostRuntime) {
     expect_pair(&rt, &third, RED, RED);
 }
 
+#[test]
+fn a_written_image_is_frozen_again(rt: HostRuntime) {
+    let mut first = frozen(&rt, reds(&rt, rt.alloc()));
+    let second = shared(&rt, &first);
+    put(&rt, &mut first, 1, 0, BLUE, ALL);
+    first.refreeze();
+    assert!(rt; !first.is_owned());
+    let third = shared(&rt, &first);
+    put(&rt, &mut first, 0, 0, BLUE, ALL);
+    expect_pair(&rt, &first, BLUE, BLUE);
+    expect_pair(&rt, &second, RED, RED);
+    expect_pair(&rt, &third, RED, BLUE);
+}
+
 /// A part of an image of one colour is loaded with bytes, and the image is then these bytes in a format.
 struct Load {
     sides: (u32, u32),

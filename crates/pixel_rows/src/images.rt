@@ -16,7 +16,7 @@ use crate::cells::Cells;
 use crate::masks::Mask;
 use crate::rects::Rect;
 use crate::rows::{
-    Rows, copy_rows, fill_rows, gather_row, load_rows, own, owns, pixel_in_rows, put_row,
+    Rows, copy_rows, fill_rows, gather_row, load_rows, own, owns, pixel_in_rows, put_row, refreeze,
     reload_rows,
 };
 use crate::{rows, transfers};
@@ -144,7 +144,17 @@ impl Image {
         }
     }
 
-    /// An equal image. A later write to either leaves the other. Of a frozen image no pixel is copied.
+    /// Freezes an image again that was written. Where there is no memory to share its bytes, `share`
+    /// copies them.
+    pub fn refreeze(&mut self)
+        ensures frozen { self.new ≡ values.frozen self.old }
+        ensures whole { IsImage self.new }
+    {
+        refreeze(&mut self.rows);
+    }
+
+    /// An equal image. A later write to either leaves the other. Of a frozen image no pixel is copied, but
+    /// where `refreeze` found no memory.
     pub fn share(&self) -> Result<Image, NoMemory>
         ensures { IfOk result (λ i. i ≡ self.now) }
     {

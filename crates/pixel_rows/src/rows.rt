@@ -27,12 +27,14 @@ use pixel_formats::{Format, Pixel, bytes_of};
 use std::mem;
 use std::sync::Arc;
 
-/// Packed pixels: one image's own, or those of each image that shares them. Those are written only
-/// while one image alone has them.
+/// Packed pixels: one image's own, or frozen ones, which each image has that shares them. Frozen ones are
+/// written only while one image alone has them. Those for which there was no memory to share them are
+/// one image's alone: a share of them is a copy.
 #[derive(Drop)]
 pub(crate) enum Rows {
     Owned(Cells),
     Frozen(Arc<Cells>),
+    Alone(Cells),
 }
 
 /// Whether the rows are an image's own.
@@ -41,7 +43,7 @@ pub(crate) fn owns(rows: &Rows) -> bool
 {
     match rows {
         Rows::Owned(_) => true,
-        Rows::Frozen(_) => false,
+        Rows::Frozen(_) | Rows::Alone(_) => false,
     }
 }
 
@@ -52,6 +54,7 @@ pub(crate) fn cells_of(rows: &Rows) -> &Cells
     match rows {
         Rows::Owned(cells) => cells,
         Rows::Frozen(shared) => shared,
+        Rows::Alone(cells) => cells,
     }
 }
 
@@ -81,7 +84,7 @@ pub(crate) fn own(rows: &mut Rows) -> Result<(), NoMemory>
     }
     let none = Rows::Owned(Cells::One(Vec::new(cells_of(rows).allocator())));
     match mem::replace(rows, none) {
-        Rows::Owned(cells) => {
+        Rows::Owned(cells) | Rows::Alone(cells) => {
             *rows = Rows::Owned(cells);
             Ok(())
         }
@@ -106,6 +109,7 @@ pub(crate) fn frozen(rows: Rows) -> Result<Rows, Rows>
 {
     match rows {
         Rows::Frozen(shared) => Ok(Rows::Frozen(shared)),
+        Rows::Alone(cells) => Ok(Rows::Alone(cells)),
         Rows::Owned(cells) => match Arc::new(cells.allocator(), cells) {
             Ok(shared) => Ok(Rows::Frozen(shared)),
             Err(failed) => Err(Rows::Owned(failed.value)),
@@ -113,12 +117,29 @@ pub(crate) fn frozen(rows: Rows) -> Result<Rows, Rows>
     }
 }
 
-/// The same pixels for another image: a copy of an image's own, and frozen ones in the same memory.
+/// Freezes rows again that were written. It takes memory to let other images share them, but needs none.
+pub(crate) fn refreeze(rows: &mut Rows)
+    ensures cells { SameCells (values.cells_of rows.old) (values.cells_of rows.new) }
+    ensures frozen { is_owned rows.new ≡ false }
+{
+    let none = Rows::Alone(Cells::One(Vec::new(cells_of(rows).allocator())));
+    *rows = match mem::replace(rows, none) {
+        Rows::Owned(cells) => match Arc::new(cells.allocator(), cells) {
+            Ok(shared) => Rows::Frozen(shared),
+            Err(failed) => Rows::Alone(failed.value),
+        },
+        Rows::Frozen(shared) => Rows::Frozen(shared),
+        Rows::Alone(cells) => Rows::Alone(cells),
+    };
+}
+
+/// The same pixels for another image: a copy of one image's, and shared ones in the same memory.
 pub(crate) fn share(rows: &Rows) -> Result<Rows, NoMemory>
     ensures { IfOk result (SameRows rows.now) }
 {
     match rows {
         Rows::Owned(cells) => Ok(Rows::Owned(cells.copy()?)),
+        Rows::Alone(cells) => Ok(Rows::Alone(cells.copy()?)),
         Rows::Frozen(shared) => match Arc::try_clone(shared) {
             Ok(shared) => Ok(Rows::Frozen(shared)),
             Err(_) => Err(NoMemory),
@@ -145,7 +166,7 @@ pub(crate) fn fill_rows(
 {
     match rows {
         Rows::Owned(cells) => fill_block(cells, width, block, f, p, mask),
-        Rows::Frozen(_) => unreachable!(),
+        Rows::Frozen(_) | Rows::Alone(_) => unreachable!(),
     }
 }
 
@@ -171,7 +192,7 @@ pub(crate) fn load_rows(
     let long = stride((block.right - block.left) * bytes_of(from) as usize, align);
     match rows {
         Rows::Owned(cells) => load_block(cells, width, block, bytes, long, f, from),
-        Rows::Frozen(_) => unreachable!(),
+        Rows::Frozen(_) | Rows::Alone(_) => unreachable!(),
     }
 }
 
@@ -237,6 +258,10 @@ pub(crate) fn reload_rows(
             load_block(cells, width, block, bytes, long, f, from);
             Ok(())
         }
+        Rows::Alone(cells) => {
+            load_block(cells, width, block, bytes, long, f, from);
+            Ok(())
+        }
         Rows::Frozen(shared) => load_frozen(shared, width, block, bytes, long, f, from),
     }
 }
@@ -253,7 +278,7 @@ pub(crate) fn copy_rows(rows: &mut Rows, source: &Rows, f: Format, from: Format)
 {
     match rows {
         Rows::Owned(cells) => copy_cells(cells, cells_of(source), f, from),
-        Rows::Frozen(_) => unreachable!(),
+        Rows::Frozen(_) | Rows::Alone(_) => unreachable!(),
     }
 }
 
@@ -278,7 +303,7 @@ pub(crate) fn gather_row(
 {
     match rows {
         Rows::Owned(cells) => gather_cells(cells, at, cells_of(source), first, columns, f),
-        Rows::Frozen(_) => unreachable!(),
+        Rows::Frozen(_) | Rows::Alone(_) => unreachable!(),
     }
 }
 
@@ -293,7 +318,7 @@ pub(crate) fn put_row(rows: &mut Rows, at: usize, row: &[Pixel], f: Format, mask
 {
     match rows {
         Rows::Owned(cells) => put_cells(cells, at, row, f, mask),
-        Rows::Frozen(_) => unreachable!(),
+        Rows::Frozen(_) | Rows::Alone(_) => unreachable!(),
     }
 }
 
