@@ -1,16 +1,19 @@
 //! What a call reads and writes.
-ghost use Rattle.std.specs.Prelude.{◌≡◌, ◌≢◌, ◌<◌, ◌++◌, ◌∷◌, [], None, map, pos, IfOk, OnOk};
+ghost use Rattle.std.specs.Prelude.{◌≡◌, ◌≢◌, ◌<◌, ◌++◌, ◌∷◌, [], None, is_some, map, pos, true, IfOk, IsOk, OnOk};
 ghost use Rattle.context_state.specs.Kinds.{context_gl_call};
 ghost use Rattle.driver_objects.specs.Objects.{filled};
 ghost use Rattle.egl_calls.specs.declared.kinds.Kind.TheVariants.{Egl as EglCall, Gl as GlCall, Own as OwnCall};
 ghost use Rattle.egl_calls.specs.declared.kinds.GlKind.TheVariants.{Clear, CopyTexSubImage2d};
 ghost use Rattle.egl_calls.specs.declared.kinds.OwnKind.TheVariants.{ReadBuffer, ReadFront};
 ghost use Rattle.egl_model.specs.Currents.{bound_surface, current_context, part_of_context};
+ghost use Rattle.egl_model.specs.EglFacts.{egl_refusal};
 ghost use Rattle.egl_model.specs.Objects.{framebuffer_in};
 ghost use Rattle.egl_model.specs.Parts.{is_place};
 ghost use Rattle.egl_model.specs.State.{record_of};
 ghost use Rattle.egl_model.specs.Step.{egl_step, gl_step, own_step, step_by};
 ghost use Rattle.egl_model.specs.Textures.{target_texture};
+ghost use Rattle.thread_part.specs.Memory.{clears_nothing};
+ghost use Rattle.driver_core.specs.Memory.{is_bare, is_bare_on};
 ghost use Rattle.driver_core.specs.Touches.{color_object, deletion_touches, detached_framebuffer, draw_touches, egl_touches, front, gl_touches, gl_touches_on, is_attached, is_one_attached, levels_in, nothing, object, object_touches, objects_named, own_touches, pixels_read, reading, sampled_by, swap_of, target_objects, touches_by, touches_of, where_done, with_color, with_levels, writing};
 
 use crate::machine::Driver;
@@ -136,7 +139,8 @@ impl Driver {
     ) -> Result<Touches, NoMemory>
         requires made { thread < self.now.made }
         requires kind { call.now.kind ≡ EglCall kind }
-        ensures { IfOk result (λ x. x ≡ where_done (egl_step self.now.state thread kind call.now) (egl_touches self.now.state thread kind)) }
+        ensures touched { IfOk result (λ x. x ≡ where_done (egl_step self.now.state thread kind call.now) (egl_touches self.now.state thread kind)) }
+        ensures bare { is_some (egl_refusal self.now.state thread kind call.now) ≡ true → IsOk result }
     {
         if self.egl_refusal(thread, kind, call).is_some() {
             return Ok(nothing(alloc));
@@ -261,7 +265,8 @@ impl Driver {
         call: &Call,
     ) -> Result<Touches, NoMemory>
         requires { thread < self.now.made }
-        ensures { IfOk result (λ x. x ≡ object_touches self.now.state thread context Clear call.now) }
+        ensures touched { IfOk result (λ x. x ≡ object_touches self.now.state thread context Clear call.now) }
+        ensures nothing { clears_nothing Clear call.now ≡ true → IsOk result }
     {
         if !clears_colour(call) {
             return Ok(nothing(alloc));
@@ -380,7 +385,8 @@ impl Driver {
     ) -> Result<Touches, NoMemory>
         requires made { thread < self.now.made }
         requires object { context_gl_call kind ≡ None }
-        ensures { IfOk result (λ x. x ≡ object_touches self.now.state thread context kind call.now) }
+        ensures touched { IfOk result (λ x. x ≡ object_touches self.now.state thread context kind call.now) }
+        ensures nothing { clears_nothing kind call.now ≡ true → IsOk result }
     {
         match kind {
             GlKind::Clear => self.clear_touches(alloc, thread, context, call),
@@ -451,7 +457,8 @@ impl Driver {
         call: &Call,
     ) -> Result<Touches, NoMemory>
         requires { thread < self.now.made }
-        ensures { IfOk result (λ x. x ≡ gl_touches self.now.state thread context kind call.now) }
+        ensures touched { IfOk result (λ x. x ≡ gl_touches self.now.state thread context kind call.now) }
+        ensures nothing { clears_nothing kind call.now ≡ true → IsOk result }
     {
         match context_gl_call(kind) {
             Some(_) => Ok(nothing(alloc)),
@@ -469,7 +476,8 @@ impl Driver {
     ) -> Result<Touches, NoMemory>
         requires made { thread < self.now.made }
         requires kind { call.now.kind ≡ GlCall kind }
-        ensures { IfOk result (λ x. x ≡ where_done (gl_step self.now.state thread kind call.now) (gl_touches_on self.now.state thread (current_context self.now.state thread) kind call.now)) }
+        ensures touched { IfOk result (λ x. x ≡ where_done (gl_step self.now.state thread kind call.now) (gl_touches_on self.now.state thread (current_context self.now.state thread) kind call.now)) }
+        ensures bare { is_bare_on self.now.state thread (current_context self.now.state thread) kind call.now ≡ true → IsOk result }
     {
         let Some(context) = self.current_context(thread) else {
             return Ok(nothing(alloc));
@@ -543,7 +551,8 @@ impl Driver {
     /// What a call touches of a thread that doesn't wait.
     fn touches_by(&self, alloc: Global, thread: u32, call: &Call) -> Result<Touches, NoMemory>
         requires { thread < self.now.made }
-        ensures { IfOk result (λ x. x ≡ where_done (step_by self.now.state thread call.now.kind call.now) (touches_by self.now.state thread call.now.kind call.now)) }
+        ensures touched { IfOk result (λ x. x ≡ where_done (step_by self.now.state thread call.now.kind call.now) (touches_by self.now.state thread call.now.kind call.now)) }
+        ensures bare { is_bare self.now.state thread call.now.kind call.now ≡ true → IsOk result }
     {
         match call.kind {
             Kind::Egl(kind) => self.egl_touches(alloc, thread, kind, call),
@@ -557,7 +566,8 @@ impl Driver {
     #[tactic(auto, using(crate::proofs::TouchLaws::touches_waiting, crate::proofs::TouchLaws::touches_going))]
     pub fn touches(&self, alloc: Global, thread: u32, call: &Call) -> Result<Touches, NoMemory>
         requires { thread < self.now.made }
-        ensures { IfOk result (λ x. x ≡ touches_of self.now.state thread call.now) }
+        ensures touched { IfOk result (λ x. x ≡ touches_of self.now.state thread call.now) }
+        ensures bare { is_bare self.now.state thread call.now.kind call.now ≡ true → IsOk result }
     {
         match self.record(thread).wait {
             Some(_) => Ok(nothing(alloc)),
