@@ -1,5 +1,5 @@
 -- EGL images and the storages that they share.
-use Rattle.std.proofs.Common.{◌≡◌, ◌≢◌, ℕ, ◌<◌, ℤ, pos, negsuc, true, false, List, [], get_or, refl, sym, ap, ◌∙◌, inl, inr, arith, Option, None, Some}
+use Rattle.std.proofs.Common.{◌≡◌, ℕ, ◌<◌, ℤ, pos, negsuc, true, false, List, [], get_or, refl, sym, ap, ◌∙◌, inl, inr, arith, Option, None, Some}
 use Rattle.std.proofs.lemmas.Bool.{cases_eq, false≢true, leb-false, not-false}
 use Rattle.std.proofs.lemmas.Int.{ints}
 use Rattle.std.specs.Prelude.{IfSome, IsSome, int_lt, is_some}

@@ -2,7 +2,7 @@
 use Rattle.std.proofs.Common.{◌≡◌, ◌≢◌, ℕ, zero, suc, ◌+◌, ◌<◌, ℤ, pos, Bool, true, false, List, [], ◌∷◌, ◌++◌, map, length, drop, drop-cons, get_or, refl, sym, ap, ◌∙◌, arith, append_assoc, Option, None, Some}
 use Rattle.std.specs.Prelude.{if◌then◌else◌, ◌||◌, IfSome}
 use Rattle.std.proofs.lemmas.List.{append-nil, drop_all}
-use Rattle.std.specs.List.{filter_map, cons_option, list_any}
+use Rattle.std.specs.List.{filter_map, cons_option}
 use Rattle.std.specs.Option.{option_map_or, option_and_then}
 use Rattle.egl_calls.specs.Calls.{CallValue}
 use Rattle.egl_calls.specs.Ranges.{unsigned}
@@ -32,7 +32,7 @@ use Rattle.egl_model.specs.Names.{group_of, object_named}
 use Rattle.egl_model.specs.Objects.{framebuffer_in, texture_in}
 use Rattle.egl_model.specs.OwnCalls.{buffer_effect, buffer_refusal}
 use Rattle.egl_model.specs.State.{State, record_of}
-use Rattle.egl_model.specs.Step.{after_gl_rules, buffer_step_on, egl_step, gl_step, own_step, step, step_by, wait_step}
+use Rattle.egl_model.specs.Step.{after_gl_rules, buffer_step_on, egl_step, gl_step, own_step, step_by, wait_step}
 use Rattle.egl_model.specs.Textures.{storage_at}
 use Rattle.egl_model.specs.Waits.{is_signalled, is_wait_end}
 use Rattle.model_laws.proofs.StepLaws.{egl_done, egl_refused, gl_done, gl_refused, gl_without_context, step_goes, step_waits}

@@ -16,7 +16,7 @@ use Rattle.egl_calls.specs.declared.kinds.Kind.TheVariants.{Egl, Gl, Own}
 use Rattle.egl_calls.specs.declared.kinds.EglKind.{EglKind}
 use Rattle.egl_calls.specs.declared.kinds.EglKind.TheVariants.{ClientWaitSync, CreateContext, CreateImage, CreatePbufferSurface, CreateSync, CreateWindowSurface, MakeCurrent, ReleaseThread, SurfaceAttrib, SwapBuffers, WaitClient, WaitSync}
 use Rattle.egl_calls.specs.declared.kinds.GlKind.{GlKind}
-use Rattle.egl_calls.specs.declared.kinds.GlKind.TheVariants.{BindTexture, Clear, CopyTexImage2d, CopyTexSubImage2d, DeleteTextures, DrawTexi, DrawTexx, Finish, Flush, GenTextures, ReadPixels, TexImage2d, TexParameterx, TexParameteriv, TexSubImage2d, GenBuffers, DeleteBuffers, BindBuffer, BufferData, BufferSubData, GenRenderbuffers, DeleteRenderbuffers, BindRenderbuffer, RenderbufferStorage, GenFramebuffers, DeleteFramebuffers, BindFramebuffer, FramebufferTexture2d, FramebufferRenderbuffer, ImageTargetTexture2d, ImageTargetRenderbufferStorage}
+use Rattle.egl_calls.specs.declared.kinds.GlKind.TheVariants.{BindTexture, Clear, CopyTexImage2d, CopyTexSubImage2d, DeleteTextures, DrawTexi, DrawTexx, Finish, Flush, GenTextures, TexImage2d, TexParameterx, TexParameteriv, TexSubImage2d, GenBuffers, DeleteBuffers, BindBuffer, BufferData, BufferSubData, GenRenderbuffers, DeleteRenderbuffers, BindRenderbuffer, RenderbufferStorage, GenFramebuffers, DeleteFramebuffers, BindFramebuffer, FramebufferTexture2d, FramebufferRenderbuffer, ImageTargetTexture2d, ImageTargetRenderbufferStorage}
 use Rattle.egl_calls.specs.declared.kinds.OwnKind.{OwnKind}
 use Rattle.egl_calls.specs.declared.kinds.OwnKind.TheVariants.{ReadBuffer, WaitEnd}
 use Rattle.call_rules.specs.EglRules.{is_release}
