@@ -40,7 +40,7 @@ fn touched(
 /// The races of a run of a trace: all pairs of places of its journal, counted from 0, whose entries are of different threads and touch one object or front, one of them by a write, where nothing orders the first before the second. They rise by the first place and then by the second.
 ///
 /// A new driver plays the journal's calls again, so while this runs there are the objects of two drivers.
-#[tactic(auto, unfolding(crate::specs::Replays::AreRacesOf), using(crate::proofs::ReplayLaws::touched_long, crate::proofs::ReplayLaws::few_of))]
+#[tactic(auto, unfolding(crate::specs::Replays::AreRacesOf))]
 pub fn report(alloc: Global, trace: &Trace, run: &Run) -> Result<List<Pair>, NoMemory>
     requires { All (λ e. e.thread < trace.now.threads) run.now.journal.entries }
     ensures { IfOk result (λ pairs. AreRacesOf trace.now run.now.journal.entries pairs) }
