@@ -14,7 +14,7 @@ const HEADER: &[u8] = b"egl-trace 1 1\n";
 const EMPTY_RECORDING: &[u8] = b"recording\ncensus 0 0 0 0 0 0 0 0 0 0 0\nend\n";
 
 const USAGE: &[u8] =
-    b"usage: egl_cli serial | play [summary] | check | configs | gen N THREADS SEED | compose W H\n";
+    b"usage: egl_cli serial | play [summary] | check | configs | gen N THREADS SEED | compose W H | races\n";
 
 /// The commands that play a trace.
 const PLAYERS: [&str; 2] = ["serial", "play"];

@@ -6,6 +6,7 @@ pub mod SerialLaws
 pub mod StackLaws
 pub mod FrameLaws
 pub mod ComposeLaws
+pub mod RaceLaws
 pub mod PlayLaws
 pub mod CheckLaws
 pub mod HeldLaws

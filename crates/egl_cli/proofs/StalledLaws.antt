@@ -24,7 +24,7 @@ never_stalls t journal s c =
     let all : Bool = list_all (is_at_rest t.lines journal s) (threads_of t) in
     ap (λ (b : Bool). all && not b) c ∙ never all
 
-answer_by : (t : TraceValue) (b : Bool) → is_stalled t (serial t) (state_behind t (serial t)) ≡ b → run_answer t ≡ journal_answer false t (serial t) b
+pub answer_by : (t : TraceValue) (b : Bool) → is_stalled t (serial t) (state_behind t (serial t)) ≡ b → run_answer t ≡ journal_answer false t (serial t) b
 unfolding run_answer
 answer_by t b h = ap (journal_answer false t (serial t)) h
 

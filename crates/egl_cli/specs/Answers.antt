@@ -1,5 +1,5 @@
 -- What the program says: a status and a text, by the bytes of its input.
-use Rattle.std.specs.Prelude.{◌≡◌, ◌⊎◌, ℕ, ◌+◌, nat_lt, Bool, true, false, List, ◌++◌, if◌then◌else◌, length, take, drop, codes, decimal, Option, None, Some, Result, Ok, Err}
+use Rattle.std.specs.Prelude.{◌≡◌, ◌⊎◌, ℕ, ◌+◌, nat_lt, Bool, true, false, List, [], ◌++◌, if◌then◌else◌, length, take, drop, codes, decimal, Option, None, Some, Result, Ok, Err}
 use Rattle.std.specs.Str.Lines.{lines}
 use Rattle.trace_reader.specs.declared.traces.Reason.{Reason}
 use Rattle.trace_reader.specs.declared.traces.Reason.TheVariants.{Header, Window, Thread, Name, Argument, Variable, Limit, Entry}
@@ -18,15 +18,19 @@ use Rattle.journal_text.specs.declared.cuts.Cut.{Cut}
 use Rattle.journal_text.specs.declared.recordings.RecordedLine.{RecordedLine}
 use Rattle.trace_check.specs.Verdicts.{verdict}
 use Rattle.trace_check.specs.declared.verdicts.Verdict.{Verdict}
+use Rattle.race_report.specs.declared.reports.Pair.{Pair}
+use Rattle.race_report.specs.Replays.{AreRacesOf}
 use Rattle.trace_check.specs.declared.verdicts.Verdict.TheVariants.{Holds, Differs as DiffersAt, Incomplete}
 use Rattle.egl_cli.specs.Frames.{frames_text}
+use Rattle.egl_cli.specs.BodyLines.{short_trace}
+use Rattle.egl_cli.specs.RaceLines.{races_text}
 use Rattle.egl_cli.specs.StalledLines.{stalled_lines}
 use Rattle.egl_cli.specs.declared.statuses.Status.TheVariants.{Ok as Fine, Malformed, Stalled, TooLong, Differs}
 use Rattle.egl_cli.specs.declared.answers.Answer.{Answer}
 use Rattle.egl_cli.specs.declared.inputs.Claim.{Claim}
 
 unfoldable pub usage_text : List ℕ
-usage_text = codes "usage: egl_cli serial | play [summary] | check | configs | gen N THREADS SEED | compose W H\n"
+usage_text = codes "usage: egl_cli serial | play [summary] | check | configs | gen N THREADS SEED | compose W H | races\n"
 
 unfoldable pub read_fault_text : List ℕ
 read_fault_text = codes "read fault\n"
@@ -81,6 +85,24 @@ journal_frames w h t journal true = record { status = Stalled; text = frames_tex
 unfoldable pub run_frames : ℕ → ℕ → TraceValue → Answer
 run_frames w h t = journal_frames w h t (serial t) (is_stalled t (serial t) (state_behind t (serial t)))
 
+-- ---- Of a trace that is played for its races.
+-- the races of its journal, and where the run stalled, the lines at which threads wait
+abbrev pub journal_races : TraceValue → List AnEntry → List Pair → Bool → Answer
+journal_races t journal pairs false = record { status = Fine; text = races_text journal pairs }
+journal_races t journal pairs true = record { status = Stalled; text = races_text journal pairs ++ stalled_lines t journal }
+
+-- the answer to a journal, behind which the run stalled or didn't. There is only one: no two lists are all races
+abbrev pub IsJournalRaces : TraceValue → List AnEntry → Bool → Answer → Type 0
+IsJournalRaces t journal stalled a = (pairs : List Pair) × AreRacesOf t journal pairs × (a ≡ journal_races t journal pairs stalled)
+
+-- the races of a trace: those of its serial journal
+abbrev pub IsRacesAnswer : TraceValue → Answer → Type 0
+IsRacesAnswer t a = IsJournalRaces t (serial t) (is_stalled t (serial t) (state_behind t (serial t))) a
+
+-- what of that is computed from the trace: its status
+abbrev pub unreported : TraceValue → Answer
+unreported t = record { status = (run_answer t).status; text = [] }
+
 -- ---- Of a recording behind its trace.
 abbrev pub with_lines : TraceValue → Result (List RecordedLine) Defect → Result Claim Defect
 with_lines t (Ok lines) = Ok (record { trace = t; recording = lines })
@@ -128,6 +150,10 @@ serial_answer b = within_limit b (answer_or_defect run_answer (trace b))
 -- the answer of `compose`
 unfoldable pub frames_answer : ℕ → ℕ → List ℕ → Answer
 frames_answer w h b = within_limit b (answer_or_defect (run_frames w h) (trace b))
+
+-- the answer of `races`, but for the text where the bytes spell a trace
+unfoldable pub races_answer : List ℕ → Answer
+races_answer b = within_limit b (answer_or_defect unreported (short_trace b))
 
 -- the answer of `check`
 unfoldable pub check_answer : List ℕ → Answer

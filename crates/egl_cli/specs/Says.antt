@@ -11,16 +11,20 @@ use Rattle.trace_gen.specs.Generated.{generated}
 use Rattle.journal_text.specs.Cuts.{cut_recording}
 use Rattle.journal_text.specs.declared.cuts.Cut.{Cut}
 use Rattle.trace_check.specs.Recordings.{IsRecording}
+use Rattle.race_report.specs.declared.reports.Pair.{Pair}
+use Rattle.race_report.specs.Replays.{AreRacesOf}
 use Rattle.egl_cli.specs.Frames.{frames_text}
+use Rattle.egl_cli.specs.BodyLines.{short_trace}
+use Rattle.egl_cli.specs.RaceLines.{races_text}
 use Rattle.egl_cli.specs.StalledLines.{stalled_lines}
 use Rattle.egl_cli.specs.declared.answers.Answer.{Answer}
 use Rattle.egl_cli.specs.declared.statuses.Status.{Status}
 use Rattle.egl_cli.specs.declared.statuses.Status.TheVariants.{Ok, Usage, ReadFault, Malformed, WriteFault, Stalled, NoMemory, TooLong, Differs}
 use Rattle.egl_cli.specs.declared.commands.Command.{Command}
-use Rattle.egl_cli.specs.declared.commands.Command.TheVariants.{Serial, Play, Check, Configs, Generate, Compose}
+use Rattle.egl_cli.specs.declared.commands.Command.TheVariants.{Serial, Play, Check, Configs, Generate, Compose, Races}
 use Rattle.egl_cli.specs.declared.inputs.InputError.{InputError}
 use Rattle.egl_cli.specs.declared.inputs.InputError.TheVariants.{ReadFault as Unread, TooLong as Overlong, Malformed as Defective, NoMemory as Unmade}
-use Rattle.egl_cli.specs.Answers.{told, serial_answer, frames_answer, check_answer, IsPlayAnswer, malformed_text, usage_text, read_fault_text, too_long_text, most_input}
+use Rattle.egl_cli.specs.Answers.{told, serial_answer, frames_answer, races_answer, check_answer, IsPlayAnswer, IsRacesAnswer, malformed_text, usage_text, read_fault_text, too_long_text, most_input}
 use Rattle.egl_cli.specs.ConfigLines.{configs_text}
 
 -- a fact of the bytes of the input, where the source tells them
@@ -40,6 +44,10 @@ WroteIfMade before text after failed meant result = Wrote before text after fail
 -- the same of an answer of `play` to a trace
 abbrev pub WrotePlay : Bool → TraceValue → Option (List ℕ) → Option (List ℕ) → Type 0 → Status → Type 0
 WrotePlay how t before after failed result = ((a : Answer) × IsPlayAnswer how t a × Wrote before a.text after failed a.status result) ⊎ ((result ≡ NoMemory) × Took before [] after)
+
+-- the same of an answer of `races` to a trace
+abbrev pub WroteRaces : TraceValue → Option (List ℕ) → Option (List ℕ) → Type 0 → Status → Type 0
+WroteRaces t before after failed result = ((a : Answer) × IsRacesAnswer t a × Wrote before a.text after failed a.status result) ⊎ ((result ≡ NoMemory) × Took before [] after)
 
 -- why there is nothing to answer was told, a defect too, in any case; nothing was written where memory ran out before
 abbrev pub WroteRefusal : InputError → Option (List ℕ) → Option (List ℕ) → Type 0 → Status → Type 0
@@ -79,6 +87,26 @@ AreFrames w h b before after = (t : TraceValue) × Spells b t × ((journal : Lis
 abbrev pub AreFramesStalled : ℕ → ℕ → List ℕ → Option (List ℕ) → Option (List ℕ) → Type 0
 AreFramesStalled w h b before after = (t : TraceValue) × Spells b t × ((journal : List Entry) × IsPlayOf t journal × IsStalled t journal × Took before (frames_text w h t journal ++ stalled_lines t journal) after)
 
+-- an answer of `races` to the trace that the bytes spell, within the limits
+abbrev pub AnswersRaces : List ℕ → Answer → Type 0
+AnswersRaces b a = (t : TraceValue) × (length b ≤ most_input) × (short_trace b ≡ Spelt t) × IsRacesAnswer t a
+
+-- the status is that of `races`, and such an answer with this status was written
+abbrev pub WroteReport : List ℕ → Option (List ℕ) → Option (List ℕ) → Status → Type 0
+WroteReport b before after status = ((races_answer b).status ≡ status) × ((a : Answer) × AnswersRaces b a × IsAnswered a before after status)
+
+-- the bytes spell a trace, and what was written are all races of a journal that plays it to the end of all threads
+abbrev pub AreRacesTold : List ℕ → Option (List ℕ) → Option (List ℕ) → Type 0
+AreRacesTold b before after = (t : TraceValue) × Spells b t × ((journal : List Entry) × IsPlayOf t journal × IsComplete t journal × ((pairs : List Pair) × AreRacesOf t journal pairs × Took before (races_text journal pairs) after))
+
+-- the same of a journal that plays it until no thread can go on, with the lines at which threads wait
+abbrev pub AreRacesToldStalled : List ℕ → Option (List ℕ) → Option (List ℕ) → Type 0
+AreRacesToldStalled b before after = (t : TraceValue) × Spells b t × ((journal : List Entry) × IsPlayOf t journal × IsStalled t journal × ((pairs : List Pair) × AreRacesOf t journal pairs × Took before (races_text journal pairs ++ stalled_lines t journal) after))
+
+-- a text that `races` may answer to the bytes: that of a refusal, or the races of their trace
+abbrev pub IsRacesText : List ℕ → List ℕ → Type 0
+IsRacesText b text = (text ≡ (races_answer b).text) ⊎ ((a : Answer) × AnswersRaces b a × (text ≡ a.text))
+
 -- a text that `play` may answer to the bytes: that of a refusal, or what is told of a journal that plays their trace
 abbrev pub IsPlayText : Bool → List ℕ → List ℕ → Type 0
 IsPlayText how b text = (text ≡ (serial_answer b).text) ⊎ (IsToldOf how b text ⊎ IsToldStalledOf how b text)
@@ -101,6 +129,7 @@ ReadsInput (Some Check) = Unit {0}
 ReadsInput (Some Configs) = ⊥
 ReadsInput (Some (Generate lines threads seed)) = ⊥
 ReadsInput (Some (Compose width height)) = Unit {0}
+ReadsInput (Some Races) = Unit {0}
 
 -- the answer of a command to the bytes; that of `play`, which isn't one alone, where there is no trace to play
 abbrev pub answer_of : Option Command → List ℕ → Answer
@@ -111,6 +140,7 @@ answer_of (Some Check) b = check_answer b
 answer_of (Some Configs) b = record { status = Ok; text = configs_text }
 answer_of (Some (Generate lines threads seed)) b = record { status = Ok; text = generated lines threads seed }
 answer_of (Some (Compose width height)) b = frames_answer width height b
+answer_of (Some Races) b = races_answer b
 
 -- a text that was to be written, by the command: an answer's, or of those that read that of a read fault where the source failed
 abbrev pub IsMeant : Option Command → Option (List ℕ) → Type 0 → List ℕ → Type 0
@@ -121,6 +151,7 @@ IsMeant (Some Check) left source_failed text = WhereTold left (λ b. (text ≡ (
 IsMeant (Some Configs) left source_failed text = text ≡ configs_text
 IsMeant (Some (Generate lines threads seed)) left source_failed text = text ≡ generated lines threads seed
 IsMeant (Some (Compose width height)) left source_failed text = WhereTold left (λ b. (text ≡ (frames_answer width height b).text) ⊎ ((text ≡ read_fault_text) × source_failed))
+IsMeant (Some Races) left source_failed text = WhereTold left (λ b. IsRacesText b text ⊎ ((text ≡ read_fault_text) × source_failed))
 
 -- what status Ok promises, by the command
 abbrev pub WentWell : Option Command → Option (List ℕ) → Option (List ℕ) → Option (List ℕ) → Option (List ℕ) → Type 0
@@ -131,6 +162,7 @@ WentWell (Some Check) left rest before after = AtEnd rest × WhereTold left (λ 
 WentWell (Some Configs) left rest before after = (rest ≡ left) × Took before configs_text after
 WentWell (Some (Generate lines threads seed)) left rest before after = (rest ≡ left) × Took before (generated lines threads seed) after
 WentWell (Some (Compose width height)) left rest before after = AtEnd rest × WhereTold left (λ b. IsAnswered (frames_answer width height b) before after Ok)
+WentWell (Some Races) left rest before after = AtEnd rest × WhereTold left (λ b. WroteReport b before after Ok)
 
 -- what status Stalled promises, by the command
 abbrev pub GotStuck : Option Command → Option (List ℕ) → Option (List ℕ) → Option (List ℕ) → Option (List ℕ) → Type 0
@@ -141,6 +173,7 @@ GotStuck (Some Check) left rest before after = ⊥
 GotStuck (Some Configs) left rest before after = ⊥
 GotStuck (Some (Generate lines threads seed)) left rest before after = ⊥
 GotStuck (Some (Compose width height)) left rest before after = AtEnd rest × WhereTold left (λ b. IsAnswered (frames_answer width height b) before after Stalled)
+GotStuck (Some Races) left rest before after = AtEnd rest × WhereTold left (λ b. WroteReport b before after Stalled)
 
 -- what status Differs promises, by the command
 abbrev pub GotDifference : Option Command → Option (List ℕ) → Option (List ℕ) → Option (List ℕ) → Option (List ℕ) → Type 0
@@ -151,6 +184,7 @@ GotDifference (Some Check) left rest before after = AtEnd rest × WhereTold left
 GotDifference (Some Configs) left rest before after = ⊥
 GotDifference (Some (Generate lines threads seed)) left rest before after = ⊥
 GotDifference (Some (Compose width height)) left rest before after = ⊥
+GotDifference (Some Races) left rest before after = ⊥
 
 -- by the status: the command that the words are; what the source had left before and has left now, and that it failed; what the sink had taken before and has taken now, and that it failed
 abbrev pub Says : Option Command → Option (List ℕ) → Option (List ℕ) → Type 0 → Option (List ℕ) → Option (List ℕ) → Type 0 → Status → Type 0
@@ -173,6 +207,7 @@ WantsMemory (Some Check) left rest faults_before faults = (faults ≡ faults_bef
 WantsMemory (Some Configs) left rest faults_before faults = Unit {0}
 WantsMemory (Some (Generate lines threads seed)) left rest faults_before faults = Unit {0}
 WantsMemory (Some (Compose width height)) left rest faults_before faults = (faults ≡ faults_before) × GaveWithin left rest most_input
+WantsMemory (Some Races) left rest faults_before faults = (faults ≡ faults_before) × GaveWithin left rest most_input
 
 -- words that read nothing leave the source alone: what it has left, and its count of faults
 abbrev pub IsUnread : Option Command → Option (List ℕ) → Option (List ℕ) → ℕ → ℕ → Type 0
@@ -183,8 +218,9 @@ IsUnread (Some Check) left rest faults_before faults = Unit {0}
 IsUnread (Some Configs) left rest faults_before faults = (rest ≡ left) × (faults ≡ faults_before)
 IsUnread (Some (Generate lines threads seed)) left rest faults_before faults = (rest ≡ left) × (faults ≡ faults_before)
 IsUnread (Some (Compose width height)) left rest faults_before faults = Unit {0}
+IsUnread (Some Races) left rest faults_before faults = Unit {0}
 
--- what status Ok is worth, by the command: of `serial`, `play` and `compose` a journal that plays the trace to its end, of `check` such a journal whose recording the bytes are, of the others their text
+-- what status Ok is worth, by the command: of `serial`, `play`, `compose` and `races` a journal that plays the trace to its end, of `check` such a journal whose recording the bytes are, of the others their text
 abbrev pub IsHeadline : Option Command → Option (List ℕ) → Option (List ℕ) → Option (List ℕ) → Option (List ℕ) → Type 0
 IsHeadline None left rest before after = ⊥
 IsHeadline (Some Serial) left rest before after = AtEnd rest × WhereTold left (λ b. IsTold false b before after)
@@ -193,6 +229,7 @@ IsHeadline (Some Check) left rest before after = AtEnd rest × WhereTold left (�
 IsHeadline (Some Configs) left rest before after = (rest ≡ left) × Took before configs_text after
 IsHeadline (Some (Generate lines threads seed)) left rest before after = (rest ≡ left) × Took before (generated lines threads seed) after
 IsHeadline (Some (Compose width height)) left rest before after = AtEnd rest × WhereTold left (λ b. AreFrames width height b before after)
+IsHeadline (Some Races) left rest before after = AtEnd rest × WhereTold left (λ b. AreRacesTold b before after)
 
 -- what status Stalled is worth: the command plays a trace, and a journal plays it as far as its threads can go
 abbrev pub IsStalledHeadline : Option Command → Option (List ℕ) → Option (List ℕ) → Option (List ℕ) → Option (List ℕ) → Type 0
@@ -203,6 +240,7 @@ IsStalledHeadline (Some Check) left rest before after = ⊥
 IsStalledHeadline (Some Configs) left rest before after = ⊥
 IsStalledHeadline (Some (Generate lines threads seed)) left rest before after = ⊥
 IsStalledHeadline (Some (Compose width height)) left rest before after = AtEnd rest × WhereTold left (λ b. AreFramesStalled width height b before after)
+IsStalledHeadline (Some Races) left rest before after = AtEnd rest × WhereTold left (λ b. AreRacesToldStalled b before after)
 
 -- a status that `play` may answer to the bytes: that of `serial`, but a trace may come to its end in one run and stall in another
 abbrev pub IsPlayStatus : List ℕ → Status → Type 0
@@ -217,3 +255,4 @@ IsWhole (Some Check) left source_failed sink_failed status = WhereTold left (λ 
 IsWhole (Some Configs) left source_failed sink_failed status = ¬ sink_failed → (status ≡ Ok) ⊎ (status ≡ NoMemory)
 IsWhole (Some (Generate lines threads seed)) left source_failed sink_failed status = ¬ sink_failed → (status ≡ Ok) ⊎ (status ≡ NoMemory)
 IsWhole (Some (Compose width height)) left source_failed sink_failed status = WhereTold left (λ b. ¬ source_failed → ¬ sink_failed → ((frames_answer width height b).status ≡ status) ⊎ (status ≡ NoMemory))
+IsWhole (Some Races) left source_failed sink_failed status = WhereTold left (λ b. ¬ source_failed → ¬ sink_failed → ((races_answer b).status ≡ status) ⊎ (status ≡ NoMemory))

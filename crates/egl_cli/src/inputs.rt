@@ -3,8 +3,10 @@ ghost use Rattle.std.specs.Prelude.{◌≡◌, ◌≤◌, length, IfOk, IfErr};
 ghost use Rattle.trace_reader.specs.Grammar.{trace};
 ghost use Rattle.trace_reader.specs.Reading.{Gives};
 ghost use Rattle.egl_cli.specs.Answers.{claimed};
+ghost use Rattle.egl_cli.specs.BodyLines.{short_trace};
 ghost use Rattle.egl_cli.specs.Inputs.{GivesBytes, GivesNoBytes, GivesSpelled, GivesNone};
 
+use crate::body_lines::short_trace;
 use egl_calls::Bytes;
 use egl_flow::{ReadError, Source, read_all};
 use journal_text::{Recording, cut_recording, line_behind, read_slice};
@@ -56,6 +58,22 @@ pub fn read_trace<S: Source>(alloc: Global, source: &mut S) -> Result<Trace, Inp
         Err(error) => return Err(error),
     };
     match Trace::read(alloc, &bytes) {
+        Ok(trace) => Ok(trace),
+        Err(TraceError::Malformed { line, reason }) => Err(InputError::Malformed { line, reason }),
+        Err(TraceError::NoMemory) => Err(InputError::NoMemory),
+    }
+}
+
+/// Reads a source to its end, and then the trace that its bytes spell, of at most 2,000 body lines.
+pub fn read_short_trace<S: Source>(alloc: Global, source: &mut S) -> Result<Trace, InputError>
+    ensures trace { IfOk result (GivesSpelled short_trace (S.left source.old) (S.left source.new) (S.faults source.old) (S.faults source.new)) }
+    ensures cause { IfErr result (GivesNone short_trace (S.left source.old) (S.left source.new) (S.faults source.old) (S.faults source.new)) }
+{
+    let bytes = match read_input(alloc, source) {
+        Ok(bytes) => bytes,
+        Err(error) => return Err(error),
+    };
+    match short_trace(alloc, bytes.as_slice()) {
         Ok(trace) => Ok(trace),
         Err(TraceError::Malformed { line, reason }) => Err(InputError::Malformed { line, reason }),
         Err(TraceError::NoMemory) => Err(InputError::NoMemory),

@@ -4,6 +4,7 @@
 #![tactic(auto)]
 
 mod answers;
+mod body_lines;
 mod commands;
 mod config_lines;
 mod frames;
@@ -11,6 +12,7 @@ mod inputs;
 pub mod laws;
 mod playing;
 mod process;
+mod races;
 mod respond;
 mod stalled_lines;
 mod statuses;

@@ -100,7 +100,8 @@ pub fn top<R: Threads + Wait + Sync, S: Source, K: Sink, G: Gate + Sync>(
             | Command::Check
             | Command::Configs
             | Command::Generate { .. }
-            | Command::Compose { .. },
+            | Command::Compose { .. }
+            | Command::Races,
         )
         | None => plain(alloc, words, source, sink),
     }

@@ -4,14 +4,15 @@ ghost use Rattle.egl_flow.specs.Flow.{HasRisen};
 ghost use Rattle.trace_gen.specs.Generated.{generated};
 ghost use Rattle.trace_reader.specs.Order.{IsTrace};
 ghost use Rattle.egl_cli.specs.Answers.{run_answer, run_frames, claim_answer};
-ghost use Rattle.egl_cli.specs.Says.{Says, WroteIfMade, WantsMemory, IsUnread, IsHeadline, IsStalledHeadline, IsWhole};
+ghost use Rattle.egl_cli.specs.Says.{Says, WroteIfMade, WroteRaces, WantsMemory, IsUnread, IsHeadline, IsStalledHeadline, IsWhole};
 ghost use Rattle.egl_cli.specs.Commands.{plain_command_of};
 ghost use Rattle.egl_cli.specs.ConfigLines.{configs_text};
 
 use crate::answers::{run_answer, run_frames};
 use crate::commands::{Command, command_of};
 use crate::config_lines::configs_text;
-use crate::inputs::{Claim, read_claim, read_trace};
+use crate::inputs::{Claim, read_claim, read_short_trace, read_trace};
+use crate::races::run_races;
 use crate::statuses::Status;
 use crate::telling::{finish, refuse};
 use crate::verdict_lines::claim_answer;
@@ -22,7 +23,7 @@ use trace_gen::generate;
 use trace_reader::Trace;
 
 const USAGE: &[u8] =
-    b"usage: egl_cli serial | play [summary] | check | configs | gen N THREADS SEED | compose W H\n";
+    b"usage: egl_cli serial | play [summary] | check | configs | gen N THREADS SEED | compose W H | races\n";
 
 /// Writes the text of the configs.
 fn tell_configs<K: Sink>(alloc: Global, sink: &mut K) -> Status
@@ -120,6 +121,31 @@ fn respond_frames<S: Source, K: Sink>(
     }
 }
 
+/// Plays a trace by turns, and writes its races.
+fn tell_races<K: Sink>(alloc: Global, sink: &mut K, trace: &Trace) -> Status
+    ensures trace { IsTrace trace.now }
+    ensures wrote { WroteRaces trace.now (K.taken sink.old) (K.taken sink.new) (HasRisen (K.faults sink.old) (K.faults sink.new)) result }
+{
+    trace.lines();
+    match run_races(alloc, trace) {
+        Ok(answer) => finish(sink, answer.status, answer.text.as_slice()),
+        Err(_) => Status::NoMemory,
+    }
+}
+
+/// Reads a source, and answers the races of its trace.
+fn respond_races<S: Source, K: Sink>(alloc: Global, source: &mut S, sink: &mut K) -> Status
+    ensures says { Says (Some Command.Races) (S.left source.old) (S.left source.new) (HasRisen (S.faults source.old) (S.faults source.new)) (K.taken sink.old) (K.taken sink.new) (HasRisen (K.faults sink.old) (K.faults sink.new)) result }
+    ensures memory { result ≡ Status.NoMemory → WantsMemory (Some Command.Races) (S.left source.old) (S.left source.new) (S.faults source.old) (S.faults source.new) }
+    ensures headline { result ≡ Status.Ok → IsHeadline (Some Command.Races) (S.left source.old) (S.left source.new) (K.taken sink.old) (K.taken sink.new) }
+    ensures stalled { result ≡ Status.Stalled → IsStalledHeadline (Some Command.Races) (S.left source.old) (S.left source.new) (K.taken sink.old) (K.taken sink.new) }
+{
+    match read_short_trace(alloc, source) {
+        Ok(trace) => tell_races(alloc, sink, &trace),
+        Err(error) => refuse(sink, &error),
+    }
+}
+
 /// Holds a recording against its trace, and writes what is said to it.
 fn tell_claim<K: Sink>(alloc: Global, sink: &mut K, claim: &Claim) -> Status
     ensures trace { IsTrace claim.now.trace }
@@ -144,7 +170,7 @@ fn respond_claim<S: Source, K: Sink>(alloc: Global, source: &mut S, sink: &mut K
     }
 }
 
-/// Does the command that the words name: `serial` reads a trace from the source and writes the recording of its run by turns to the sink, and where that stalls, the lines at which threads wait; `check` reads a trace and a recording behind it, and writes whether that is the recording of one of the trace's runs to its end, or where it first differs; `compose` reads a trace and writes a line for each frame of a screen of its sides, on which the trace's windows are stacked, and where the run stalls, the lines at which threads wait; `configs` reads nothing and writes the eight configs, a line for each, and `gen` the trace that its numbers generate. `play` is no command here, since it starts threads: `top` knows it.
+/// Does the command that the words name: `serial` reads a trace from the source and writes the recording of its run by turns to the sink, and where that stalls, the lines at which threads wait; `check` reads a trace and a recording behind it, and writes whether that is the recording of one of the trace's runs to its end, or where it first differs; `compose` reads a trace and writes a line for each frame of a screen of its sides, on which the trace's windows are stacked, and where the run stalls, the lines at which threads wait; `races` reads a trace of at most 2,000 body lines and writes which of its calls touch one thing though nothing orders them, and where the run stalls, the lines at which threads wait; `configs` reads nothing and writes the eight configs, a line for each, and `gen` the trace that its numbers generate. `play` is no command here, since it starts threads: `top` knows it.
 ///
 /// All output is made before the first write. A write that fails gives `WriteFault` in place of every other status. Memory is wanted only to read an input within the limit and to play it, and for the texts of commands that read nothing.
 pub fn plain<S: Source, K: Sink>(
@@ -174,6 +200,7 @@ pub fn plain<S: Source, K: Sink>(
         Some(Command::Compose { width, height }) => {
             respond_frames(alloc, source, sink, width, height)
         }
+        Some(Command::Races) => respond_races(alloc, source, sink),
         Some(Command::Play { .. }) | None => finish(sink, Status::Usage, USAGE),
     }
 }

@@ -5,3 +5,4 @@ pub mod EventLaws
 pub mod WordLaws
 pub mod DetachLaws
 pub mod WriteLaws
+pub mod ReplayLaws

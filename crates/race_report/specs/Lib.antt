@@ -6,3 +6,4 @@ pub mod Leading
 pub mod Events
 pub mod Words
 pub mod Writes
+pub mod Replays

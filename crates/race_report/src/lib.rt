@@ -8,8 +8,10 @@ mod events;
 mod journals;
 pub mod laws;
 mod leading;
+mod replays;
 mod reports;
 
 pub use events::Event;
 pub use journals::races_of;
+pub use replays::report;
 pub use reports::{Pair, races};

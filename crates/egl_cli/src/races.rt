@@ -1,0 +1,94 @@
+//! The races of a run: which of its calls touch one thing though nothing orders them.
+ghost use Rattle.std.specs.Prelude.{◌≡◌, ◌<◌, ◌++◌, All, slice_get, true, false, IfOk, OnOk};
+ghost use Rattle.egl_cli.specs.Answers.{IsJournalRaces, IsRacesAnswer};
+ghost use Rattle.egl_cli.specs.RaceLines.{place_words, race_line, races_text};
+
+use crate::answers::Answer;
+use crate::stalled_lines::put_stalled;
+use crate::statuses::Status;
+use driver_core::Run;
+use egl_calls::{Bytes, Entry, NoMemory};
+use journal_text::texts::{put_decimal, put_text};
+use race_report::{Pair, report};
+use std::alloc::Global;
+use trace_reader::Trace;
+use trace_session::{RunError, run_serial};
+
+/// The thread and the line of the entry at a place.
+fn put_place(out: &mut Bytes, entries: &[Entry], place: u64) -> Result<(), NoMemory>
+    ensures { OnOk result (out.new ≡ out.old ++ place_words (slice_get entries.now place)) }
+{
+    let Some(entry) = entries.get(place as usize) else {
+        return Ok(());
+    };
+    put_decimal(out, u64::from(entry.thread))?;
+    put_text(out, " ")?;
+    put_decimal(out, entry.mark)
+}
+
+/// The line of a pair.
+#[tactic(auto, unfolding(crate::specs::RaceLines::race_line))]
+fn put_race(out: &mut Bytes, entries: &[Entry], pair: Pair) -> Result<(), NoMemory>
+    ensures { OnOk result (out.new ≡ out.old ++ race_line entries.now pair) }
+{
+    put_text(out, "race ")?;
+    put_place(out, entries, pair.first)?;
+    put_text(out, " ")?;
+    put_place(out, entries, pair.second)?;
+    put_text(out, "\n")
+}
+
+/// The races of a journal: how many there are, and a line for each.
+#[tactic(auto, unfolding(crate::specs::RaceLines::races_text))]
+fn races_text(alloc: Global, entries: &[Entry], pairs: &[Pair]) -> Result<Bytes, NoMemory>
+    ensures { IfOk result (λ b. b ≡ races_text entries.now pairs.now) }
+{
+    let mut out = Bytes::new(alloc);
+    put_text(&mut out, "races ")?;
+    put_decimal(&mut out, pairs.len() as u64)?;
+    put_text(&mut out, "\n")?;
+    'each: for pair in pairs {
+        put_race(&mut out, entries, *pair)?;
+    }
+    put_text(&mut out, "end\n")?;
+    Ok(out)
+}
+
+/// The races of a run that came to its end.
+fn ended_races(alloc: Global, trace: &Trace, run: &Run) -> Result<Answer, NoMemory>
+    requires { All (λ e. e.thread < trace.now.threads) run.now.journal.entries }
+    ensures { IfOk result (IsJournalRaces trace.now run.now.journal.entries false) }
+{
+    let pairs = report(alloc, trace, run)?;
+    Ok(Answer {
+        status: Status::Ok,
+        text: races_text(alloc, run.journal.as_slice(), pairs.as_slice())?,
+    })
+}
+
+/// The races of a run that stalled: the lines at which its threads wait stand behind them.
+fn stalled_races(alloc: Global, trace: &Trace, run: &Run) -> Result<Answer, NoMemory>
+    requires { All (λ e. e.thread < trace.now.threads) run.now.journal.entries }
+    ensures { IfOk result (IsJournalRaces trace.now run.now.journal.entries true) }
+{
+    let pairs = report(alloc, trace, run)?;
+    let mut text = races_text(alloc, run.journal.as_slice(), pairs.as_slice())?;
+    put_stalled(alloc, &mut text, trace, &run.journal)?;
+    Ok(Answer {
+        status: Status::Stalled,
+        text,
+    })
+}
+
+/// The races of a trace that is played by turns.
+pub fn run_races(alloc: Global, trace: &Trace) -> Result<Answer, NoMemory>
+    ensures { IfOk result (IsRacesAnswer trace.now) }
+{
+    // That each entry's thread is one of the trace stands on `lines`.
+    trace.lines();
+    match run_serial(alloc, trace) {
+        Ok(run) => ended_races(alloc, trace, &run),
+        Err(RunError::Stalled(run)) => stalled_races(alloc, trace, &run),
+        Err(RunError::NoMemory) => Err(NoMemory),
+    }
+}
