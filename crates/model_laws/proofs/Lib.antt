@@ -66,6 +66,7 @@ pub mod Locals
 pub mod Framing
 pub mod LateEntry
 pub mod Returns
+pub mod HiddenLaws
 pub mod LateDraws
 pub mod OwnedPixels
 pub mod RefLaws
