@@ -66,7 +66,6 @@ pub mod Locals
 pub mod Framing
 pub mod LateEntry
 pub mod Returns
-pub mod HiddenLaws
 pub mod LateDraws
 pub mod OwnedPixels
 pub mod RefLaws

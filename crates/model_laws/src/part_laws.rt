@@ -4,7 +4,7 @@ ghost use Rattle.egl_calls.specs.Calls.{CallValue};
 ghost use Rattle.egl_calls.specs.declared.entries.Entry.{Entry};
 ghost use Rattle.surface_store.specs.Windows.{windows_ok};
 ghost use Rattle.surface_store.specs.declared.windows.WindowSpec.{WindowSpec};
-ghost use Rattle.egl_model.specs.State.{State, capacity, opening, record_of};
+ghost use Rattle.egl_model.specs.State.{State, capacity, opening};
 ghost use Rattle.model_laws.specs.Frame.{as_step, moved_step, AreLocalFrom, AreOf, AreOfOthers, IsNone, IsReady};
 ghost use Rattle.model_laws.specs.Hidden.{hide, without};
 ghost use Rattle.egl_model.specs.History.{replay_from, IsLegalFrom};
@@ -12,8 +12,7 @@ ghost use Rattle.model_laws.specs.Local.{is_local, locally, part_after};
 ghost use Rattle.egl_model.specs.Parts.{own_of, part_of, put_own};
 ghost use Rattle.model_laws.specs.Sound.{IsSound};
 ghost use Rattle.egl_model.specs.Step.{step};
-ghost use Rattle.egl_model.specs.Sweep.{census, edges_at, references, roots};
-ghost use Rattle.egl_model.specs.Waits.{is_signalled};
+ghost use Rattle.egl_model.specs.Sweep.{census};
 
 /// In each history each of the threads has its part in: no part is out, and each image has its format and its sides.
 pub fn histories_are_ready()
@@ -49,15 +48,4 @@ pub fn a_part_comes_back()
     ensures back { (s : State) (t : ℕ) (out : List ℕ) → IsSound s → put_own (hide out s) t (own_of s t) ≡ hide (without t out) s }
     ensures local { (s : State) (t : ℕ) (out : List ℕ) (c : CallValue) → IsReady s t → is_local (part_of s t) c ≡ true → hide (t ∷ out) (step s t c).state ≡ hide (t ∷ out) s }
     ensures census { (s : State) (out : List ℕ) → census (hide out s) ≡ census s }
-{}
-
-/// Where parts are out, what all threads see stays: the windows with their fronts, the handles, which threads wait for what, which fences are signalled, the roots, what each object refers to, and how many references lead to it.
-pub fn only_private_parts_go_out()
-    ensures windows { (s : State) (out : List ℕ) → (hide out s).windows ≡ s.windows }
-    ensures handles { (s : State) (out : List ℕ) → (hide out s).handles ≡ s.handles }
-    ensures waits { (s : State) (out : List ℕ) (t : ℕ) → (record_of (hide out s) t).wait ≡ (record_of s t).wait }
-    ensures signalled { (s : State) (out : List ℕ) (n : ℕ) → is_signalled (hide out s) n ≡ is_signalled s n }
-    ensures roots { (s : State) (out : List ℕ) → roots (hide out s) ≡ roots s }
-    ensures edges { (s : State) (out : List ℕ) → edges_at (hide out s).objects ≡ edges_at s.objects }
-    ensures references { (s : State) (out : List ℕ) (n : ℕ) → references (hide out s) n ≡ references s n }
 {}
