@@ -60,10 +60,7 @@ pub fn snapshot<R: Wait>(
         placed,
         fronts: None,
     };
-    match shared.call_picked(thread, rt, alloc, &mut looking) {
-        Ok(_) => {}
-        Err(error) => return Err(error),
-    }
+    shared.call_picked(thread, rt, alloc, &mut looking)?;
     match looking.fronts {
         Some(fronts) => Ok(fronts),
         None => unreachable!(),
