@@ -1,9 +1,9 @@
 //! One thread draws and swaps, one composes what it sees, and one takes the frames, all at once.
-ghost use Rattle.std.specs.Prelude.{◌≡◌, ◌≤◌, ◌+◌, vec_len, vec_capacity};
+ghost use Rattle.std.specs.Prelude.{◌≤◌, ◌+◌, vec_len, vec_capacity};
 ghost use Rattle.shared_driver.specs.Tokens.{IsOf};
 ghost use Rattle.screen_compose.specs.Ends.{IsPutEnd, IsTakeEnd};
 
-use crate::drawing::{SWAPS, WINDOW, draws, wait_for};
+use crate::drawing::{Progress, SWAPS, WINDOW, draws, wait_for};
 use crate::passing::{CAPACITY, put, take};
 use crate::scenes::{frame, screen};
 use driver_core::Driver;
@@ -13,10 +13,8 @@ use shared_driver::{Closed, Opened, Shared, Thread};
 use std::alloc::Global;
 use std::process::Abort;
 use std::sync::Wait;
-use std::sync::atomic::AtomicU64;
 use std::sync::atomic::Ordering::SeqCst;
-use std::thread;
-use std::thread::Threads;
+use std::thread::{Threads, join_mut};
 use surface_store::windows_ok;
 
 /// How many frames are made: one for each swap, which shows that one at least.
@@ -33,58 +31,44 @@ const PLACED: Placed = Placed {
     y: -1,
 };
 
-/// What the composing thread gives back.
-struct Composed {
-    thread: Thread,
-    end: PutEnd,
-}
-
-/// What the recording thread gives back.
-struct Recorded {
-    end: TakeEnd,
-    frames: Vec<Frame>,
-}
-
 // Composes what it sees once there was a further swap, and puts a frame of it, again and again.
-fn composes<R: Abort + Wait>(
+fn composes<R: Abort + AllocGlobal + Wait>(
     rt: &R,
-    alloc: Global,
     shared: &Shared,
     queue: &Frames,
-    mut own: Composed,
-    swaps: &AtomicU64,
-    frames: &AtomicU64,
-) -> Composed
-    requires token { IsOf shared.now own.thread }
-    requires end { IsPutEnd queue.now own.end }
-    ensures token { IsOf shared.now result.thread }
-    ensures end { IsPutEnd queue.now result.end }
+    progress: &Progress,
+    composer: &mut Thread,
+    put_end: &mut PutEnd,
+)
+    requires token { IsOf shared.now composer.old }
+    requires end { IsPutEnd queue.now put_end.old }
+    ensures token { IsOf shared.now composer.new }
+    ensures end { IsPutEnd queue.now put_end.new }
 {
     let list = [PLACED];
-    let mut screen = screen(rt, alloc, SIDE, SIDE, &list);
+    let mut screen = screen(rt, rt.alloc(), SIDE, SIDE, &list);
     'composing: for number in 0..SWAPS {
-        wait_for(rt, swaps, number + 1);
-        let Ok(fronts) = snapshot(shared, &mut own.thread, rt, alloc, &list) else {
+        wait_for(rt, &progress.swaps, number + 1);
+        let Ok(fronts) = snapshot(shared, composer, rt, rt.alloc(), &list) else {
             panic!(rt; "memory");
         };
         screen.show(fronts);
-        put(rt, queue, &mut own.end, frame(rt, alloc, &screen, number));
-        frames.fetch_add(1, SeqCst);
+        let frame = frame(rt, rt.alloc(), &screen, number);
+        put(rt, queue, put_end, frame);
+        progress.frames.fetch_add(1, SeqCst);
     }
-    own
 }
 
 // Takes all frames.
-fn records<R: Wait>(rt: &R, queue: &Frames, mut own: Recorded) -> Recorded
-    requires end { IsTakeEnd queue.now own.end }
-    requires room { vec_len own.frames + 40 ≤ vec_capacity own.frames }
-    ensures end { IsTakeEnd queue.now result.end }
+fn records<R: Wait>(rt: &R, queue: &Frames, take_end: &mut TakeEnd, taken: &mut Vec<Frame>)
+    requires end { IsTakeEnd queue.now take_end.old }
+    requires room { vec_len taken.old + 40 ≤ vec_capacity taken.old }
+    ensures end { IsTakeEnd queue.now take_end.new }
 {
-    'recording: for taken in 0..FRAMES {
-        let frame = take(rt, queue, &mut own.end);
-        own.frames.push_reserved(frame);
+    'recording: for _frame in 0..FRAMES {
+        let frame = take(rt, queue, take_end);
+        taken.push_reserved(frame);
     }
-    own
 }
 
 /// What all three leave.
@@ -140,129 +124,122 @@ fn attached<R: Abort + Wait>(rt: &R, shared: &Shared, thread: &mut Thread) -> Th
 }
 
 // One thread composes, and another takes the frames.
-fn both<R: Abort + Threads + Wait + Sync>(
+fn compose_and_record<R: Abort + AllocGlobal + Threads + Wait + Sync>(
     rt: &R,
-    alloc: Global,
     shared: &Shared,
     queue: &Frames,
-    composed: Composed,
-    recorded: Recorded,
-    swaps: &AtomicU64,
-    frames: &AtomicU64,
-) -> (Composed, Recorded)
-    requires token { IsOf shared.now composed.thread }
-    requires put { IsPutEnd queue.now composed.end }
-    requires take { IsTakeEnd queue.now recorded.end }
-    requires room { vec_len recorded.frames + 40 ≤ vec_capacity recorded.frames }
-    ensures token { IsOf shared.now result.0.thread }
-    ensures put { IsPutEnd queue.now result.0.end }
-    ensures take { IsTakeEnd queue.now result.1.end }
+    progress: &Progress,
+    composer: &mut Thread,
+    put_end: &mut PutEnd,
+    take_end: &mut TakeEnd,
+    taken: &mut Vec<Frame>,
+)
+    requires token { IsOf shared.now composer.old }
+    requires put { IsPutEnd queue.now put_end.old }
+    requires take { IsTakeEnd queue.now take_end.old }
+    requires room { vec_len taken.old + 40 ≤ vec_capacity taken.old }
+    ensures token { IsOf shared.now composer.new }
+    ensures put { IsPutEnd queue.now put_end.new }
+    ensures take { IsTakeEnd queue.now take_end.new }
 {
-    thread::join(
-        rt,
-        move ||
-            requires { IsOf shared.now composed.thread × IsPutEnd queue.now composed.end }
-            ensures { IsOf shared.entry.now result.thread × IsPutEnd queue.entry.now result.end }
-        { composes(rt, alloc, shared, queue, composed, swaps, frames) },
-        move ||
-            requires { IsTakeEnd queue.now recorded.end × (vec_len recorded.frames + 40 ≤ vec_capacity recorded.frames) }
-            ensures { IsTakeEnd queue.entry.now result.end }
-        { records(rt, queue, recorded) },
-    )
+    let mut compose = ||
+        requires { IsOf shared.now composer.now × IsPutEnd queue.now put_end.now }
+        ensures { IsOf shared.entry.now composer.exit.now × IsPutEnd queue.entry.now put_end.exit.now }
+    { composes(rt, shared, queue, progress, composer, put_end) };
+    let mut record = ||
+        requires { IsTakeEnd queue.now take_end.now × (vec_len taken.now + 40 ≤ vec_capacity taken.now) }
+        ensures { IsTakeEnd queue.entry.now take_end.exit.now }
+    { records(rt, queue, take_end, taken) };
+    join_mut(rt, &mut compose, &mut record);
 }
 
-// Lets all three run at once.
-fn all_three<R: Abort + Threads + Wait + Sync>(
+// A third one draws all the while.
+fn all_three<R: Abort + AllocGlobal + Threads + Wait + Sync>(
     rt: &R,
-    alloc: Global,
     shared: &Shared,
     queue: &Frames,
-    drawer: Thread,
-    composed: Composed,
-    recorded: Recorded,
-) -> (Thread, Composed, Recorded)
-    requires drawer { IsOf shared.now drawer }
-    requires token { IsOf shared.now composed.thread }
-    requires put { IsPutEnd queue.now composed.end }
-    requires take { IsTakeEnd queue.now recorded.end }
-    requires room { vec_len recorded.frames + 40 ≤ vec_capacity recorded.frames }
-    ensures drawer { IsOf shared.now result.0 }
-    ensures token { IsOf shared.now result.1.thread }
-    ensures put { IsPutEnd queue.now result.1.end }
-    ensures take { IsTakeEnd queue.now result.2.end }
+    drawer: &mut Thread,
+    composer: &mut Thread,
+    put_end: &mut PutEnd,
+    take_end: &mut TakeEnd,
+    taken: &mut Vec<Frame>,
+)
+    requires drawer { IsOf shared.now drawer.old }
+    requires token { IsOf shared.now composer.old }
+    requires put { IsPutEnd queue.now put_end.old }
+    requires take { IsTakeEnd queue.now take_end.old }
+    requires room { vec_len taken.old + 40 ≤ vec_capacity taken.old }
+    ensures drawer { IsOf shared.now drawer.new }
+    ensures token { IsOf shared.now composer.new }
+    ensures put { IsPutEnd queue.now put_end.new }
+    ensures take { IsTakeEnd queue.now take_end.new }
 {
-    let swaps = AtomicU64::new(0);
-    let frames = AtomicU64::new(0);
-    let swapped = &swaps;
-    let framed = &frames;
-    let (drawer, (composed, recorded)) = thread::join(
-        rt,
-        move ||
-            requires { IsOf shared.now drawer }
-            ensures { IsOf shared.entry.now result }
-        { draws(rt, alloc, shared, drawer, swapped, framed) },
-        move ||
-            requires { IsOf shared.now composed.thread × IsPutEnd queue.now composed.end × IsTakeEnd queue.now recorded.end × (vec_len recorded.frames + 40 ≤ vec_capacity recorded.frames) }
-            ensures { IsOf shared.entry.now result.0.thread × IsPutEnd queue.entry.now result.0.end × IsTakeEnd queue.entry.now result.1.end }
-        { both(rt, alloc, shared, queue, composed, recorded, swapped, framed) },
-    );
-    (drawer, composed, recorded)
+    let counts = Progress::new();
+    let progress = &counts;
+    let mut draw = ||
+        requires { IsOf shared.now drawer.now }
+        ensures { IsOf shared.entry.now drawer.exit.now }
+    { draws(rt, shared, progress, drawer) };
+    let mut show = ||
+        requires { IsOf shared.now composer.now × IsPutEnd queue.now put_end.now × IsTakeEnd queue.now take_end.now × (vec_len taken.now + 40 ≤ vec_capacity taken.now) }
+        ensures { IsOf shared.entry.now composer.exit.now × IsPutEnd queue.entry.now put_end.exit.now × IsTakeEnd queue.entry.now take_end.exit.now }
+    {
+        compose_and_record(
+            rt, shared, queue, progress, composer, put_end, take_end, taken,
+        )
+    };
+    join_mut(rt, &mut draw, &mut show);
 }
 
-// Joins the tokens, and closes the queue and the driver.
-fn closed<R: Abort + Wait>(
+// Joins the other tokens into the first, and closes the driver.
+fn joined<R: Abort + Wait>(
     rt: &R,
     shared: Shared,
-    queue: Frames,
     mut thread: Thread,
     drawer: Thread,
-    composed: Composed,
-    recorded: Recorded,
-) -> Passed
+    composer: Thread,
+) -> Closed
     requires own { IsOf shared thread }
     requires drawer { IsOf shared drawer }
-    requires token { IsOf shared composed.thread }
-    requires put { IsPutEnd queue composed.end }
-    requires take { IsTakeEnd queue recorded.end }
+    requires composer { IsOf shared composer }
 {
-    let Composed {
-        thread: composer,
-        end: put,
-    } = composed;
-    let Recorded { end: take, frames } = recorded;
     shared.join(&mut thread, rt, drawer);
     shared.join(&mut thread, rt, composer);
     let live = shared.live(&mut thread, rt);
     if live != 1 {
         panic!(rt; "{live} tokens are live");
     }
+    shared.close(thread)
+}
+
+fn pass_frames<R: Abort + AllocGlobal + Threads + Wait + Sync>(rt: &R) -> Passed {
+    let Opened { shared, mut thread } = opened(rt, rt.alloc());
+    let mut drawer = attached(rt, &shared, &mut thread);
+    let mut composer = attached(rt, &shared, &mut thread);
+    let FrameEnds {
+        queue,
+        mut put,
+        mut take,
+    } = ends(rt, rt.alloc());
+    let mut frames = room(rt, rt.alloc());
+    all_three(
+        rt,
+        &shared,
+        &queue,
+        &mut drawer,
+        &mut composer,
+        &mut put,
+        &mut take,
+        &mut frames,
+    );
     let mut rest = queue.close(put, take);
-    let is_left = rest.take(rt).is_some();
-    let Closed { driver, journal } = shared.close(thread);
+    let Closed { driver, journal } = joined(rt, shared, thread, drawer, composer);
     Passed {
         journal,
         threads: driver.threads(),
         frames,
-        is_left,
+        is_left: rest.take(rt).is_some(),
     }
-}
-
-fn pass_frames<R: Abort + Threads + Wait + Sync>(rt: &R, alloc: Global) -> Passed {
-    let Opened { shared, mut thread } = opened(rt, alloc);
-    let drawer = attached(rt, &shared, &mut thread);
-    let composer = attached(rt, &shared, &mut thread);
-    let FrameEnds { queue, put, take } = ends(rt, alloc);
-    let composed = Composed {
-        thread: composer,
-        end: put,
-    };
-    let recorded = Recorded {
-        end: take,
-        frames: room(rt, alloc),
-    };
-    let (drawer, composed, recorded) =
-        all_three(rt, alloc, &shared, &queue, drawer, composed, recorded);
-    closed(rt, shared, queue, thread, drawer, composed, recorded)
 }
 
 // A driver of so many threads, with the window.
@@ -352,7 +329,7 @@ fn seen<R: Abort>(rt: &R, alloc: Global, passed: &Passed) -> Seen {
 
 #[test]
 fn frames_pass_in_order_while_a_thread_draws(rt: HostRuntime) {
-    let passed = pass_frames(&rt, rt.alloc());
+    let passed = pass_frames(&rt);
     let Seen { fine, changes } = seen(&rt, rt.alloc(), &passed);
     assert_eq!(rt; passed.frames.len(), FRAMES);
     assert!(rt; !passed.is_left);

@@ -32,6 +32,22 @@ const CONTEXT: u32 = 4;
 /// The config of the surface and the context.
 const CONFIG: u32 = 4;
 
+/// How many swaps were made, and how many frames were put.
+#[derive(Drop)]
+pub struct Progress {
+    pub swaps: AtomicU64,
+    pub frames: AtomicU64,
+}
+
+impl Progress {
+    pub fn new() -> Progress {
+        Progress {
+            swaps: AtomicU64::new(0),
+            frames: AtomicU64::new(0),
+        }
+    }
+}
+
 fn call_with(alloc: Global, kind: Kind, numbers: [u32; 4]) -> Call
     ensures { result.kind ≡ kind }
 {
@@ -83,10 +99,7 @@ static SCENE: [(EglKind, [u32; 4]); 4] = [
     (EglKind::Initialize, [DISPLAY, 0, 0, 0]),
     (EglKind::CreateWindowSurface, [DISPLAY, CONFIG, 1, 0]),
     (EglKind::CreateContext, [DISPLAY, CONFIG, 0, 0]),
-    (
-        EglKind::MakeCurrent,
-        [DISPLAY, SURFACE, SURFACE, CONTEXT],
-    ),
+    (EglKind::MakeCurrent, [DISPLAY, SURFACE, SURFACE, CONTEXT]),
 ];
 
 fn set_scene<R: Abort + Wait>(rt: &R, alloc: Global, shared: &Shared, thread: &mut Thread)
@@ -104,30 +117,41 @@ fn show<R: Abort + Wait>(rt: &R, alloc: Global, shared: &Shared, thread: &mut Th
     ensures { IsOf shared.now thread.new }
 {
     let colour = [red, 0x1_0000, 0, 0x8000];
-    play(rt, alloc, shared, thread, Kind::Gl(GlKind::ClearColorx), colour);
+    play(
+        rt,
+        alloc,
+        shared,
+        thread,
+        Kind::Gl(GlKind::ClearColorx),
+        colour,
+    );
     let buffers = [GL_COLOR_BUFFER_BIT as u32, 0, 0, 0];
     play(rt, alloc, shared, thread, Kind::Gl(GlKind::Clear), buffers);
     let surface = [DISPLAY, SURFACE, 0, 0];
-    play(rt, alloc, shared, thread, Kind::Egl(EglKind::SwapBuffers), surface);
+    play(
+        rt,
+        alloc,
+        shared,
+        thread,
+        Kind::Egl(EglKind::SwapBuffers),
+        surface,
+    );
 }
 
 /// Draws and swaps again and again, and counts its swaps. It is never far ahead of the frames.
-pub fn draws<R: Abort + Wait>(
+pub fn draws<R: Abort + AllocGlobal + Wait>(
     rt: &R,
-    alloc: Global,
     shared: &Shared,
-    mut thread: Thread,
-    swaps: &AtomicU64,
-    frames: &AtomicU64,
-) -> Thread
-    requires { IsOf shared.now thread }
-    ensures { IsOf shared.now result }
+    progress: &Progress,
+    thread: &mut Thread,
+)
+    requires { IsOf shared.now thread.old }
+    ensures { IsOf shared.now thread.new }
 {
-    set_scene(rt, alloc, shared, &mut thread);
+    set_scene(rt, rt.alloc(), shared, thread);
     'drawing: for k in 0..SWAPS {
-        wait_for(rt, frames, k.saturating_sub(AHEAD));
-        show(rt, alloc, shared, &mut thread, k as u32 * 1000);
-        swaps.fetch_add(1, SeqCst);
+        wait_for(rt, &progress.frames, k.saturating_sub(AHEAD));
+        show(rt, rt.alloc(), shared, thread, k as u32 * 1000);
+        progress.swaps.fetch_add(1, SeqCst);
     }
-    thread
 }
