@@ -296,43 +296,39 @@ fn is_composed<R: Abort>(rt: &R, alloc: Global, driver: &Driver, shown: &Frame) 
     frame(rt, alloc, &screen, shown.number).rows.as_slice() == shown.rows.as_slice()
 }
 
-/// How many frames are as they should be, and how many show another picture than the one before.
-#[derive(Drop)]
-struct Seen {
-    fine: u64,
-    changes: u64,
-}
-
-// Replays the journal up to each frame. A frame is fine with the next number, and as the composition of what the history's front part shows, which never gets shorter.
-fn seen<R: Abort>(rt: &R, alloc: Global, passed: &Passed) -> Seen {
+// Replays the journal up to each frame, and answers how many frames are fine: with the next number, and the composition of what the history's front part shows, which never gets shorter.
+fn count_fine<R: Abort>(rt: &R, alloc: Global, passed: &Passed) -> u64 {
     let mut driver = fresh(rt, alloc, passed.threads);
-    let mut seen = Seen {
-        fine: 0,
-        changes: 0,
-    };
+    let mut fine = 0u64;
     let mut at = 0;
-    let mut last: &[u8] = &[];
     'frames: for frame in &passed.frames {
         replay_between(rt, alloc, &mut driver, &passed.journal, at, frame.at);
-        let is_next = frame.number == seen.fine && frame.at >= at;
+        let is_next = frame.number == fine && frame.at >= at;
         if is_next && is_composed(rt, alloc, &driver, frame) {
-            seen.fine = seen.fine.wrapping_add(1);
-        }
-        if frame.rows.as_slice() != last {
-            seen.changes = seen.changes.wrapping_add(1);
+            fine = fine.wrapping_add(1);
         }
         at = frame.at;
-        last = frame.rows.as_slice();
     }
-    seen
+    fine
+}
+
+// How many frames show another picture than the one before.
+fn count_changes(frames: &[Frame]) -> u64 {
+    let mut changes = 0u64;
+    'frames: for k in 1..frames.len() {
+        if frames[k].rows.as_slice() != frames[k - 1].rows.as_slice() {
+            changes = changes.wrapping_add(1);
+        }
+    }
+    changes
 }
 
 #[test]
 fn frames_pass_in_order_while_a_thread_draws(rt: HostRuntime) {
     let passed = pass_frames(&rt);
-    let Seen { fine, changes } = seen(&rt, rt.alloc(), &passed);
+    let changes = count_changes(&passed.frames);
     assert_eq!(rt; passed.frames.len(), FRAMES);
     assert!(rt; !passed.is_left);
-    assert_eq!(rt; fine, SWAPS);
+    assert_eq!(rt; count_fine(&rt, rt.alloc(), &passed), SWAPS);
     assert!(rt; changes >= SWAPS / 4, "{changes} pictures");
 }
