@@ -23,6 +23,7 @@ const PLACED: [Placed; 1] = [Placed {
 const ROUNDS: u32 = 9;
 
 /// A screen, the one window on it, and what is posted to that.
+#[derive(Drop)]
 struct Scene {
     screen: Screen,
     windows: [Window; 1],
@@ -30,6 +31,7 @@ struct Scene {
 }
 
 /// How many rows an update changed, and how long it took.
+#[derive(Drop)]
 struct Updated {
     rows: u64,
     took: Duration,
