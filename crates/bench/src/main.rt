@@ -1,6 +1,6 @@
 //! Measures what the driver stands on or will stand on, and calls made through the library.
 //!
-//! The first word is the part that is measured: `store`, `tables`, `pbuffers`, `pixels`, `windows` or `threads`. Alone it does a little
+//! The first word is the part that is measured: `store`, `tables`, `pbuffers`, `pixels`, `windows`, `screens` or `threads`. Alone it does a little
 //! of it, and prints what is the same on every run; with no word each part does so. The words behind it are those of
 //! `USAGE`: with them the part does all, and prints what that took.
 #![tactic(auto)]
@@ -10,6 +10,7 @@ mod extents;
 mod memory;
 mod pbuffers;
 mod pixels;
+mod screens;
 mod store;
 mod tables;
 mod threads;
@@ -23,7 +24,7 @@ use std::sync::Wait;
 use std::thread::Threads;
 
 const USAGE: &str =
-    "usage: bench [store [time] | tables [passing | NAME SIZE] | pbuffers [measure] | pixels [measure] | windows [measure] | threads [time]]";
+    "usage: bench [store [time] | tables [passing | NAME SIZE] | pbuffers [measure] | pixels [measure] | windows [measure] | screens [measure] | threads [time]]";
 
 // A little of every part.
 fn all<R: Clock + Files + Print + AllocGlobal + Threads + Wait + Sync>(rt: &R) -> Result<()> {
@@ -32,6 +33,7 @@ fn all<R: Clock + Files + Print + AllocGlobal + Threads + Wait + Sync>(rt: &R) -
     pbuffers::run(rt, Extent::Little)?;
     pixels::run(rt, Extent::Little)?;
     windows::run(rt, Extent::Little)?;
+    screens::run(rt, Extent::Little)?;
     threads::run(rt, Extent::Little)
 }
 
@@ -52,6 +54,8 @@ fn run<R: Clock + Files + Print + AllocGlobal + Threads + Wait + Sync>(
         ["pixels", "measure"] => pixels::run(rt, Extent::Full),
         ["windows"] => windows::run(rt, Extent::Little),
         ["windows", "measure"] => windows::run(rt, Extent::Full),
+        ["screens"] => screens::run(rt, Extent::Little),
+        ["screens", "measure"] => screens::run(rt, Extent::Full),
         ["threads"] => threads::run(rt, Extent::Little),
         ["threads", "time"] => threads::run(rt, Extent::Full),
         _ => bail!("{USAGE}"),

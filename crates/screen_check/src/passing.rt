@@ -10,13 +10,14 @@ use std::sync::Wait;
 use std::thread;
 use std::thread::Threads;
 
-const CAPACITY: u32 = 2;
+/// How many frames the queue holds.
+pub const CAPACITY: u32 = 2;
 
 /// How many frames are made.
 const FRAMES: u8 = 40;
 
-// Puts a frame, as soon as there is a place for it.
-fn put<R: Wait>(rt: &R, frames: &Frames, end: &mut PutEnd, frame: Frame)
+/// Puts a frame, as soon as there is a place for it.
+pub fn put<R: Wait>(rt: &R, frames: &Frames, end: &mut PutEnd, frame: Frame)
     requires { IsPutEnd frames.now end.old }
     ensures { IsPutEnd frames.now end.new }
 {
@@ -31,8 +32,8 @@ fn put<R: Wait>(rt: &R, frames: &Frames, end: &mut PutEnd, frame: Frame)
     unreachable!()
 }
 
-// Takes a frame, as soon as there is one.
-fn take<R: Wait>(rt: &R, frames: &Frames, end: &mut TakeEnd) -> Frame
+/// Takes a frame, as soon as there is one.
+pub fn take<R: Wait>(rt: &R, frames: &Frames, end: &mut TakeEnd) -> Frame
     requires { IsTakeEnd frames.now end.old }
     ensures { IsTakeEnd frames.now end.new }
 {

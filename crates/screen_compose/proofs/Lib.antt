@@ -4,3 +4,4 @@ pub mod ScreenLaws
 pub mod ShownLaws
 pub mod QueueLaws
 pub mod Blending
+pub mod SnapshotLaws

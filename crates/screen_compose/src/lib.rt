@@ -1,4 +1,4 @@
-//! A screen compositor: it stacks what windows show on a screen, and hands frames of it from thread to thread.
+//! A screen compositor: it stacks what windows show on a screen, and hands frames of it from thread to thread. What they show it asks of a driver, or of one that threads share.
 //!
 //! Its tests are in `screen_check`.
 #![tactic(auto)]
@@ -13,6 +13,7 @@ mod rests;
 mod rows;
 mod screens;
 mod shown;
+mod snapshots;
 
 pub use composing::compose_row;
 pub use frames::{FrameEnds, Frames, PutEnd, TakeEnd};
@@ -21,3 +22,4 @@ pub use placed::{Placed, screen_ok};
 pub use rests::Rest;
 pub use rows::Row;
 pub use screens::{Frame, Screen};
+pub use snapshots::snapshot;

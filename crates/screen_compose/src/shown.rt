@@ -9,6 +9,7 @@ ghost use Rattle.screen_compose.specs.Shown as values;
 use crate::fronts::Fronts;
 use crate::layers::{Front, Layer};
 use crate::placed::Placed;
+use driver_core::Driver;
 use egl_calls::{NoMemory, unsigned};
 use std::alloc::Global;
 use surface_store::Window;
@@ -71,5 +72,18 @@ impl Fronts {
         ensures same { IfOk result (λ f. AreOf f placed.now) }
     {
         Ok(Fronts::from_layers(layers_of(alloc, windows, placed)?, at))
+    }
+
+    /// A copy of what these windows show in a driver, in whose history there are `at` entries.
+    pub fn of(
+        alloc: Global,
+        driver: &Driver,
+        placed: &[Placed],
+        at: u64,
+    ) -> Result<Fronts, NoMemory>
+        ensures fronts { IfOk result (λ f. f ≡ values.fronts_of driver.now.state.windows placed.now at) }
+        ensures same { IfOk result (λ f. AreOf f placed.now) }
+    {
+        Fronts::of_windows(alloc, driver.windows(), placed, at)
     }
 }
