@@ -213,7 +213,7 @@ pub picked_line : (t : TraceValue) (es : List Entry) (s : State) (n mark : ℕ) 
 picked_line t es s n mark call at free is = picked_by t es s n mark call (next_line t.lines es n) refl (sym at) free is
 
 -- ---- A thread that calls or waits isn't over.
-not_over : (t : TraceValue) (es : List Entry) (s : State) (n : ℕ) → is_at_end t.lines es n ≡ false → is_stalled t es s ≡ false → have_others_halted n es ≡ false → ¬ (IsOver t es s n)
+not_over : (t : TraceValue) (es : List Entry) (s : State) (n : ℕ) → is_at_end t.lines es n ≡ false → is_stalled t es s ≡ false → have_others_halted n es ≡ false → IsOver t es s n → ⊥
 not_over t es s n end stall halt (inl e) = let f : true ≡ false = sym e ∙ end in cc
 not_over t es s n end stall halt (inr (inl e)) = let f : true ≡ false = sym e ∙ stall in cc
 not_over t es s n end stall halt (inr (inr e)) = let f : true ≡ false = sym e ∙ halt in cc
