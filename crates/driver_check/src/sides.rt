@@ -1,4 +1,4 @@
-//! One thread waits for a fence that another thread's flush signals.
+//! One thread waits for a fence that another thread's flush signals, and a third sleeps for what the two add, in each of the ways in which an entry comes.
 ghost use Rattle.std.specs.Prelude.{◌≡◌, false, All};
 ghost use Rattle.egl_calls.specs.declared.kinds.Kind.TheVariants.{Egl as EglCall};
 ghost use Rattle.egl_model.specs.Waits.{is_wait_end};
@@ -25,6 +25,41 @@ const SURFACE: u32 = 3;
 const CONTEXT: u32 = 4;
 
 const SYNC: u32 = 5;
+
+/// The marks of calls that the third side sleeps for, one after another: one that is picked, one that takes memory, the wait, and one that was played without a turn and is then handed in. The last one never comes, but a Halt does.
+static MARKS: [u64; 5] = [9, 10, 8, 13, 14];
+
+/// What the sides tell one another.
+#[derive(Drop)]
+pub struct Scene {
+    /// How many waits came to their end.
+    pub answered: AtomicU64,
+    /// How often the third side looked.
+    pub looks: AtomicU64,
+    // the mark of the call that it sleeps for
+    wanted: AtomicU64,
+}
+
+impl Scene {
+    pub fn new() -> Scene {
+        Scene {
+            answered: AtomicU64::new(0),
+            looks: AtomicU64::new(0),
+            wanted: AtomicU64::new(0),
+        }
+    }
+
+    // Waits until the third side sleeps for the call with this mark.
+    fn until_wanted<R: Wait>(&self, rt: &R, mark: u64) {
+        'waiting: for _ in rt.forever() {
+            if self.wanted.load(SeqCst) == mark {
+                return;
+            }
+            thread::yield_now();
+        }
+        unreachable!()
+    }
+}
 
 fn egl(alloc: Global, kind: EglKind, numbers: [u32; 4]) -> Call
     ensures { result.kind ≡ EglCall kind }
@@ -86,13 +121,34 @@ pub fn set_scene<R: Abort + Wait>(rt: &R, alloc: Global, shared: &Shared, thread
     played(rt, alloc, shared, thread, 7, call);
 }
 
+// Plays a call without a turn, hands it in, and then halts, each once the third side sleeps for it.
+fn hands_in<R: Abort + Wait>(
+    rt: &R,
+    alloc: Global,
+    shared: &Shared,
+    thread: &mut Thread,
+    scene: &Scene,
+)
+    requires { IsOf shared.now thread.old }
+    ensures { IsOf shared.now thread.new }
+{
+    scene.until_wanted(rt, 13);
+    let call = egl(alloc, EglKind::GetError, [0, 0, 0, 0]);
+    if thread.is_local(&call) && thread.local(alloc, 13, call).is_err() {
+        panic!(rt; "memory");
+    }
+    shared.finish(thread, rt);
+    scene.until_wanted(rt, 14);
+    shared.halt(thread, rt, alloc);
+}
+
 // Waits for the fence for ever, and then counts.
 fn waits<R: Abort + Wait>(
     rt: &R,
     alloc: Global,
     shared: &Shared,
     thread: &mut Thread,
-    answered: &AtomicU64,
+    scene: &Scene,
 )
     requires { IsOf shared.now thread.old }
     ensures { IsOf shared.now thread.new }
@@ -105,10 +161,11 @@ fn waits<R: Abort + Wait>(
     };
     let reply = played(rt, alloc, shared, thread, 8, call);
     if reply.outcome == Outcome::Done && reply.value == EGL_CONDITION_SATISFIED as i64 {
-        answered.fetch_add(1, SeqCst);
+        scene.answered.fetch_add(1, SeqCst);
     }
     let call = call_with(Kind::Own(OwnKind::Census), [0; 8], Numbers::new(alloc));
     played(rt, alloc, shared, thread, 12, call);
+    hands_in(rt, alloc, shared, thread, scene);
 }
 
 /// Picks the end of the fence, once a wait has begun.
@@ -133,11 +190,18 @@ impl Picker for Seeing {
     }
 }
 
-// Destroys the fence's handle once the other side waits, and then flushes.
-fn frees<R: Abort + Wait>(rt: &R, alloc: Global, shared: &Shared, thread: &mut Thread)
+// Destroys the fence's handle once the other side waits, and then flushes, each once the third side sleeps.
+fn frees<R: Abort + Wait>(
+    rt: &R,
+    alloc: Global,
+    shared: &Shared,
+    thread: &mut Thread,
+    scene: &Scene,
+)
     requires { IsOf shared.now thread.old }
     ensures { IsOf shared.now thread.new }
 {
+    scene.until_wanted(rt, 9);
     'seeing: for _ in rt.forever() {
         match shared.call_picked(thread, rt, alloc, &mut Seeing { alloc }) {
             Ok(Picked::Replied(_)) => break 'seeing,
@@ -145,10 +209,76 @@ fn frees<R: Abort + Wait>(rt: &R, alloc: Global, shared: &Shared, thread: &mut T
             Err(_) => panic!(rt; "memory"),
         }
     }
+    scene.until_wanted(rt, 10);
     let call = call_with(Kind::Own(OwnKind::Census), [0; 8], Numbers::new(alloc));
     played(rt, alloc, shared, thread, 10, call);
+    scene.until_wanted(rt, 8);
     let call = call_with(Kind::Gl(GlKind::Flush), [0; 8], Numbers::new(alloc));
     played(rt, alloc, shared, thread, 11, call);
+}
+
+/// Looks for the answer of a call, or for a Halt.
+#[derive(Drop)]
+struct Looking<'a> {
+    mark: u64,
+    scene: &'a Scene,
+}
+
+impl<'a> Picker for Looking<'a> {
+    ghost may = { λ s es d. Unit {0} };
+
+    ghost picks = { λ s es d p t. Unit {0} };
+
+    fn pick(&mut self, journal: &Journal, _driver: &Driver) -> Result<Pick, NoMemory> {
+        self.scene.looks.fetch_add(1, SeqCst);
+        'looking: for entry in journal.as_slice() {
+            let waits = entry.reply.outcome == Outcome::Waiting;
+            if entry.is_halt() || (entry.mark == self.mark && !waits) {
+                return Ok(Pick::Stop);
+            }
+        }
+        self.scene.wanted.store(self.mark, SeqCst);
+        Ok(Pick::Wait(Wanted::Answer(self.mark)))
+    }
+}
+
+// Sleeps until the call with this mark has an answer, or a Halt was made.
+fn sleeps_for<R: Abort + Wait>(
+    rt: &R,
+    alloc: Global,
+    shared: &Shared,
+    thread: &mut Thread,
+    scene: &Scene,
+    mark: u64,
+)
+    requires { IsOf shared.now thread.old }
+    ensures { IsOf shared.now thread.new }
+{
+    'looking: for _ in rt.forever() {
+        let heard = shared.heard(thread);
+        match shared.call_picked(thread, rt, alloc, &mut Looking { mark, scene }) {
+            Ok(Picked::Waited) => shared.sleep(rt, heard),
+            Ok(_) => return,
+            Err(_) => panic!(rt; "memory"),
+        }
+    }
+    unreachable!()
+}
+
+// Sleeps for one call after another.
+fn sleeps<R: Abort + Wait>(
+    rt: &R,
+    alloc: Global,
+    shared: &Shared,
+    thread: &mut Thread,
+    scene: &Scene,
+)
+    requires { IsOf shared.now thread.old }
+    ensures { IsOf shared.now thread.new }
+{
+    'marks: for mark in &MARKS {
+        sleeps_for(rt, alloc, shared, thread, scene, *mark);
+    }
 }
 
 fn one_side<R: Abort + Wait>(
@@ -156,38 +286,37 @@ fn one_side<R: Abort + Wait>(
     alloc: Global,
     shared: &Shared,
     thread: &mut Thread,
-    first: bool,
-    answered: &AtomicU64,
+    side: usize,
+    scene: &Scene,
 )
     requires { IsOf shared.now thread.old }
     ensures { IsOf shared.now thread.new }
 {
-    if first {
-        waits(rt, alloc, shared, thread, answered);
-        return;
+    match side {
+        0 => waits(rt, alloc, shared, thread, scene),
+        1 => frees(rt, alloc, shared, thread, scene),
+        _ => sleeps(rt, alloc, shared, thread, scene),
     }
-    frees(rt, alloc, shared, thread);
 }
 
-/// The first of two tokens waits for the fence that the second one flushes. It answers how many waits came to their end.
-pub fn two_sides<R: Abort + Threads + Wait + Sync>(
+/// The first of three tokens waits for the fence that the second one flushes, and the third sleeps until each of the marks has come.
+pub fn three_sides<R: Abort + Threads + Wait + Sync>(
     rt: &R,
     alloc: Global,
     shared: &Shared,
     tokens: &mut [Thread],
-) -> u64
+    scene: &Scene,
+)
     requires { All (λ t. IsOf shared.now t) tokens.old }
     ensures { All (λ t. IsOf shared.now t) tokens.new }
 {
-    let answered = AtomicU64::new(0);
     thread::for_each_mut(
         rt,
         tokens,
-        2,
+        3,
         &|k, t: &mut Thread|
             requires { IsOf shared.now t.now }
             ensures { IsOf shared.entry.now t.exit.now }
-        { one_side(rt, alloc, shared, t, k == 0, &answered) },
+        { one_side(rt, alloc, shared, t, k, scene) },
     );
-    answered.load(SeqCst)
 }

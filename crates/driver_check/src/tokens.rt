@@ -6,13 +6,14 @@ use crate::crowds::{attached_all, crowd, finish, opened};
 use crate::draws::display_call;
 use crate::places::{Row, Step, holds, queries};
 use crate::replays::is_replayed;
-use crate::sides::{set_scene, two_sides};
+use crate::sides::{Scene, set_scene, three_sides};
 use driver_core::Driver;
 use egl_calls::{Entry, Journal, NoMemory, Outcome};
 use shared_driver::{Opened, Pick, Picked, Picker, Shared, Thread};
 use std::alloc::Global;
 use std::process::Abort;
 use std::sync::Wait;
+use std::sync::atomic::Ordering::SeqCst;
 use std::thread::Threads;
 
 /// Stops at once.
@@ -94,13 +95,14 @@ fn no_more_than_65_536_tokens(rt: HostRuntime) {
     assert_eq!(rt; run.journal.len(), 0);
 }
 
-// Two tokens more, of which the second sets the scene; what the first's wait answered, and what was closed.
+// Three tokens more, of which the second sets the scene.
 fn waited<R: Abort + Threads + Wait + Sync>(
     rt: &R,
     alloc: Global,
     shared: &Shared,
     thread: &mut Thread,
-) -> u64
+    scene: &Scene,
+)
     requires { IsOf shared.now thread.old }
     ensures { IsOf shared.now thread.new }
 {
@@ -110,19 +112,23 @@ fn waited<R: Abort + Threads + Wait + Sync>(
     let Ok(mut second) = shared.attach(thread, rt) else {
         panic!(rt; "no token");
     };
+    let Ok(third) = shared.attach(thread, rt) else {
+        panic!(rt; "no token");
+    };
     set_scene(rt, alloc, shared, &mut second);
-    let mut tokens = [first, second];
-    let answered = two_sides(rt, alloc, shared, &mut tokens);
-    let [first, second] = tokens;
+    let mut tokens = [first, second, third];
+    three_sides(rt, alloc, shared, &mut tokens, scene);
+    let [first, second, third] = tokens;
     shared.join(thread, rt, first);
     shared.join(thread, rt, second);
-    answered
+    shared.join(thread, rt, third);
 }
 
 #[test]
-fn a_wait_ends_by_another_threads_flush(rt: HostRuntime) {
+fn a_wait_ends_by_another_threads_flush_and_each_way_calls_who_sleeps(rt: HostRuntime) {
+    let scene = Scene::new();
     let Opened { shared, mut thread } = opened(&rt, rt.alloc(), 1000);
-    let answered = waited(&rt, rt.alloc(), &shared, &mut thread);
+    waited(&rt, rt.alloc(), &shared, &mut thread, &scene);
     let run = finish(&rt, shared, thread);
     let entries = run.journal.as_slice();
     let begun = entries
@@ -133,11 +139,12 @@ fn a_wait_ends_by_another_threads_flush(rt: HostRuntime) {
         .iter()
         .filter(|e| e.thread == 1 && e.mark == 8)
         .count();
-    assert_eq!(rt; answered, 1);
+    assert_eq!(rt; scene.answered.load(SeqCst), 1);
+    assert_eq!(rt; scene.looks.load(SeqCst), 10, "two for each mark");
     assert_eq!(rt; begun, 1);
     assert_eq!(rt; of_the_wait, 2);
-    assert_eq!(rt; run.journal.len(), 12);
-    assert!(rt; is_replayed(&rt, rt.alloc(), &run.journal, 3, 1000));
+    assert_eq!(rt; run.journal.len(), 14);
+    assert!(rt; is_replayed(&rt, rt.alloc(), &run.journal, 4, 1000));
 }
 
 /// Counts the Halt entries of a token, and stops.

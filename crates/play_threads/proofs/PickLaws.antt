@@ -4,9 +4,11 @@ use Rattle.std.proofs.lemmas.Bool.{eqb-true, eq-eqb}
 use Rattle.std.proofs.lemmas.Bool.Decides.{nat_tests}
 use Rattle.std.proofs.lemmas.List.Elements.{All-head, All-tail, filter-append}
 use Rattle.std.proofs.lemmas.List.{append-nil, append_assoc, length-append, take-append-le, take_all, take_at, take_more}
-use Rattle.std.proofs.lemmas.List.Folds.{list_any-append}
+use Rattle.std.proofs.lemmas.List.Folds.{list_all_at, list_any-append}
+use Rattle.std.proofs.lemmas.List.FromFn.{get_or-range_with_len, length-range_with_len}
 use Rattle.std.proofs.lemmas.Option.{get_or_from_slice_get, slice_get_cases, slice_get_within}
-use Rattle.std.specs.Prelude.{◌==◌, ◌⊎◌, All, IfOk, OnOk, if◌then◌else◌, slice_get}
+use Rattle.std.specs.List.{range_with_len}
+use Rattle.std.specs.Prelude.{◌==◌, ◌⊎◌, All, IfOk, OnOk, if◌then◌else◌, is_none, is_some, nat_le, slice_get}
 use Rattle.std.specs.Option.{option_map}
 use Rattle.egl_calls.specs.Calls.{CallValue}
 use Rattle.egl_calls.specs.Journals.{is_halt}
@@ -15,7 +17,8 @@ use Rattle.egl_calls.specs.declared.entries.Entry.{Entry}
 use Rattle.egl_model.specs.State.{State}
 use Rattle.trace_reader.specs.declared.traces.Line.{Line}
 use Rattle.trace_reader.specs.Traces.{TraceValue}
-use Rattle.trace_model.specs.Turns.{next_line, is_held, is_blocked}
+use Rattle.trace_model.specs.Turns.{next_line, is_at_end, is_held, is_blocked}
+use Rattle.trace_model.specs.Stalled.{is_at_rest, is_complete, is_stalled}
 use Rattle.trace_model.specs.Serial.{next_call}
 use Rattle.shared_driver.specs.declared.picks.Pick.{Pick}
 use Rattle.shared_driver.specs.declared.picks.Pick.TheVariants.{Call}
@@ -24,7 +27,7 @@ use Rattle.trace_session.specs.Sessions.{Knows, SessionValue}
 use Rattle.trace_session.proofs.AlikeLaws.{knows_alike}
 use Rattle.shared_driver.specs.Cores.{of_number}
 use Rattle.play_threads.specs.declared.pickers.LinePicker.{LinePicker}
-use Rattle.play_threads.specs.Picks.{HasLearnt, IsPickOf, MayRest, Picks, have_others_halted, is_halt_beside}
+use Rattle.play_threads.specs.Picks.{GoesOn, HasLearnt, IsOver, IsPickOf, Picks, has_stalled, have_others_halted, is_halt_beside}
 
 abbrev pub of_others : ℕ → List Entry → Type 0
 of_others n es = All (λ e. e.thread ≢ n) es
@@ -209,10 +212,47 @@ pub picked_line : (t : TraceValue) (es : List Entry) (s : State) (n mark : ℕ) 
     → ((l : Line) → next_line t.lines es n ≡ Some l → call ≡ next_call t.lines es n l) → IsPickOf t es s n (Call mark call)
 picked_line t es s n mark call at free is = picked_by t es s n mark call (next_line t.lines es n) refl (sym at) free is
 
+-- ---- A thread that calls or waits isn't over.
+not_over : (t : TraceValue) (es : List Entry) (s : State) (n : ℕ) → is_at_end t.lines es n ≡ false → is_stalled t es s ≡ false → have_others_halted n es ≡ false → IsOver t es s n → ⊥
+not_over t es s n end stall halt (inl e) = let f : true ≡ false = sym e ∙ end in cc
+not_over t es s n end stall halt (inr (inl e)) = let f : true ≡ false = sym e ∙ stall in cc
+not_over t es s n end stall halt (inr (inr e)) = let f : true ≡ false = sym e ∙ halt in cc
+
+-- a run in which a thread can go on hasn't stalled
+not_stalled : (t : TraceValue) (es : List Entry) (s : State) (n : ℕ) → n < t.threads → is_at_rest t.lines es s n ≡ false → is_stalled t es s ≡ false
+unfolding is_stalled
+not_stalled t es s n below goes =
+    let at : get_or (range_with_len 0 t.threads) n 0 ≡ n = get_or-range_with_len 0 t.threads n 0 below in
+    let there : n < length (range_with_len 0 t.threads) = rw length-range_with_len below in
+    ap (λ (b : Bool). b && not (is_complete t es)) (list_all_at (is_at_rest t.lines es s) (range_with_len 0 t.threads) n 0 there (ap (is_at_rest t.lines es s) at ∙ goes))
+
+not_blocked_line : (t : TraceValue) (es : List Entry) (s : State) (n : ℕ) (o : Option Line) → is_some o ≡ true → is_held t.lines es s n o ≡ false → (is_none o || is_held t.lines es s n o) ≡ false
+not_blocked_line t es s n None there free = absurd (let f : false ≡ true = there in cc)
+not_blocked_line t es s n (Some l) there free = free
+
+has_line : (o : Option Line) (mark : ℕ) → Some mark ≡ option_map (λ l. l.number) o → is_some o ≡ true
+has_line None mark h = absurd (let f : Some mark ≡ None = h in cc)
+has_line (Some l) mark h = refl
+
+not_none : (o : Option Line) → is_some o ≡ true → is_none o ≡ false
+not_none None h = absurd (let f : false ≡ true = h in cc)
+not_none (Some l) h = refl
+
+pub calls_on : (t : TraceValue) (es : List Entry) (s : State) (n mark : ℕ) → n < t.threads → Some mark ≡ option_map (λ l. l.number) (next_line t.lines es n) → is_blocked t.lines es s n ≡ false → have_others_halted n es ≡ false → ¬ (IsOver t es s n)
+calls_on t es s n mark below at free halt =
+    let there = has_line (next_line t.lines es n) mark at in
+    not_over t es s n (not_none (next_line t.lines es n) there) (not_stalled t es s n below (not_blocked_line t es s n (next_line t.lines es n) there free)) halt
+
+pub waits_on : (t : TraceValue) (es : List Entry) (d : Machine) (n mark : ℕ) → Some mark ≡ option_map (λ l. l.number) (next_line t.lines es n) → has_stalled t es d ≡ false → have_others_halted n es ≡ false → (have_others_halted n es ≡ false) × (t.threads ≤ d.made → ¬ (IsOver t es d.state n))
+waits_on t es d n mark at stall halt = (halt, λ all. not_over t es d.state n (not_none (next_line t.lines es n) (has_line (next_line t.lines es n) mark at)) (goes all) halt)
+  where
+    goes : t.threads ≤ d.made → is_stalled t es d.state ≡ false
+    goes all = let le : nat_le t.threads d.made ≡ true = grind (arith, nat_tests, all) in sym (ap (λ (b : Bool). b && is_stalled t es d.state) le) ∙ stall
+
 -- what was picked by all that was learnt
 pub picks_if_ok : (x : Result Pick NoMemory) (p q : LinePicker) (es : List Entry) (d : Machine) → q.thread ≡ p.thread → q.session.trace ≡ p.session.trace → q.learnt ≡ length es → HasLearnt q (of_number p.thread es) es
-    → IfOk x (IsPickOf q.session.trace es d.state q.thread) → IfOk x (MayRest q.session.trace es d) → IfOk x (λ k. Picks p es d k q)
-picks_if_ok (Ok k) p q es d thread trace all learnt pick rests = record {
+    → IfOk x (IsPickOf q.session.trace es d.state q.thread) → IfOk x (GoesOn q.session.trace es d q.thread) → IfOk x (λ k. Picks p es d k q)
+picks_if_ok (Ok k) p q es d thread trace all learnt pick goes_on = record {
   thread = thread;
   trace = trace;
   all = all;
@@ -221,9 +261,12 @@ picks_if_ok (Ok k) p q es d thread trace all learnt pick rests = record {
       let T : TraceValue → Type 0 = λ t. IsPickOf t es d.state q.thread k in
       let N : ℕ → Type 0 = λ n. IsPickOf p.session.trace es d.state n k in
       subst N thread (subst T trace pick);
-  rests = let R : TraceValue → Type 0 = λ t. MayRest t es d k in subst R trace rests;
+  goes_on =
+      let T : TraceValue → Type 0 = λ t. GoesOn t es d q.thread k in
+      let N : ℕ → Type 0 = λ n. GoesOn p.session.trace es d n k in
+      subst N thread (subst T trace goes_on);
 }
-picks_if_ok (Err e) p q es d thread trace all learnt pick rests = tt
+picks_if_ok (Err e) p q es d thread trace all learnt pick goes_on = tt
 
 pub learnt_of : (p q : LinePicker) (es : List Entry) → q.thread ≡ p.thread → HasLearnt q (of_number p.thread es) es → HasLearnt q (of_number q.thread es) es
 learnt_of p q es thread h = let P : List Entry → Type 0 = λ own. HasLearnt q own es in subst P (ap (λ (n : ℕ). of_number n es) (sym thread)) h

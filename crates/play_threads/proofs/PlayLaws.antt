@@ -4,12 +4,12 @@ use Rattle.std.proofs.lemmas.Bool.{eqb-true}
 use Rattle.std.proofs.lemmas.Bool.Decides.{nat_tests}
 use Rattle.std.proofs.lemmas.List.{append-nil}
 use Rattle.std.proofs.lemmas.List.Elements.{All-cons, All-head, All-tail, All-weaker, Contains-append_cases}
-use Rattle.std.specs.Prelude.{◌==◌, All, Contains, IfOk, IfErr}
+use Rattle.std.specs.Prelude.{◌==◌, ◌&&◌, All, Contains, IfOk, IfErr, if◌then◌else◌, nat_le}
 use Rattle.egl_calls.specs.declared.entries.Entry.{Entry}
 use Rattle.trace_reader.specs.Traces.{TraceValue}
 use Rattle.trace_reader.specs.Order.{IsTrace}
 use Rattle.trace_model.specs.Serial.{serial, state_behind}
-use Rattle.trace_model.specs.Stalled.{IsComplete, IsStalled, is_stalled}
+use Rattle.trace_model.specs.Stalled.{IsComplete, IsStalled, is_complete, is_stalled}
 use Rattle.egl_model.specs.State.{State}
 use Rattle.trace_model.specs.Follows.{Follows, IsPlayOf, PlaysAs}
 use Rattle.trace_model.proofs.FollowsLaws.{all_follow, serial_plays}
@@ -20,8 +20,11 @@ use Rattle.driver_core.specs.declared.machine.Run.{Run}
 use Rattle.shared_driver.specs.declared.tokens.Shared.{Shared}
 use Rattle.shared_driver.specs.declared.tokens.Thread.{Thread}
 use Rattle.shared_driver.specs.Tokens.{Includes, IsOf, Learns, Owns, Token, mine, token_of}
+use Rattle.play_threads.specs.declared.plays.Reached.{Reached}
+use Rattle.play_threads.specs.declared.plays.Reached.TheVariants.{End, Stall, Neither}
 use Rattle.play_threads.specs.declared.workers.Worker.{Worker}
-use Rattle.play_threads.specs.Plays.{IsReady, IsRunOf, IsStalledRunOf, IsThrough, OwnersPlay}
+use Rattle.play_threads.specs.Picks.{has_stalled}
+use Rattle.play_threads.specs.Plays.{IsReady, IsRunOf, IsStalledRunOf, IsThrough, OwnersPlay, reached_by}
 use Rattle.play_threads.proofs.WorkLaws.{none_of, not_owned, plays_past, plays_without}
 
 -- a worker with a token that has made no call
@@ -140,3 +143,24 @@ pub serial_err : (t : TraceValue) → IsTrace t → (x : Result Run RunError) �
 serial_err t is (Ok r) h = tt
 serial_err t is (Err (Stalled r)) h = (serial_run t is r h.0, serial_stalled t r.journal.entries h.0.journal h.1)
 serial_err t is (Err NoMemory) h = tt
+
+-- ---- How far a run came.
+end_by : (complete stalled : Bool) → End ≡ (if complete then End else (if stalled then Stall else Neither)) → complete ≡ true
+end_by true stalled h = refl
+end_by false true h = absurd (let f : End ≡ Stall = h in cc)
+end_by false false h = absurd (let f : End ≡ Neither = h in cc)
+
+stall_by : (complete stalled : Bool) → Stall ≡ (if complete then End else (if stalled then Stall else Neither)) → stalled ≡ true
+stall_by true stalled h = absurd (let f : Stall ≡ End = h in cc)
+stall_by false true h = refl
+stall_by false false h = absurd (let f : Stall ≡ Neither = h in cc)
+
+second : (a b : Bool) → (a && b) ≡ true → b ≡ true
+second true b h = h
+second false b h = absurd (let f : false ≡ true = h in cc)
+
+pub end_reached : (t : TraceValue) (r : Run) → End ≡ reached_by t r → IsComplete t r.journal.entries
+end_reached t r h = end_by (is_complete t r.journal.entries) (has_stalled t r.journal.entries r.driver) h
+
+pub stall_reached : (t : TraceValue) (r : Run) → Stall ≡ reached_by t r → is_stalled t r.journal.entries r.driver.state ≡ true
+stall_reached t r h = second (nat_le t.threads r.driver.made) (is_stalled t r.journal.entries r.driver.state) (stall_by (is_complete t r.journal.entries) (has_stalled t r.journal.entries r.driver) h)

@@ -1,5 +1,5 @@
 -- What a worker picks in its turn.
-use Rattle.std.specs.Prelude.{◌≡◌, ◌≢◌, ◌⊎◌, ℕ, ◌<◌, ◌≤◌, Bool, true, false, not, ◌&&◌, ◌==◌, List, length, take, Some}
+use Rattle.std.specs.Prelude.{◌≡◌, ◌≢◌, ◌⊎◌, ℕ, ◌<◌, ◌≤◌, Bool, true, false, not, ◌&&◌, ◌==◌, nat_le, List, length, take, Some}
 use Rattle.std.specs.List.{list_any}
 use Rattle.egl_calls.specs.Journals.{is_halt}
 use Rattle.egl_calls.specs.declared.entries.Entry.{Entry}
@@ -49,10 +49,15 @@ IsPickOf t es s thread (Call mark call) = (l : Line) × (next_line t.lines es th
 IsPickOf t es s thread (Wait what) = is_blocked t.lines es s thread ≡ true
 IsPickOf t es s thread Stop = IsOver t es s thread
 
--- A thread waits only in a run that hasn't stalled. While threads of the trace have no token yet, that isn't asked
-abbrev pub MayRest : TraceValue → List Entry → Machine → Pick → Type 0
-MayRest t es d (Wait what) = t.threads ≤ d.made → is_stalled t es d.state ≡ false
-MayRest t es d k = Unit {0}
+-- whether a run has stalled. While threads of the trace have no token yet, it hasn't
+abbrev pub has_stalled : TraceValue → List Entry → Machine → Bool
+has_stalled t es d = nat_le t.threads d.made && is_stalled t es d.state
+
+-- A thread that calls or waits isn't over. While threads of the trace have no token yet, one that waits may stand in a stall
+abbrev pub GoesOn : TraceValue → List Entry → Machine → ℕ → Pick → Type 0
+GoesOn t es d thread (Call mark call) = ¬ (IsOver t es d.state thread)
+GoesOn t es d thread (Wait what) = (have_others_halted thread es ≡ false) × (t.threads ≤ d.made → ¬ (IsOver t es d.state thread))
+GoesOn t es d thread Stop = Unit {0}
 
 -- a picker that has learnt all entries gave the pick of its thread
 pub record Picks (p : LinePicker) (es : List Entry) (d : Machine) (k : Pick) (q : LinePicker) : Type 0 where
@@ -61,4 +66,4 @@ pub record Picks (p : LinePicker) (es : List Entry) (d : Machine) (k : Pick) (q 
   pub all : q.learnt ≡ length es
   pub learnt : HasLearnt q (of_number p.thread es) es
   pub pick : IsPickOf p.session.trace es d.state p.thread k
-  pub rests : MayRest p.session.trace es d k
+  pub goes_on : GoesOn p.session.trace es d p.thread k

@@ -1,14 +1,17 @@
 -- What the workers' tokens say of a journal, and what a run is.
-use Rattle.std.specs.Prelude.{◌≡◌, ℕ, ◌<◌, false, []}
+use Rattle.std.specs.Prelude.{◌≡◌, ℕ, ◌<◌, false, [], if◌then◌else◌}
 use Rattle.trace_reader.specs.Traces.{TraceValue}
 use Rattle.trace_model.specs.Follows.{IsPlayOf, PlaysAs}
 use Rattle.trace_model.specs.Serial.{state_behind}
-use Rattle.trace_model.specs.Stalled.{IsStalled}
+use Rattle.trace_model.specs.Stalled.{IsStalled, is_complete}
 use Rattle.trace_session.specs.declared.runs.RunError.{RunError}
 use Rattle.trace_session.specs.declared.runs.RunError.TheVariants.{Stalled, NoMemory}
 use Rattle.driver_core.specs.declared.machine.Run.{Run}
 use Rattle.shared_driver.specs.declared.tokens.Shared.{Shared}
 use Rattle.shared_driver.specs.Tokens.{IsOf, Owns, Token, mine, token_of}
+use Rattle.play_threads.specs.Picks.{has_stalled}
+use Rattle.play_threads.specs.declared.plays.Reached.{Reached}
+use Rattle.play_threads.specs.declared.plays.Reached.TheVariants.{End, Stall, Neither}
 use Rattle.play_threads.specs.declared.workers.Worker.{Worker}
 
 -- a worker that has made no call. Where memory isn't wanted, its number is that of a thread of the trace
@@ -42,3 +45,7 @@ pub record IsRunOf (t : TraceValue) (r : Run) : Type 0 where
 abbrev pub IsStalledRunOf : TraceValue → RunError → Type 0
 IsStalledRunOf t (Stalled r) = IsRunOf t r × IsStalled t r.journal.entries
 IsStalledRunOf t NoMemory = Unit {0}
+
+-- how far a run came: to the end of all threads, or to a stall, or neither
+abbrev pub reached_by : TraceValue → Run → Reached
+reached_by t r = if is_complete t r.journal.entries then End else (if has_stalled t r.journal.entries r.driver then Stall else Neither)

@@ -5,12 +5,11 @@ ghost use Rattle.egl_calls.specs.declared.entries.Entry.{Entry as AnEntry};
 ghost use Rattle.trace_reader.specs.declared.traces.Line.{Line as ALine};
 ghost use Rattle.trace_model.specs.Turns.{next_line};
 ghost use Rattle.trace_model.specs.Serial.{next_call};
-ghost use Rattle.trace_model.specs.Stalled.{is_stalled};
 ghost use Rattle.trace_session.specs.Answers.{IsLone};
 ghost use Rattle.trace_session.specs.Facts.{HasFacts};
 ghost use Rattle.trace_session.specs.Sessions.{Knows};
 ghost use Rattle.shared_driver.specs.Cores.{entry, of_number};
-ghost use Rattle.play_threads.specs.Picks.{HasLearnt, IsPickOf, MayLook, MayRest, Picks, have_others_halted};
+ghost use Rattle.play_threads.specs.Picks.{GoesOn, HasLearnt, IsPickOf, MayLook, Picks, has_stalled, have_others_halted};
 
 use crate::needs::Needs;
 use driver_core::Driver;
@@ -33,6 +32,13 @@ pub struct LinePicker<'a> {
     // its own thread is in a wait
     pub(crate) waits: bool,
     pub(crate) needs: Needs<'a>,
+}
+
+/// Whether the run that a session knows has stalled. While threads of the trace have no token yet, it hasn't.
+pub(crate) fn has_stalled(session: &Session, driver: &Driver) -> bool
+    ensures { (es : List AnEntry) → Knows es session.now → result ≡ has_stalled session.now.trace es driver.now }
+{
+    driver.threads() >= session.threads() && session.stalled(driver)
 }
 
 impl<'a> LinePicker<'a> {
@@ -99,14 +105,6 @@ impl<'a> LinePicker<'a> {
         Ok(())
     }
 
-    // Whether the run has stalled. While threads of the trace have no token yet, it hasn't.
-    fn is_stalled(&self, driver: &Driver) -> bool
-        ensures stalled { (es : List AnEntry) → Knows es self.now.session → result ≡ true → is_stalled self.now.session.trace es driver.now.state ≡ true }
-        ensures goes_on { (es : List AnEntry) → Knows es self.now.session → result ≡ false → self.now.session.trace.threads ≤ driver.now.made → is_stalled self.now.session.trace es driver.now.state ≡ false }
-    {
-        driver.threads() >= self.session.threads() && self.session.stalled(driver)
-    }
-
     // What its thread waits for at the line of this number, where it is blocked.
     fn wanted(&self, mark: u64) -> Wanted {
         if self.waits {
@@ -121,7 +119,7 @@ impl<'a> LinePicker<'a> {
         requires thread { self.now.thread < self.now.session.trace.threads }
         requires made { self.now.thread < driver.now.made }
         ensures pick { (es : List AnEntry) → Knows es self.now.session → self.now.halted ≡ have_others_halted self.now.thread es → IfOk result (IsPickOf self.now.session.trace es driver.now.state self.now.thread) }
-        ensures rests { (es : List AnEntry) → Knows es self.now.session → IfOk result (MayRest self.now.session.trace es driver.now) }
+        ensures goes_on { (es : List AnEntry) → Knows es self.now.session → self.now.halted ≡ have_others_halted self.now.thread es → IfOk result (GoesOn self.now.session.trace es driver.now self.now.thread) }
     {
         if self.halted {
             return Ok(Pick::Stop);
@@ -132,7 +130,7 @@ impl<'a> LinePicker<'a> {
         if !self.session.blocked(driver, self.thread) {
             return Ok(Pick::Call(mark, self.session.call(self.alloc, self.thread)?));
         }
-        if self.is_stalled(driver) {
+        if has_stalled(&self.session, driver) {
             Ok(Pick::Stop)
         } else {
             Ok(Pick::Wait(self.wanted(mark)))

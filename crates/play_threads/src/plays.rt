@@ -1,14 +1,14 @@
 //! The run of all threads of a trace at once.
-ghost use Rattle.std.specs.Prelude.{◌≡◌, ◌≤◌, true, false, IfOk, IfErr};
+ghost use Rattle.std.specs.Prelude.{◌≡◌, IfOk, IfErr};
 ghost use Rattle.egl_model.specs.History.{IsLegalFrom, replay_from};
 ghost use Rattle.trace_reader.specs.Traces.{TraceValue};
 ghost use Rattle.trace_model.specs.Follows.{Follows};
-ghost use Rattle.trace_model.specs.Stalled.{IsComplete, is_complete, is_stalled};
+ghost use Rattle.trace_model.specs.Stalled.{IsComplete};
 ghost use Rattle.shared_driver.specs.Tokens.{IsOf, opening_of, token_of};
-ghost use Rattle.play_threads.specs.declared.plays.Reached.TheVariants.{End, Neither, Stall};
-ghost use Rattle.play_threads.specs.Plays.{IsRunOf, IsStalledRunOf, OwnersPlay};
+ghost use Rattle.play_threads.specs.Plays.{IsRunOf, IsStalledRunOf, OwnersPlay, reached_by};
 
 use crate::gates::Gate;
+use crate::pickers::has_stalled;
 use crate::workers::{Gathered, play_together};
 use driver_core::Run;
 use egl_calls::NoMemory;
@@ -67,15 +67,13 @@ fn run<R: Threads + Wait + Sync, G: Gate + Sync>(
 
 // How far a run came.
 fn how_far(alloc: Global, trace: &Trace, run: &Run) -> Result<Reached, NoMemory>
-    ensures end { IfOk result (λ r. r ≡ End → IsComplete trace.now run.now.journal.entries) }
-    ensures stall { IfOk result (λ r. r ≡ Stall → is_stalled trace.now run.now.journal.entries run.now.driver.state ≡ true) }
-    ensures neither { IfOk result (λ r. r ≡ Neither → (is_complete trace.now run.now.journal.entries ≡ false) × (trace.now.threads ≤ run.now.driver.made → is_stalled trace.now run.now.journal.entries run.now.driver.state ≡ false)) }
+    ensures { IfOk result (λ r. r ≡ reached_by trace.now run.now) }
 {
     let session = Session::behind(alloc, trace, &run.journal)?;
     if session.is_complete() {
         return Ok(Reached::End);
     }
-    if run.driver.threads() >= session.threads() && session.stalled(&run.driver) {
+    if has_stalled(&session, &run.driver) {
         return Ok(Reached::Stall);
     }
     Ok(Reached::Neither)
@@ -84,6 +82,7 @@ fn how_far(alloc: Global, trace: &Trace, run: &Run) -> Result<Reached, NoMemory>
 /// Plays a trace by as many threads at once as it has, and answers the run: its journal is one legal history in which each thread plays its lines, and its driver stands behind it. Which of the legal histories it is, differs from run to run.
 ///
 /// Where not all threads can run at once, it is the run by turns of `run_serial`.
+#[tactic(auto, using(crate::proofs::PlayLaws::end_reached, crate::proofs::PlayLaws::stall_reached))]
 pub fn play<R: Threads + Wait + Sync, G: Gate + Sync>(
     rt: &R,
     alloc: Global,

@@ -8,4 +8,4 @@ returns c =
     let es = c.args.journal.now.entries in
     let told = c.in_ok-learn.ensures in
     let own = learnt_of p q es c.learn.ensures.same.0 told.learnt in
-    record { picked = picks_if_ok c.picked.result p q es c.args.driver.now c.learn.ensures.same.0 c.learn.ensures.same.1 told.all told.learnt (c.picked.ensures.pick es (knows_all q es told.all own) (halted_all q es told.all own)) (c.picked.ensures.rests es (knows_all q es told.all own)) }
+    record { picked = picks_if_ok c.picked.result p q es c.args.driver.now c.learn.ensures.same.0 c.learn.ensures.same.1 told.all told.learnt (c.picked.ensures.pick es (knows_all q es told.all own) (halted_all q es told.all own)) (c.picked.ensures.goes_on es (knows_all q es told.all own) (halted_all q es told.all own)) }

@@ -1,7 +1,7 @@
 use denote.Param.Send.{sendable}
 use Rattle.std.proofs.Crossing.{crosses}
 use Rattle.shared_driver.proofs.Sending.{shared_sync, thread_send}
-use Rattle.driver_check.proofs.sides.two_sides.Goals as goal
+use Rattle.driver_check.proofs.sides.three_sides.Goals as goal
 
 pub for_each_mut-requires-send-T : goal.for_each_mut-requires-send-T
 for_each_mut-requires-send-T g c κs within = let a = thread_send in search (sendable, crosses) depth 20
