@@ -136,17 +136,18 @@ fn a_sink_that_fails_is_a_write_fault(rt: HostRuntime) {
     }
 }
 
-/// An input, the call at which its source fails, and the front of what is written to a sink with room for five bytes.
-static FRONTS: [(&[u8], i64, &[u8]); 4] = [
-    (b"", -1, b"malfo"),
-    (b"", 0, b"read "),
-    (HEADER, -1, b"recor"),
-    (b"egl-trace 1 1\n0 await 1\n", -1, b"recor"),
+/// An input, the call at which its source fails, the room of the sink, and what it takes.
+static FRONTS: [(&[u8], i64, u64, &[u8]); 5] = [
+    (b"", -1, 5, b"malfo"),
+    (b"", 0, 5, b"read "),
+    (HEADER, -1, 5, b"recor"),
+    (HEADER, -1, 0, b""),
+    (b"egl-trace 1 1\n0 await 1\n", -1, 5, b"recor"),
 ];
 
 fn expect_fronts<R: AllocGlobal + Abort + Threads + Wait + Sync>(rt: &R, word: &str) {
-    for (input, fails, front) in &FRONTS {
-        let ran = ran(rt, &[word], input, *fails, 5, -1);
+    for (input, fails, room, front) in &FRONTS {
+        let ran = ran(rt, &[word], input, *fails, *room, -1);
         assert!(rt; wrote(&ran, 5, front), "{word}");
     }
 }
