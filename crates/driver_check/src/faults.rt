@@ -1,7 +1,8 @@
-//! Words that are no command, faults of reading and writing, and inputs at the limit.
+//! Words that are no command, faults of reading and writing, and inputs and generated traces at the limit.
 ghost use Rattle.std.specs.Prelude.{None};
 
 use crate::commands::{answer, ran, sink, source, status_of, words, wrote};
+use crate::readings::read_text;
 use egl_cli::plain;
 use egl_flow::{Failed, Sink};
 use std::alloc::Global;
@@ -200,4 +201,17 @@ fn a_byte_more_is_too_long(rt: HostRuntime) {
     }
     let ran = ran(&rt, &COMPOSE, &input, -1, 100, -1);
     assert!(rt; wrote(&ran, 8, b"too long\n"));
+}
+
+/// The words that generate as many lines as there may be, for as many threads.
+const LONGEST: [&str; 4] = ["gen", "90000", "16", "9223372036854775807"];
+
+#[test]
+fn the_longest_generated_trace_is_read(rt: HostRuntime) {
+    let (status, sink) = ran(&rt, &LONGEST, b"", -1, 8_388_608, -1);
+    assert_eq!(rt; status, 0);
+    let text = str::from_utf8(sink.taken()).expect(&rt, "a trace is text");
+    let trace = read_text(&rt, rt.alloc(), text);
+    assert_eq!(rt; trace.threads(), 16);
+    assert!(rt; trace.lines().len() >= 90_000);
 }
