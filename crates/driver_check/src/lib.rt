@@ -36,6 +36,8 @@ mod read_calls;
 #[cfg(test)]
 mod readings;
 #[cfg(test)]
+mod recordings;
+#[cfg(test)]
 mod replays;
 #[cfg(test)]
 mod shared_texture;
