@@ -1,7 +1,8 @@
-//! Words that are no command, faults of reading and writing, and inputs at the limit.
+//! Words that are no command, faults of reading and writing, and inputs and generated traces at the limit.
 ghost use Rattle.std.specs.Prelude.{None};
 
 use crate::commands::{answer, ran, sink, source, status_of, words, wrote};
+use crate::readings::read_text;
 use egl_cli::plain;
 use egl_flow::{Failed, Sink};
 use std::alloc::Global;
@@ -136,17 +137,18 @@ fn a_sink_that_fails_is_a_write_fault(rt: HostRuntime) {
     }
 }
 
-/// An input, the call at which its source fails, and the front of what is written to a sink with room for five bytes.
-static FRONTS: [(&[u8], i64, &[u8]); 4] = [
-    (b"", -1, b"malfo"),
-    (b"", 0, b"read "),
-    (HEADER, -1, b"recor"),
-    (b"egl-trace 1 1\n0 await 1\n", -1, b"recor"),
+/// An input, the call at which its source fails, the room of the sink, and what it takes.
+static FRONTS: [(&[u8], i64, u64, &[u8]); 5] = [
+    (b"", -1, 5, b"malfo"),
+    (b"", 0, 5, b"read "),
+    (HEADER, -1, 5, b"recor"),
+    (HEADER, -1, 0, b""),
+    (b"egl-trace 1 1\n0 await 1\n", -1, 5, b"recor"),
 ];
 
 fn expect_fronts<R: AllocGlobal + Abort + Threads + Wait + Sync>(rt: &R, word: &str) {
-    for (input, fails, front) in &FRONTS {
-        let ran = ran(rt, &[word], input, *fails, 5, -1);
+    for (input, fails, room, front) in &FRONTS {
+        let ran = ran(rt, &[word], input, *fails, *room, -1);
         assert!(rt; wrote(&ran, 5, front), "{word}");
     }
 }
@@ -199,4 +201,17 @@ fn a_byte_more_is_too_long(rt: HostRuntime) {
     }
     let ran = ran(&rt, &COMPOSE, &input, -1, 100, -1);
     assert!(rt; wrote(&ran, 8, b"too long\n"));
+}
+
+/// The words that generate as many lines as there may be, for as many threads.
+const LONGEST: [&str; 4] = ["gen", "90000", "16", "9223372036854775807"];
+
+#[test]
+fn the_longest_generated_trace_is_read(rt: HostRuntime) {
+    let (status, sink) = ran(&rt, &LONGEST, b"", -1, 8_388_608, -1);
+    assert_eq!(rt; status, 0);
+    let text = str::from_utf8(sink.taken()).expect(&rt, "a trace is text");
+    let trace = read_text(&rt, rt.alloc(), text);
+    assert_eq!(rt; trace.threads(), 16);
+    assert!(rt; trace.lines().len() >= 90_000);
 }

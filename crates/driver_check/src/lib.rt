@@ -14,9 +14,13 @@ mod configs;
 #[cfg(test)]
 mod crowds;
 #[cfg(test)]
+mod cut_runs;
+#[cfg(test)]
 mod draws;
 #[cfg(test)]
 mod faults;
+#[cfg(test)]
+mod faults_in_turn;
 #[cfg(test)]
 mod heads;
 #[cfg(test)]
@@ -32,7 +36,11 @@ mod read_calls;
 #[cfg(test)]
 mod readings;
 #[cfg(test)]
+mod recordings;
+#[cfg(test)]
 mod replays;
+#[cfg(test)]
+mod shared_texture;
 #[cfg(test)]
 mod sides;
 #[cfg(test)]

@@ -20,6 +20,8 @@ mod framebuffers;
 #[cfg(test)]
 mod image_writes;
 #[cfg(test)]
+mod largest_images;
+#[cfg(test)]
 mod levels;
 #[cfg(test)]
 mod parameters;

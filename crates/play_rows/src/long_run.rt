@@ -1,12 +1,13 @@
 //! A long run: a trace of 100,000 lines over the calls of displays, configs, pbuffers, contexts that share, threads, names, textures, renderbuffers, framebuffers, images and pixels.
 //!
-//! It prints the sum of the trace and that of its recording, which `bench/long_run_model` works out apart from the driver.
+//! It prints the sum of the trace and that of its recording, which `bench/long_run_model` works out apart from the driver. Then it holds the recording against the trace.
 use crate::long_lines::trace;
 use crate::playing::words_of;
 use anyhow::{Result, bail};
 use egl_calls::{Bytes, Numbers};
 use egl_cli::plain;
 use egl_flow::{MemorySink, MemorySource};
+use std::alloc::Global;
 
 /// How many bytes the recording may have.
 const ROOM: u64 = 33_554_432;
@@ -26,18 +27,29 @@ fn report<R: Print>(rt: &R, name: &str, text: &[u8]) -> Result<()> {
     Ok(())
 }
 
-/// Plays the trace by turns, and prints the sums and the exit status.
+/// The exit status of a command of one word on an input, and what it wrote.
+fn ran(alloc: Global, word: &str, input: Vec<u8>) -> Result<(u8, MemorySink)> {
+    let words = words_of(alloc, word)?;
+    let mut source = MemorySource::new(Bytes::from_vec(input), Numbers::new(alloc));
+    let Ok(mut sink) = MemorySink::new(alloc, ROOM, Numbers::new(alloc)) else {
+        bail!("no memory for the answer");
+    };
+    let status = plain(alloc, &words, &mut source, &mut sink).number();
+    Ok((status, sink))
+}
+
+/// Plays the trace by turns, and prints the sums, the exit status, and what a check of the recording says.
 pub fn long_run<R: Print + AllocGlobal>(rt: &R) -> Result<()> {
     let alloc = rt.alloc();
     let trace = trace(alloc)?;
     report(rt, "trace", trace.as_bytes())?;
-    let words = words_of(alloc, "serial")?;
-    let bytes = Bytes::from_vec(trace.into_bytes());
-    let mut source = MemorySource::new(bytes, Numbers::new(alloc));
-    let Ok(mut sink) = MemorySink::new(alloc, ROOM, Numbers::new(alloc)) else {
-        bail!("no memory for the recording");
-    };
-    let status = plain(alloc, &words, &mut source, &mut sink).number();
+    let mut input = Vec::from_slice(alloc, trace.as_bytes())?;
+    let (status, recording) = ran(alloc, "serial", trace.into_bytes())?;
     println!(rt; "status: {status}")?;
-    report(rt, "recording", sink.taken())
+    report(rt, "recording", recording.taken())?;
+    input.extend_from_slice(recording.taken())?;
+    let (status, verdict) = ran(alloc, "check", input)?;
+    let text = str::from_utf8(verdict.taken())?;
+    print!(rt; "check: status {status}, {text}")?;
+    Ok(())
 }

@@ -4,7 +4,7 @@ ghost use Rattle.shared_driver.specs.Tokens.{IsOf};
 ghost use Rattle.screen_compose.specs.Ends.{IsPutEnd, IsTakeEnd};
 
 use crate::drawing::{Progress, SWAPS, WINDOW, draws, wait_for};
-use crate::passing::{CAPACITY, put, take};
+use crate::passing::{FEW, put, take};
 use crate::scenes::{frame, screen};
 use driver_core::Driver;
 use egl_calls::{Entry, Journal};
@@ -94,7 +94,7 @@ fn room<R: Abort>(rt: &R, alloc: Global) -> Vec<Frame>
 fn ends<R: Abort>(rt: &R, alloc: Global) -> FrameEnds
     ensures { IsPutEnd result.queue result.put × IsTakeEnd result.queue result.take }
 {
-    match Frames::open(alloc, CAPACITY) {
+    match Frames::open(alloc, FEW) {
         Ok(ends) => ends,
         Err(_) => panic!(rt; "memory"),
     }

@@ -1,5 +1,6 @@
-//! One thread composes frames, and another takes them, both at once, through a queue that holds two.
+//! One thread composes frames, and another takes them, both at once, through a queue.
 
+ghost use Rattle.std.specs.Prelude.{◌≤◌};
 ghost use Rattle.screen_compose.specs.Ends.{IsPutEnd, IsTakeEnd};
 
 use crate::scenes::{frame, fronts, pixel, placed, screen, window};
@@ -10,8 +11,11 @@ use std::sync::Wait;
 use std::thread;
 use std::thread::Threads;
 
-/// How many frames the queue holds.
-pub const CAPACITY: u32 = 2;
+/// How many frames a small queue holds.
+pub const FEW: u32 = 2;
+
+/// The most frames that a queue holds.
+const MOST: u32 = 1_024;
 
 /// How many frames are made.
 const FRAMES: u8 = 40;
@@ -89,14 +93,16 @@ fn is_number(frame: &Frame, number: u8) -> bool {
 }
 
 // Lets both run at once; how many frames came in order, and whether the last one alone is left.
-fn passed<R: Abort + Threads + Wait + Sync>(rt: &R, alloc: Global) -> (u64, bool) {
+fn passed<R: Abort + Threads + Wait + Sync>(rt: &R, alloc: Global, capacity: u32) -> (u64, bool)
+    requires { (1 ≤ capacity) × (capacity ≤ 1024) }
+{
     let Ok(
         FrameEnds {
             queue,
             put: put_end,
             take: take_end,
         },
-    ) = Frames::open(alloc, CAPACITY)
+    ) = Frames::open(alloc, capacity)
     else {
         panic!(rt; "memory");
     };
@@ -122,7 +128,6 @@ fn passed<R: Abort + Threads + Wait + Sync>(rt: &R, alloc: Global) -> (u64, bool
 
 #[test]
 fn frames_pass_in_order(rt: HostRuntime) {
-    let (fine, last) = passed(&rt, rt.alloc());
-    assert_eq!(rt; fine, 39);
-    assert!(rt; last);
+    assert_eq!(rt; passed(&rt, rt.alloc(), FEW), (39, true));
+    assert_eq!(rt; passed(&rt, rt.alloc(), MOST), (39, true));
 }
