@@ -1,5 +1,5 @@
 -- What the entries of a journal touch.
-use Rattle.std.proofs.Common.{◌≡◌, ℕ, ◌+◌, ◌<◌, ◌∙◌, List, [], ◌∷◌, length, refl, ap, arith}
+use Rattle.std.proofs.Common.{◌≡◌, ℕ, suc, ◌<◌, ◌∙◌, List, [], ◌∷◌, length, refl, ap, arith}
 use Rattle.std.proofs.lemmas.List.Elements.{All-same, All-weaker}
 use Rattle.std.specs.Prelude.{All}
 use Rattle.egl_calls.specs.declared.entries.Entry.{Entry}
@@ -12,7 +12,7 @@ use Rattle.race_report.specs.Replays.{touched_from}
 
 touched_each : (s : State) (es : List Entry) → length (touched_from s es) ≡ length es
 touched_each s [] = refl
-touched_each s (e ∷ es) = ap (λ n. n + 1) (touched_each (step s e.thread e.call).state es)
+touched_each s (e ∷ es) = ap suc (touched_each (step s e.thread e.call).state es)
 
 -- each entry has what it touches
 pub touched_long : (s : State) (es : List Entry) (list : List Touches) → list ≡ touched_from s es → length list ≡ length es

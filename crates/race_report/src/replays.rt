@@ -20,11 +20,7 @@ fn push(list: &mut Vec<Touches>, touches: Touches) -> Result<(), NoMemory>
 }
 
 /// What each of some entries touches, as a driver plays them.
-fn touched(
-    alloc: Global,
-    driver: &mut Driver,
-    entries: &[Entry],
-) -> Result<Vec<Touches>, NoMemory>
+fn touched(alloc: Global, driver: &mut Driver, entries: &[Entry]) -> Result<Vec<Touches>, NoMemory>
     requires { All (λ e. e.thread < driver.old.made) entries.now }
     ensures { IfOk result (λ list. list.items ≡ touched_from driver.old.state entries.now) }
 {
