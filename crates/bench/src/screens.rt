@@ -155,7 +155,9 @@ fn tell<R: Clock + Print + AllocGlobal>(
         let plain = copied(rt, side, rows)?.as_nanos().max(1);
         let took = took.as_nanos();
         let ratio = took / plain;
-        println!(rt; "{rows} rows: {took} ns an update, {plain} ns a plain copy of them, {ratio} times")?;
+        println!(rt;
+            "{rows} rows: {took} ns an update, {plain} ns a plain copy of them, {ratio} times"
+        )?;
     }
     Ok(())
 }

@@ -6,8 +6,7 @@ use Rattle.egl_model.specs.History.{replay_from}
 use Rattle.egl_model.specs.State.{State}
 use Rattle.model_laws.specs.Hidden.{hide}
 use Rattle.driver_core.specs.Machine.{Machine, outs}
-use Rattle.shared_driver.specs.Picks.{IsAtTurn, picked_entries}
-use Rattle.shared_driver.specs.Tokens.{Goes, Token}
+use Rattle.shared_driver.specs.Picks.{picked_entries}
 use Rattle.shared_driver.specs.declared.picks.Pick.{Pick}
 use Rattle.shared_driver.specs.declared.picks.Pick.TheVariants.{Stop}
 use Rattle.shared_driver.specs.declared.picks.Picked.{Picked}
@@ -33,10 +32,3 @@ shown_in_turn s n d k r es seen placed shown stands stops is went =
     is
     ∙ ap (λ (ws : List WindowValue). Some (fronts_of ws placed (length es))) windows
     ∙ ap (λ (xs : List Entry). Some (fronts_of (replay_from s xs).windows placed (length xs))) (sym all)
-
-pub handed_in_turn : (t u : Token) (n : ℕ) (k : Pick) (r : Picked) (es : List Entry)
-    → IsAtTurn t es → k ≡ Stop → u.seen ≡ es ++ picked_entries n k r → u.tail ≡ [] → Goes t [] u
-handed_in_turn t u n k r es (between, others, is) stops went tail = (between, others, went ∙ none_picked n k r es stops ∙ is ∙ sym (append-nil ((t.seen ++ between) ++ t.tail)), tail)
-
-pub none_more : (n : ℕ) (k : Pick) (r : Picked) (before after : List Entry) → k ≡ Stop → after ≡ before ++ picked_entries n k r → after ≡ before
-none_more n k r before after stops went = went ∙ none_picked n k r before stops
