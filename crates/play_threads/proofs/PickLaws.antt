@@ -222,7 +222,8 @@ not_over t es s n end stall halt (inr (inr e)) = let f : true ≡ false = sym e 
 not_stalled : (t : TraceValue) (es : List Entry) (s : State) (n : ℕ) → n < t.threads → is_at_rest t.lines es s n ≡ false → is_stalled t es s ≡ false
 unfolding is_stalled
 not_stalled t es s n below goes =
-    let at : get_or (range_with_len 0 t.threads) n 0 ≡ n = get_or-range_with_len 0 t.threads n 0 below in
+    let none : 0 + n ≡ n = omega arith in
+    let at : get_or (range_with_len 0 t.threads) n 0 ≡ n = get_or-range_with_len 0 t.threads n 0 below ∙ none in
     let there : n < length (range_with_len 0 t.threads) = rw length-range_with_len below in
     ap (λ (b : Bool). b && not (is_complete t es)) (list_all_at (is_at_rest t.lines es s) (range_with_len 0 t.threads) n 0 there (ap (is_at_rest t.lines es s) at ∙ goes))
 
