@@ -48,7 +48,7 @@ fn new_screen<R: AllocGlobal>(rt: &R, side: u32) -> Result<Screen> {
 }
 
 fn new_scene<R: AllocGlobal>(rt: &R, side: u32) -> Result<Scene>
-    requires { side ≤ 2048 }
+    requires { (1 ≤ side) × (side ≤ 2048) }
 {
     let spec = WindowSpec {
         id: WINDOW,
@@ -128,7 +128,8 @@ fn fastest<R: Clock + AllocGlobal>(
 
 // How long a plain copy of so many rows takes, the least of some.
 fn copied<R: Clock + AllocGlobal>(rt: &R, side: u32, rows: u64) -> Result<Duration> {
-    let long = side as usize * 4 * rows.min(u64::from(side)) as usize;
+    let rows = rows.min(u64::from(side)) as usize;
+    let long = rows.wrapping_mul(side as usize).wrapping_mul(4);
     let mut from = Vec::new(rt.alloc());
     from.resize(long, 1)?;
     let mut to = Vec::new(rt.alloc());

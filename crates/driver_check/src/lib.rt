@@ -14,8 +14,6 @@ mod configs;
 #[cfg(test)]
 mod crowds;
 #[cfg(test)]
-mod cut_runs;
-#[cfg(test)]
 mod draws;
 #[cfg(test)]
 mod faults;

@@ -5,6 +5,3 @@ pub const TRACE: &str =
 
 pub const RECORDING: &[u8] =
     b"recording\n0 2 ok 1 [] -\n0 3 ok 1 [] -\n0 4 ok 3 [] -\n0 5 ok 4 [] -\n0 6 ok 1 [] -\n0 7 ok 0 [1] -\n0 8 ok 0 [] -\n0 9 ok 0 [] -\n0 10 ok 0 [] -\n0 11 ok 0 [] -\n0 12 ok 0 [] -\n0 13 ok 0 [] -\n1 14 ok 0 [] -\n1 15 ok 5 [] -\n1 16 ok 6 [] -\n1 17 ok 1 [] -\n1 18 ok 0 [] -\n1 19 ok 0 [] -\n1 20 ok 0 [] -\n0 21 ok 0 [] -\n0 22 ok 0 [] -\n0 23 ok 0 [] 21436587\ncensus 2 1 3 0 0 0 2 3 0 0 12\nend\n";
-
-/// How many calls it makes.
-pub const CALLS: u64 = 22;

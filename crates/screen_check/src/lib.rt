@@ -1,10 +1,6 @@
-//! Tests of `screen_compose`: what a screen shows, and frames of it that go from thread to thread while another one draws.
+//! Tests of `screen_compose`: what a screen shows, and frames of it that go from thread to thread.
 #![tactic(auto)]
 
-#[cfg(test)]
-mod at_once;
-#[cfg(test)]
-mod drawing;
 #[cfg(test)]
 mod passing;
 #[cfg(test)]
