@@ -26,15 +26,26 @@ use std::thread::Threads;
 const USAGE: &str =
     "usage: bench [store [time] | tables [passing | NAME SIZE] | pbuffers [measure] | pixels [measure] | windows [measure] | screens [measure] | threads [time]]";
 
-// A little of every part.
-fn all<R: Clock + Files + Print + AllocGlobal + Threads + Wait + Sync>(rt: &R) -> Result<()> {
-    store::run(rt, Extent::Little)?;
-    tables::run(rt)?;
-    pbuffers::run(rt, Extent::Little)?;
-    pixels::run(rt, Extent::Little)?;
-    windows::run(rt, Extent::Little)?;
-    screens::run(rt, Extent::Little)?;
-    threads::run(rt, Extent::Little)
+const PARTS: [&str; 7] = [
+    "store", "tables", "pbuffers", "pixels", "windows", "screens", "threads",
+];
+
+/// Does a part.
+fn part<R: Clock + Files + Print + AllocGlobal + Threads + Wait + Sync>(
+    rt: &R,
+    name: &str,
+    extent: Extent,
+) -> Result<()> {
+    match name {
+        "store" => store::run(rt, extent),
+        "tables" => tables::run(rt),
+        "pbuffers" => pbuffers::run(rt, extent),
+        "pixels" => pixels::run(rt, extent),
+        "windows" => windows::run(rt, extent),
+        "screens" => screens::run(rt, extent),
+        "threads" => threads::run(rt, extent),
+        _ => bail!("{USAGE}"),
+    }
 }
 
 fn run<R: Clock + Files + Print + AllocGlobal + Threads + Wait + Sync>(
@@ -42,22 +53,16 @@ fn run<R: Clock + Files + Print + AllocGlobal + Threads + Wait + Sync>(
     words: &[&str],
 ) -> Result<()> {
     match words {
-        [] => all(rt),
-        ["store"] => store::run(rt, Extent::Little),
-        ["store", "time"] => store::run(rt, Extent::Full),
-        ["tables"] => tables::run(rt),
+        [] => {
+            for name in PARTS {
+                part(rt, name, Extent::Little)?;
+            }
+            Ok(())
+        }
+        [name] => part(rt, name, Extent::Little),
         ["tables", "passing"] => tables::pass(rt),
         ["tables", name, size] => tables::time_one(rt, name, size),
-        ["pbuffers"] => pbuffers::run(rt, Extent::Little),
-        ["pbuffers", "measure"] => pbuffers::run(rt, Extent::Full),
-        ["pixels"] => pixels::run(rt, Extent::Little),
-        ["pixels", "measure"] => pixels::run(rt, Extent::Full),
-        ["windows"] => windows::run(rt, Extent::Little),
-        ["windows", "measure"] => windows::run(rt, Extent::Full),
-        ["screens"] => screens::run(rt, Extent::Little),
-        ["screens", "measure"] => screens::run(rt, Extent::Full),
-        ["threads"] => threads::run(rt, Extent::Little),
-        ["threads", "time"] => threads::run(rt, Extent::Full),
+        [name, "time" | "measure"] => part(rt, name, Extent::Full),
         _ => bail!("{USAGE}"),
     }
 }

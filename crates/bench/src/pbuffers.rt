@@ -1,17 +1,15 @@
 //! Makes pbuffers through the library and destroys each before the next, and tells the memory that the process has.
-ghost use Rattle.std.specs.Prelude.{◌≡◌, ◌<◌, true, IfSome};
+ghost use Rattle.std.specs.Prelude.{◌≡◌, ◌<◌};
 
-use crate::calls::{PIXEL_BYTES, create_pbuffer, destroy_surface, initialize};
+use crate::calls::{PIXEL_BYTES, lines_of};
 use crate::extents::Extent;
-use crate::memory::resident;
+use crate::memory::{RESIDENT, kilobytes};
 use anyhow::{Result, bail, ensure};
 use driver_core::Driver;
-use egl_calls::Call;
+use egl_calls::{Call, EglKind, Kind, Numbers};
 use std::alloc::Global;
 use std::rt::Files;
-
-/// The sides of a pbuffer.
-const SIDE: u32 = 8;
+use trace_reader::Line;
 
 /// How many are made where little is done.
 const LITTLE: u32 = 100;
@@ -21,124 +19,80 @@ const FIRST: u32 = 1_000;
 
 const REST: u32 = 9_999_000;
 
+/// The call that destroys a surface of the first display.
+fn destroy(alloc: Global, surface: u32) -> Call {
+    Call {
+        kind: Kind::Egl(EglKind::DestroySurface),
+        args: [1, i64::from(surface), 0, 0, 0, 0, 0, 0],
+        list: Numbers::new(alloc),
+        bytes: None,
+    }
+}
+
 // A call of the only thread: its value, unless memory ran out.
-fn value(alloc: Global, driver: &mut Driver, call: &Call) -> Option<i64>
+fn value(alloc: Global, driver: &mut Driver, call: &Call) -> Option<u32>
     requires made { 0 < driver.old.made }
     ensures { driver.new.made ≡ driver.old.made }
 {
     match driver.play(alloc, 0, call) {
-        Ok(reply) => Some(reply.value),
+        Ok(reply) => u32::try_from(reply.value).ok(),
         Err(_) => None,
     }
 }
 
-// A driver whose first display is initialized.
-fn opened(alloc: Global) -> Option<Driver>
-    ensures { IfSome result (λ d. d.made ≡ 1) }
-{
-    let Ok(mut driver) = Driver::new(alloc, &[], PIXEL_BYTES) else {
-        return None;
-    };
-    let _one = value(alloc, &mut driver, &initialize(alloc));
-    Some(driver)
-}
-
-// Makes a pbuffer and answers its handle.
-fn made(alloc: Global, driver: &mut Driver) -> Option<u32>
-    requires { 0 < driver.old.made }
-    ensures { driver.new.made ≡ driver.old.made }
-{
-    let Ok(call) = create_pbuffer(alloc, SIDE) else {
-        return None;
-    };
-    let handle = value(alloc, driver, &call)?;
-    u32::try_from(handle).ok()
-}
-
-// Makes a pbuffer and destroys it, and answers whether that was done.
-fn turn(alloc: Global, driver: &mut Driver) -> bool
-    requires { 0 < driver.old.made }
-    ensures { driver.new.made ≡ driver.old.made }
-{
-    match made(alloc, driver) {
-        Some(surface) => value(alloc, driver, &destroy_surface(alloc, surface)) == Some(1),
-        None => false,
-    }
-}
-
-// So many turns, unless one fails.
-fn turns(alloc: Global, driver: &mut Driver, count: u32) -> bool
+// Makes a pbuffer and destroys it so many times, unless one call isn't done.
+fn turns(alloc: Global, driver: &mut Driver, create: &Call, count: u32) -> bool
     requires { 0 < driver.old.made }
     ensures { driver.new.made ≡ driver.old.made }
 {
     'each: for _turn in 0..count {
-        if !turn(alloc, driver) {
+        let Some(surface) = value(alloc, driver, create) else {
+            return false;
+        };
+        if value(alloc, driver, &destroy(alloc, surface)) != Some(1) {
             return false;
         }
     }
     true
 }
 
-// Makes a few.
-fn make_few(alloc: Global, driver: &mut Driver) -> Result<()>
+fn measure<R: Files + Print + AllocGlobal>(
+    rt: &R,
+    extent: Extent,
+    driver: &mut Driver,
+    lines: &[Line],
+) -> Result<()>
     requires { 0 < driver.old.made }
 {
-    ensure!(turns(alloc, driver, LITTLE), "a call was refused");
-    Ok(())
-}
-
-/// The kilobytes that are resident after the first thousand pbuffers, and after ten million.
-#[derive(Drop)]
-struct Memory {
-    first: u64,
-    last: u64,
-}
-
-// The kilobytes that are resident after so many pbuffers more.
-fn after<R: Files + AllocGlobal>(rt: &R, driver: &mut Driver, count: u32) -> Result<u64>
-    requires { 0 < driver.old.made }
-    ensures { 0 < driver.new.made }
-{
-    ensure!(turns(rt.alloc(), driver, count), "a call was refused");
-    resident(rt)
-}
-
-// Makes ten million.
-fn make_all<R: Files + AllocGlobal>(rt: &R, driver: &mut Driver) -> Result<Memory>
-    requires { 0 < driver.old.made }
-{
-    let first = after(rt, driver, FIRST)?;
-    let last = after(rt, driver, REST)?;
-    Ok(Memory { first, last })
-}
-
-fn print_few<R: Print + AllocGlobal>(rt: &R) -> Result<()> {
-    match opened(rt.alloc()) {
-        Some(mut driver) => make_few(rt.alloc(), &mut driver)?,
-        None => bail!("no memory for a driver"),
+    let [first, create] = lines else {
+        bail!("two lines");
+    };
+    value(rt.alloc(), driver, &first.call);
+    if extent == Extent::Little {
+        let done = turns(rt.alloc(), driver, &create.call, LITTLE);
+        ensure!(done, "a call was refused");
+        println!(rt; "100 pbuffers: made and destroyed")?;
+        return Ok(());
     }
-    println!(rt; "100 pbuffers: made and destroyed")?;
-    Ok(())
-}
-
-fn measured<R: Files + AllocGlobal>(rt: &R) -> Result<Memory> {
-    match opened(rt.alloc()) {
-        Some(mut driver) => make_all(rt, &mut driver),
-        None => bail!("no memory for a driver"),
-    }
-}
-
-fn print_all<R: Files + Print + AllocGlobal>(rt: &R) -> Result<()> {
-    let Memory { first, last } = measured(rt)?;
-    println!(rt; "10,000,000 pbuffers one after another")?;
-    println!(rt; "memory: {first} kB after the first thousand, {last} kB at the end")?;
+    let begun = turns(rt.alloc(), driver, &create.call, FIRST);
+    let first = kilobytes(rt, RESIDENT)?;
+    let done = turns(rt.alloc(), driver, &create.call, REST);
+    let last = kilobytes(rt, RESIDENT)?;
+    ensure!(begun && done, "a call was refused");
+    println!(rt;
+        "10,000,000 pbuffers one after another\nmemory: {first} kB after the first thousand, {last} kB at the end"
+    )?;
     Ok(())
 }
 
 /// Makes a hundred and says so. Or makes ten million, and prints the memory after the first thousand and at the end.
 pub fn run<R: Files + Print + AllocGlobal>(rt: &R, extent: Extent) -> Result<()> {
-    match extent {
-        Extent::Little => print_few(rt),
-        Extent::Full => print_all(rt),
+    let lines = lines_of(
+        rt.alloc(),
+        "0 eglInitialize 1\n0 eglCreatePbufferSurface 1 4 [EGL_WIDTH,8,EGL_HEIGHT,8]\n",
+    )?;
+    match Driver::new(rt.alloc(), &[], PIXEL_BYTES) {
+        Ok(mut driver) => measure(rt, extent, &mut driver, lines.lines()),
+        Err(_) => bail!("no memory for a driver"),
     }
 }

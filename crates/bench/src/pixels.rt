@@ -1,20 +1,20 @@
 //! Writes into images, their rows as bytes, loads, draws and copies between images in each format, beside a plain copy of
 //! as many bytes, and the memory that images take.
 
-mod draws;
 mod images;
-pub mod telling;
 pub mod work;
 
 use crate::extents::Extent;
 use anyhow::{Result, bail};
-use draws::{context, copies, cropped, draw};
-use pixel_formats::Format;
-use pixel_rows::Image;
+use egl_calls::Bytes;
+use pixel_formats::{Format, Pixel, bytes_of};
+use pixel_rows::{Image, Mask};
 use std::rt::{Clock, Files};
 use std::time::Instant;
-use telling::{tell, tell_image};
-use work::{ALL, GREY, ORANGE, RED, copy, fill, load, payload, rounds, rows, side};
+use work::{
+    ALL, GREY, ORANGE, RED, context, copies, copy, draw, fill, load, payload, rounds, rows, side,
+    speed, sum_of,
+};
 
 const FORMATS: [Format; 8] = [
     Format::Rgb565,
@@ -30,120 +30,165 @@ const FORMATS: [Format; 8] = [
 /// The formats that rows are given in and loaded from, beside the image's own.
 const OTHERS: [Format; 2] = [Format::Rgba8888, Format::Rgb565];
 
-fn measure_copy<R: Clock + Print + AllocGlobal>(rt: &R, extent: Extent, f: Format) -> Result<()> {
-    let from = payload(rt.alloc(), f, extent)?;
-    let mut to = Vec::new(rt.alloc());
-    to.resize(from.as_slice().len(), 0)?;
-    let start = Instant::now(rt)?;
-    copy(to.as_mut_slice(), from.as_slice(), rounds(extent));
-    let took = start.elapsed(rt)?;
-    tell(rt, extent, f, "plain copy", took, to.as_slice())
+/// A context that draws textures in a colour of halves, by GL_MODULATE and by GL_REPLACE.
+const MODULATE: &str = "0 glEnable GL_TEXTURE_2D\n0 glColor4x 32768 32768 32768 32768\n";
+
+const REPLACE: &str =
+    "0 glEnable GL_TEXTURE_2D\n0 glColor4x 32768 32768 32768 32768\n0 glTexEnvx GL_TEXTURE_ENV GL_TEXTURE_ENV_MODE GL_REPLACE\n";
+
+/// A piece of work.
+#[derive(Clone, Copy, Drop)]
+enum Piece {
+    Plain,
+    Fill(Pixel, Mask),
+    Load(Format),
+    Rows(Format),
+    /// A texture is drawn over an image, texel by texel or at twice its size.
+    Draw(&'static str, bool),
+    Copy,
 }
 
-fn measure_fills<R: Clock + Print + AllocGlobal>(
-    rt: &R,
+/// What pieces of work are done with, all of as many pixels.
+#[derive(Drop)]
+struct Scene {
     extent: Extent,
-    image: &mut Image,
-) -> Result<()> {
-    let fills = [(ORANGE, ALL, "fill"), (GREY, RED, "fill of red alone")];
-    for (colour, mask, name) in fills {
-        let start = Instant::now(rt)?;
-        fill(image, colour, mask, rounds(extent));
-        let took = start.elapsed(rt)?;
-        tell_image(rt, extent, name, took, image)?;
+    image: Image,
+    /// Another image of its format, on which it is drawn.
+    target: Image,
+    /// The bytes of pixels in any format.
+    bytes: Bytes,
+    /// Room for those of the image's.
+    plain: Vec<u8>,
+    /// Rows that were given.
+    rows: Bytes,
+}
+
+// Does a piece of work all its rounds.
+fn perform<R: AllocGlobal>(rt: &R, scene: &mut Scene, piece: Piece) -> Result<()> {
+    let rounds = rounds(scene.extent);
+    match piece {
+        Piece::Plain => {
+            let (front, _) = scene
+                .bytes
+                .as_slice()
+                .split_at(scene.plain.len().min(scene.bytes.as_slice().len()));
+            copy(scene.plain.as_mut_slice(), front, rounds);
+        }
+        Piece::Fill(colour, mask) => fill(&mut scene.image, colour, mask, rounds),
+        Piece::Load(from) => load(&mut scene.image, &scene.bytes, from, rounds),
+        Piece::Rows(to) => scene.rows = rows(rt.alloc(), &scene.image, to, rounds)?,
+        Piece::Draw(text, is_whole) => {
+            let part = context(rt.alloc(), text)?;
+            let side = side(scene.extent);
+            let crop = if is_whole { side } else { side / 2 };
+            draw(&mut scene.target, &part, &scene.image, crop, rounds);
+        }
+        Piece::Copy => copies(&mut scene.target, &scene.image, rounds),
     }
     Ok(())
 }
 
-fn measure_rows<R: Clock + Print + AllocGlobal>(
-    rt: &R,
-    extent: Extent,
-    image: &Image,
-    to: Format,
-) -> Result<()> {
-    let start = Instant::now(rt)?;
-    let bytes = rows(rt.alloc(), image, to, rounds(extent))?;
-    let took = start.elapsed(rt)?;
-    let name = format!(in rt.alloc(); "rows as {to:?}")?;
-    let f = image.format();
-    tell(rt, extent, f, name.as_str(), took, bytes.as_slice())
+fn image_sum<R: AllocGlobal>(rt: &R, image: &Image) -> Result<u64> {
+    let left = rows(rt.alloc(), image, image.format(), 1)?;
+    Ok(sum_of(left.as_slice()))
 }
 
-fn measure_load<R: Clock + Print + AllocGlobal>(
-    rt: &R,
-    extent: Extent,
-    image: &mut Image,
-    from: Format,
-) -> Result<()> {
-    let bytes = payload(rt.alloc(), from, extent)?;
-    let start = Instant::now(rt)?;
-    load(image, &bytes, from, rounds(extent));
-    let took = start.elapsed(rt)?;
-    let name = format!(in rt.alloc(); "load from {from:?}")?;
-    tell_image(rt, extent, name.as_str(), took, image)
+// The sum of what a piece of work left.
+fn sum_left<R: AllocGlobal>(rt: &R, scene: &Scene, piece: Piece) -> Result<u64> {
+    match piece {
+        Piece::Plain => Ok(sum_of(scene.plain.as_slice())),
+        Piece::Rows(_) => Ok(sum_of(scene.rows.as_slice())),
+        Piece::Fill(_, _) | Piece::Load(_) => image_sum(rt, &scene.image),
+        Piece::Draw(_, _) | Piece::Copy => image_sum(rt, &scene.target),
+    }
 }
 
-// A texture drawn over an image of its format, texel by texel and at twice its size.
-fn measure_draws<R: Clock + Print + AllocGlobal>(
+// Prints what a piece of work leaves, and how fast it is where all is done.
+fn measure<R: Clock + Print + AllocGlobal>(
     rt: &R,
-    extent: Extent,
-    target: &mut Image,
-    image: &Image,
+    scene: &mut Scene,
+    name: &str,
+    piece: Piece,
 ) -> Result<()> {
-    let whole = side(extent);
-    for (replaces, mode) in [(true, "REPLACE"), (false, "MODULATE")] {
-        let part = context(rt.alloc(), replaces);
-        for (crop, scale) in [(whole, "unscaled"), (whole / 2, "scaled")] {
-            let start = Instant::now(rt)?;
-            draw(target, &part, image, &cropped(crop), rounds(extent));
-            let took = start.elapsed(rt)?;
-            let name = format!(in rt.alloc(); "{scale} draw in {mode}")?;
-            tell_image(rt, extent, name.as_str(), took, target)?;
+    let f = scene.image.format();
+    let start = Instant::now(rt)?;
+    perform(rt, scene, piece)?;
+    let took = start.elapsed(rt)?;
+    let sum = sum_left(rt, scene, piece)?;
+    match scene.extent {
+        Extent::Little => println!(rt; "{f:?}, {name}: sum {sum}")?,
+        Extent::Full => {
+            let fast = speed(took);
+            println!(rt; "{f:?}, {name}: {fast} million pixels a second, sum {sum}")?;
         }
     }
     Ok(())
 }
 
-fn measure_copies<R: Clock + Print + AllocGlobal>(
+// Loads from a format and rows in it.
+fn measure_format<R: Clock + Print + AllocGlobal>(
     rt: &R,
-    extent: Extent,
-    target: &mut Image,
-    image: &Image,
+    scene: &mut Scene,
+    other: Format,
 ) -> Result<()> {
-    let start = Instant::now(rt)?;
-    copies(target, image, rounds(extent));
-    let took = start.elapsed(rt)?;
-    tell_image(rt, extent, "copy between images", took, target)
+    let load = format!(in rt.alloc(); "load from {other:?}")?;
+    measure(rt, scene, load.as_str(), Piece::Load(other))?;
+    let rows = format!(in rt.alloc(); "rows as {other:?}")?;
+    measure(rt, scene, rows.as_str(), Piece::Rows(other))
 }
+
+/// What is done before the loads and the rows, and behind them.
+static BEFORE: [(&str, Piece); 3] = [
+    ("plain copy", Piece::Plain),
+    ("fill", Piece::Fill(ORANGE, ALL)),
+    ("fill of red alone", Piece::Fill(GREY, RED)),
+];
+
+static BEHIND: [(&str, Piece); 5] = [
+    ("unscaled draw in REPLACE", Piece::Draw(REPLACE, true)),
+    ("scaled draw in REPLACE", Piece::Draw(REPLACE, false)),
+    ("unscaled draw in MODULATE", Piece::Draw(MODULATE, true)),
+    ("scaled draw in MODULATE", Piece::Draw(MODULATE, false)),
+    ("copy between images", Piece::Copy),
+];
 
 // One format, beside a copy of as many bytes.
-fn measure_image<R: Clock + Print + AllocGlobal>(
-    rt: &R,
-    extent: Extent,
-    image: &mut Image,
-    target: &mut Image,
-) -> Result<()> {
-    let f = image.format();
-    measure_copy(rt, extent, f)?;
-    measure_fills(rt, extent, image)?;
-    measure_load(rt, extent, image, f)?;
-    measure_rows(rt, extent, image, f)?;
+fn measure_all<R: Clock + Print + AllocGlobal>(rt: &R, scene: &mut Scene) -> Result<()> {
+    let f = scene.image.format();
+    for (name, piece) in &BEFORE {
+        measure(rt, scene, name, *piece)?;
+    }
+    measure_format(rt, scene, f)?;
     for other in OTHERS {
         if other != f {
-            measure_load(rt, extent, image, other)?;
-            measure_rows(rt, extent, image, other)?;
+            measure_format(rt, scene, other)?;
         }
     }
-    measure_draws(rt, extent, target, image)?;
-    measure_copies(rt, extent, target, image)
+    for (name, piece) in &BEHIND {
+        measure(rt, scene, name, *piece)?;
+    }
+    Ok(())
 }
 
-fn measure<R: Clock + Print + AllocGlobal>(rt: &R, extent: Extent, f: Format) -> Result<()> {
+// Images of a format, with what else is there for it.
+fn new_scene<R: AllocGlobal>(rt: &R, extent: Extent, f: Format) -> Result<Scene> {
     let side = side(extent);
+    let pixels = side as usize * side as usize;
+    let bytes = payload(rt.alloc(), pixels * 4)?;
+    let mut plain = Vec::new(rt.alloc());
+    plain.resize(pixels.wrapping_mul(bytes_of(f) as usize), 0)?;
+    let rows = Bytes::new(rt.alloc());
     let image = Image::new(rt.alloc(), f, side, side);
     let target = Image::new(rt.alloc(), f, side, side);
     match (image, target) {
-        (Ok(mut image), Ok(mut target)) => measure_image(rt, extent, &mut image, &mut target),
+        (Ok(image), Ok(target)) => Ok(Scene {
+            extent,
+            image,
+            target,
+            bytes,
+            plain,
+            rows,
+        }),
         (Ok(_) | Err(_), _) => bail!("no memory for an image"),
     }
 }
@@ -155,7 +200,8 @@ pub fn run<R: Clock + Files + Print + AllocGlobal>(rt: &R, extent: Extent) -> Re
         images::measure(rt)?;
     }
     for f in FORMATS {
-        measure(rt, extent, f)?;
+        let mut scene = new_scene(rt, extent, f)?;
+        measure_all(rt, &mut scene)?;
     }
     Ok(())
 }

@@ -7,11 +7,11 @@ mod branches;
 mod shapes;
 
 use crate::extents::Extent;
-use crate::memory::resident;
+use crate::memory::{RESIDENT, kilobytes};
 use anyhow::{Result, bail};
 use branches::Branch;
 use ref_store::{Steps, Store};
-use shapes::{Shape, add, build};
+use shapes::{CHAINS, FAN, Shape, add, build};
 use std::alloc::Global;
 use std::marker::Brand;
 use std::rt::{Clock, Files};
@@ -28,7 +28,7 @@ fn free_in<R: Clock + AllocGlobal, L: Ledger>(
     steps: &mut Steps<L>,
     shape: Shape,
     nodes: u32,
-) -> Result<Duration>
+) -> Result<Took>
     requires { AllIn store.old.nodes }
 {
     let root = build(rt.alloc(), store, shape, nodes)?;
@@ -37,22 +37,11 @@ fn free_in<R: Clock + AllocGlobal, L: Ledger>(
     }
     let start = Instant::now(rt)?;
     store.release(root, steps);
-    Ok(start.elapsed(rt)?)
-}
-
-fn free<R: Clock + AllocGlobal, L: Ledger>(
-    rt: &R,
-    shape: Shape,
-    nodes: u32,
-    blank: Blank,
-) -> Result<Duration>
-    requires name { blank.name ≡ L.name }
-    requires parts { blank.parts ≡ L.parts }
-    requires some { 0 < blank.parts }
-{
-    let mut steps: Steps<L> = Steps::open(blank);
-    let mut store = Store::new(rt.alloc());
-    free_in(rt, &mut store, &mut steps, shape, nodes)
+    Ok(Took {
+        time: start.elapsed(rt)?,
+        first: 0,
+        last: 0,
+    })
 }
 
 // Makes a node and lets it go.
@@ -77,10 +66,19 @@ fn pass<L: Ledger>(
     Ok(())
 }
 
-// What making nodes and letting each go before the next took, with the memory after the first thousand and at the end.
-#[derive(Drop)]
-struct Churn {
-    took: Duration,
+/// What is done in an empty store.
+#[derive(Clone, Copy, Drop)]
+enum Job {
+    /// So many nodes of a shape are freed.
+    Free(Shape, u32),
+    /// Nodes are made one after another.
+    Pass,
+}
+
+/// How long a job took, and where nodes pass the memory after the first thousand and at the end.
+#[derive(Clone, Copy, Drop)]
+struct Took {
+    time: Duration,
     first: u64,
     last: u64,
 }
@@ -89,7 +87,7 @@ fn make_and_drop<R: Clock + Files + AllocGlobal, L: Ledger>(
     rt: &R,
     store: &mut Store<Branch>,
     steps: &mut Steps<L>,
-) -> Result<Churn>
+) -> Result<Took>
     requires { AllIn store.old.nodes }
 {
     let mut next = 0;
@@ -97,68 +95,68 @@ fn make_and_drop<R: Clock + Files + AllocGlobal, L: Ledger>(
     let start = Instant::now(rt)?;
     'nodes: for turn in 0..PASSING {
         if turn == 1_000 {
-            first = resident(rt)?;
+            first = kilobytes(rt, RESIDENT)?;
         }
         pass(rt.alloc(), store, steps, &mut next)?;
     }
-    let took = start.elapsed(rt)?;
-    let last = resident(rt)?;
-    Ok(Churn { took, first, last })
+    let time = start.elapsed(rt)?;
+    let last = kilobytes(rt, RESIDENT)?;
+    Ok(Took { time, first, last })
 }
 
-fn passed<R: Clock + Files + AllocGlobal, L: Ledger>(rt: &R, blank: Blank) -> Result<Churn>
+fn done_by<R: Clock + Files + AllocGlobal, L: Ledger>(
+    rt: &R,
+    job: Job,
+    blank: Blank,
+) -> Result<Took>
     requires name { blank.name ≡ L.name }
     requires parts { blank.parts ≡ L.parts }
     requires some { 0 < blank.parts }
 {
     let mut steps: Steps<L> = Steps::open(blank);
     let mut store = Store::new(rt.alloc());
-    make_and_drop(rt, &mut store, &mut steps)
+    match job {
+        Job::Free(shape, nodes) => free_in(rt, &mut store, &mut steps, shape, nodes),
+        Job::Pass => make_and_drop(rt, &mut store, &mut steps),
+    }
 }
 
-fn print_churn<R: Clock + Files + Print + AllocGlobal>(rt: &R) -> Result<()> {
-    let churned = passed::<_, Brand>(rt, Blank::new(1))?;
-    let each = churned.took.as_nanos() / u128::from(PASSING);
-    println!(rt; "10,000,000 one after another: {each} ns a node")?;
-    println!(rt;
-        "memory: {} kB after the first thousand, {} kB at the end",
-        churned.first, churned.last
-    )?;
-    Ok(())
+fn done<R: Clock + Files + AllocGlobal>(rt: &R, job: Job) -> Result<Took> {
+    done_by::<_, Brand>(rt, job, Blank::new(1))
 }
 
-fn print_freed<R: Clock + Print + AllocGlobal>(rt: &R, shape: Shape) -> Result<()> {
-    let _took = free::<_, Brand>(rt, shape, 1_000, Blank::new(1))?;
-    println!(rt; "{} 1000: freed", shape.name())?;
-    Ok(())
-}
-
-fn print_times<R: Clock + Print + AllocGlobal>(rt: &R, shape: Shape, nodes: u32) -> Result<()> {
+// The nanoseconds a node in the fastest of five runs.
+fn least<R: Clock + Files + AllocGlobal>(rt: &R, shape: Shape, nodes: u32) -> Result<u128> {
     let mut least = u128::MAX;
     'runs: for _ in 0..5 {
-        let took = free::<_, Brand>(rt, shape, nodes, Blank::new(1))?;
-        least = least.min(took.as_nanos());
+        let took = done(rt, Job::Free(shape, nodes))?;
+        least = least.min(took.time.as_nanos());
     }
-    let each = least / u128::from(nodes.max(1));
-    println!(rt; "{} {nodes}: {each} ns a node", shape.name())?;
-    Ok(())
+    Ok(least / u128::from(nodes.max(1)))
 }
 
 /// Frees 1,000 nodes of each shape and says so. Or frees 1,000, 10,000 and 100,000, and prints the nanoseconds a node in the
 /// fastest of five runs; then it makes ten million nodes and lets each go before the next, and prints how long each took,
 /// and the memory after the first thousand and at the end.
 pub fn run<R: Clock + Files + Print + AllocGlobal>(rt: &R, extent: Extent) -> Result<()> {
-    let shapes = [Shape::Chain, Shape::Fan];
-    if extent == Extent::Little {
-        for shape in shapes {
-            print_freed(rt, shape)?;
+    for shape in [CHAINS, FAN] {
+        let name = shape.name;
+        if extent == Extent::Little {
+            done(rt, Job::Free(shape, 1_000))?;
+            println!(rt; "{name} 1000: freed")?;
+        } else {
+            for nodes in [1_000, 10_000, 100_000] {
+                let each = least(rt, shape, nodes)?;
+                println!(rt; "{name} {nodes}: {each} ns a node")?;
+            }
         }
-        return Ok(());
     }
-    for shape in shapes {
-        for nodes in [1_000, 10_000, 100_000] {
-            print_times(rt, shape, nodes)?;
-        }
+    if extent == Extent::Full {
+        let Took { time, first, last } = done(rt, Job::Pass)?;
+        let each = time.as_nanos() / u128::from(PASSING);
+        println!(rt;
+            "10,000,000 one after another: {each} ns a node\nmemory: {first} kB after the first thousand, {last} kB at the end"
+        )?;
     }
-    print_churn(rt)
+    Ok(())
 }

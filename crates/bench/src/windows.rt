@@ -1,12 +1,10 @@
 //! Swaps of a window by surfaces of each config.
-
 use crate::extents::Extent;
-use crate::pixels::telling::sum_of;
-use crate::pixels::work::{ALL, ORANGE, SIDE, fill, rows, side};
-use anyhow::{Result, bail};
+use crate::pixels::work::{ALL, ORANGE, SIDE, fill, rows, side, sum_of};
+use anyhow::{Result, bail, ensure};
 use pixel_rows::Image;
 use std::rt::Clock;
-use std::time::{Duration, Instant};
+use std::time::Instant;
 use surface_store::{Window, WindowSpec, format_of, swap};
 
 const CONFIGS: [i64; 8] = [1, 2, 3, 4, 5, 6, 7, 8];
@@ -14,25 +12,21 @@ const CONFIGS: [i64; 8] = [1, 2, 3, 4, 5, 6, 7, 8];
 /// How many swaps are timed.
 const SWAPS: u32 = 100;
 
-// Posts a back buffer, and answers whether that was done.
-fn is_posted(window: &mut Window, back: &mut Image) -> bool {
-    let front = window.front();
-    let is_alike = back.width() == front.width() && back.height() == front.height();
-    is_alike && swap(window, back, false).is_ok()
-}
-
-fn post<R: Clock>(rt: &R, window: &mut Window, back: &mut Image, count: u32) -> Result<Duration> {
-    let start = Instant::now(rt)?;
+// Posts a back buffer so many times, and answers whether that was done.
+fn post(window: &mut Window, back: &mut Image, count: u32) -> bool {
     'swaps: for _swap in 0..count {
-        if !is_posted(window, back) {
-            bail!("a swap wasn't done");
+        let front = window.front();
+        let is_alike = back.width() == front.width() && back.height() == front.height();
+        let is_posted = is_alike && swap(window, back, false).is_ok();
+        if !is_posted {
+            return false;
         }
     }
-    Ok(start.elapsed(rt)?)
+    true
 }
 
 // What a window shows after a swap of what is filled, and then how long swaps of it take.
-fn measure_swaps<R: Clock + Print + AllocGlobal>(
+fn measure<R: Clock + Print + AllocGlobal>(
     rt: &R,
     extent: Extent,
     config: i64,
@@ -40,12 +34,13 @@ fn measure_swaps<R: Clock + Print + AllocGlobal>(
     back: &mut Image,
 ) -> Result<()> {
     fill(back, ORANGE, ALL, 1);
-    let _took = post(rt, window, back, 1)?;
+    ensure!(post(window, back, 1), "a swap wasn't done");
     let front = rows(rt.alloc(), window.front(), window.front().format(), 1)?;
-    let sum = sum_of(front.as_slice());
-    println!(rt; "config {config}, a swap: sum {sum}")?;
+    println!(rt; "config {config}, a swap: sum {}", sum_of(front.as_slice()))?;
     if extent == Extent::Full {
-        let took = post(rt, window, back, SWAPS)?.as_nanos();
+        let start = Instant::now(rt)?;
+        ensure!(post(window, back, SWAPS), "a swap wasn't done");
+        let took = start.elapsed(rt)?.as_nanos();
         let pixels = u128::from(SWAPS) * u128::from(SIDE * SIDE);
         let (whole, each) = (took / 1_000_000, took * 1_000 / pixels);
         println!(rt; "config {config}, {SWAPS} swaps: {whole} ms, {each} ps a pixel")?;
@@ -53,7 +48,11 @@ fn measure_swaps<R: Clock + Print + AllocGlobal>(
     Ok(())
 }
 
-fn measure<R: Clock + Print + AllocGlobal>(rt: &R, extent: Extent, config: i64) -> Result<()> {
+fn measure_config<R: Clock + Print + AllocGlobal>(
+    rt: &R,
+    extent: Extent,
+    config: i64,
+) -> Result<()> {
     let side = side(extent);
     let spec = WindowSpec {
         id: 1,
@@ -63,9 +62,7 @@ fn measure<R: Clock + Print + AllocGlobal>(rt: &R, extent: Extent, config: i64) 
     let window = Window::new(rt.alloc(), spec);
     let back = Image::new(rt.alloc(), format_of(config), side, side);
     match (window, back) {
-        (Ok(mut window), Ok(mut back)) => {
-            measure_swaps(rt, extent, config, &mut window, &mut back)
-        }
+        (Ok(mut window), Ok(mut back)) => measure(rt, extent, config, &mut window, &mut back),
         (Ok(_) | Err(_), _) => bail!("no memory for a window"),
     }
 }
@@ -74,7 +71,7 @@ fn measure<R: Clock + Print + AllocGlobal>(rt: &R, extent: Extent, config: i64) 
 /// and prints how long a hundred swaps took.
 pub fn run<R: Clock + Print + AllocGlobal>(rt: &R, extent: Extent) -> Result<()> {
     for config in CONFIGS {
-        measure(rt, extent, config)?;
+        measure_config(rt, extent, config)?;
     }
     Ok(())
 }

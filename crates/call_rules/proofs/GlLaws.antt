@@ -18,7 +18,7 @@ use Rattle.call_rules.specs.declared.gl_facts.GlFacts.{GlFacts}
 use Rattle.refusal_rows.specs.Rows.{AllOff, IsFirst, ◌⇒◌, first_error}
 use Rattle.egl_calls.specs.Arguments.{number, signed}
 use Rattle.pixel_rows.specs.Rects.{IsInSide}
-use Rattle.call_rules.specs.GlRules.{buffer_bits, is_read_format, is_read_type, is_read_pair, read_format, read_type, gl_rows, gl_refusal_by, gl_refusal}
+use Rattle.call_rules.specs.GlRules.{buffer_bits, is_read_format, is_read_type, is_read_pair, read_format, read_type, gl_rows, gl_rows_by, gl_refusal}
 use Rattle.call_rules.specs.TextureRules.{asked_image_rows, is_no_level_side, is_no_part, memory_row}
 use Rattle.call_rules.specs.CopyRules.{asked_copy_rows}
 use Rattle.call_rules.specs.GlAllowed.{ClearAllowed, CopyAllowed, CopyAsked, CopyPartAllowed, ImageAllowed, ImageAsked, IsSide, PartAllowed, ReadAllowed, BufferPartAllowed, DataAsked, StorageAllowed, StorageAsked}
@@ -29,7 +29,7 @@ use Rattle.call_rules.proofs.TestLaws.{not_below, is_not_below, within, past, is
 
 of_kind : (c : CallValue) (f : GlFacts) (k : GlKind) → c.kind ≡ Gl k → gl_refusal c f ≡ first_error (gl_rows k c f)
 unfolding gl_refusal
-of_kind c f k h = ap (λ (kind : Kind). gl_refusal_by kind c f) h
+of_kind c f k h = ap (λ (kind : Kind). first_error (gl_rows_by kind c f)) h
 
 pub rows_off : (c : CallValue) (f : GlFacts) (k : GlKind) → c.kind ≡ Gl k → gl_refusal c f ≡ None → AllOff (gl_rows k c f)
 rows_off c f k h n = all_off (gl_rows k c f) (sym (of_kind c f k h) ∙ n)
@@ -215,7 +215,7 @@ buffer_part_allowed c f h n = buffer_part c f (rows_off c f BufferSubData h n)
 
 pub read_buffer_allowed : (c : CallValue) (f : GlFacts) → c.kind ≡ Own ReadBuffer → gl_refusal c f ≡ None → BufferPartAllowed c f
 unfolding gl_refusal
-read_buffer_allowed c f h n = buffer_part c f (all_off (buffer_part_rows c f) (sym (ap (λ (kind : Kind). gl_refusal_by kind c f) h) ∙ n))
+read_buffer_allowed c f h n = buffer_part c f (all_off (buffer_part_rows c f) (sym (ap (λ (kind : Kind). first_error (gl_rows_by kind c f)) h) ∙ n))
 
 -- ---- Renderbuffers.
 pub storage_allowed : (c : CallValue) (f : GlFacts) → c.kind ≡ Gl RenderbufferStorage → gl_refusal c f ≡ None → StorageAllowed c f

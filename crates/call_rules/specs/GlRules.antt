@@ -200,11 +200,11 @@ abbrev pub gl_rows : GlKind → CallValue → GlFacts → List (Row GlError)
 gl_rows k c f = rows_by (context_gl_call k) k c f
 
 -- readBuffer has those of glBufferSubData; another call that isn't one of OpenGL ES has no row
-abbrev pub gl_refusal_by : Kind → CallValue → GlFacts → Option GlError
-gl_refusal_by (Gl k) c f = first_error (gl_rows k c f)
-gl_refusal_by (Own ReadBuffer) c f = first_error (buffer_part_rows c f)
-gl_refusal_by k c f = None
+abbrev pub gl_rows_by : Kind → CallValue → GlFacts → List (Row GlError)
+gl_rows_by (Gl k) c f = gl_rows k c f
+gl_rows_by (Own ReadBuffer) c f = buffer_part_rows c f
+gl_rows_by k c f = []
 
 -- the error that a call of OpenGL ES or a readBuffer keeps, if it is refused
 unfoldable pub gl_refusal : CallValue → GlFacts → Option GlError
-gl_refusal c f = gl_refusal_by c.kind c f
+gl_refusal c f = first_error (gl_rows_by c.kind c f)

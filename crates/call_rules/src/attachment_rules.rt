@@ -1,6 +1,5 @@
 //! The conditions of the calls on framebuffers and what is attached to them (OES_framebuffer_object).
 ghost use Rattle.std.specs.Prelude.{◌≡◌};
-ghost use Rattle.refusal_rows.specs.Rows.{first_error};
 ghost use Rattle.call_rules.specs.AttachmentRules.{attached_level_row, attached_name_row, attached_renderbuffer_row, attached_texture_row, attaches, attachment_parameter_row, attachment_parameter_rows, attachment_row, framebuffer_renderbuffer_rows, framebuffer_target_row, framebuffer_texture_rows, is_attachment_parameter, named_row};
 
 use crate::buffer_rules::not_bound;
@@ -15,7 +14,7 @@ use egl_names::codes::{
     GL_FRAMEBUFFER_OES, GL_RENDERBUFFER_OES, GL_TEXTURE_2D,
 };
 use framebuffer_objects::is_attachment;
-use refusal_rows::first_error;
+use refusal_rows::Verdict;
 
 pub(crate) fn wrong_framebuffer_target(call: &Call) -> (bool, GlError)
     ensures { result ≡ framebuffer_target_row call.now }
@@ -101,10 +100,10 @@ fn no_attached_name(call: &Call, facts: &GlFacts) -> (bool, GlError)
     )
 }
 
-pub(crate) fn framebuffer_texture(call: &Call, facts: &GlFacts) -> Option<GlError>
-    ensures { result ≡ first_error (framebuffer_texture_rows call.now facts.now) }
+pub(crate) fn framebuffer_texture<V: Verdict<GlError>>(call: &Call, facts: &GlFacts) -> V
+    ensures { result ≡ V.told (framebuffer_texture_rows call.now facts.now) }
 {
-    first_error(&[
+    V::tell(&[
         wrong_framebuffer_target(call),
         wrong_attachment(call),
         not_bound(facts),
@@ -114,10 +113,10 @@ pub(crate) fn framebuffer_texture(call: &Call, facts: &GlFacts) -> Option<GlErro
     ])
 }
 
-pub(crate) fn framebuffer_renderbuffer(call: &Call, facts: &GlFacts) -> Option<GlError>
-    ensures { result ≡ first_error (framebuffer_renderbuffer_rows call.now facts.now) }
+pub(crate) fn framebuffer_renderbuffer<V: Verdict<GlError>>(call: &Call, facts: &GlFacts) -> V
+    ensures { result ≡ V.told (framebuffer_renderbuffer_rows call.now facts.now) }
 {
-    first_error(&[
+    V::tell(&[
         wrong_framebuffer_target(call),
         wrong_attachment(call),
         wrong_attached_renderbuffer(call),
@@ -126,10 +125,10 @@ pub(crate) fn framebuffer_renderbuffer(call: &Call, facts: &GlFacts) -> Option<G
     ])
 }
 
-pub(crate) fn attachment_parameter(call: &Call, facts: &GlFacts) -> Option<GlError>
-    ensures { result ≡ first_error (attachment_parameter_rows call.now facts.now) }
+pub(crate) fn attachment_parameter<V: Verdict<GlError>>(call: &Call, facts: &GlFacts) -> V
+    ensures { result ≡ V.told (attachment_parameter_rows call.now facts.now) }
 {
-    first_error(&[
+    V::tell(&[
         wrong_framebuffer_target(call),
         wrong_attachment(call),
         not_bound(facts),

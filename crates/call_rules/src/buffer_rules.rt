@@ -1,6 +1,5 @@
 //! The conditions of the calls on buffers (OpenGL ES 1.1, sections 2.9 and 6.1.12).
 ghost use Rattle.std.specs.Prelude.{◌≡◌};
-ghost use Rattle.refusal_rows.specs.Rows.{first_error};
 ghost use Rattle.call_rules.specs.BufferRules.{bound_row, buffer_parameter_row, buffer_part_rows, buffer_row, data_rows, is_buffer_parameter, is_buffer_target, is_usage, part_end_row, part_numbers_row, size_row, usage_row};
 
 use crate::egl_rules::exceeds;
@@ -15,7 +14,7 @@ use egl_names::codes::{
     GL_ARRAY_BUFFER, GL_BUFFER_SIZE, GL_BUFFER_USAGE, GL_DYNAMIC_DRAW, GL_ELEMENT_ARRAY_BUFFER,
     GL_STATIC_DRAW,
 };
-use refusal_rows::first_error;
+use refusal_rows::Verdict;
 
 fn is_buffer_target(target: u64) -> bool
     ensures { result ≡ is_buffer_target target }
@@ -73,10 +72,10 @@ fn negative_size(call: &Call) -> (bool, GlError)
     (signed(call, BUFFER_SIZE) < 0, GlError::InvalidValue)
 }
 
-pub(crate) fn buffer_data(call: &Call, facts: &GlFacts) -> Option<GlError>
-    ensures { result ≡ first_error (data_rows call.now facts.now) }
+pub(crate) fn buffer_data<V: Verdict<GlError>>(call: &Call, facts: &GlFacts) -> V
+    ensures { result ≡ V.told (data_rows call.now facts.now) }
 {
-    first_error(&[
+    V::tell(&[
         wrong_buffer_target(call),
         wrong_usage(call),
         negative_size(call),
@@ -108,10 +107,10 @@ fn past_the_end(call: &Call, facts: &GlFacts) -> (bool, GlError)
 }
 
 /// Of glBufferSubData and `readBuffer`.
-pub(crate) fn buffer_part(call: &Call, facts: &GlFacts) -> Option<GlError>
-    ensures { result ≡ first_error (buffer_part_rows call.now facts.now) }
+pub(crate) fn buffer_part<V: Verdict<GlError>>(call: &Call, facts: &GlFacts) -> V
+    ensures { result ≡ V.told (buffer_part_rows call.now facts.now) }
 {
-    first_error(&[
+    V::tell(&[
         wrong_buffer_target(call),
         negative_part(call),
         not_bound(facts),

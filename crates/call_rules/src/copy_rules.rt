@@ -1,7 +1,6 @@
 //! The conditions of the calls that copy pixels into a texture (OpenGL ES 1.1, sections 3.7.1 and 3.7.2).
 ghost use Rattle.std.specs.Prelude.{◌≡◌};
 ghost use Rattle.egl_calls.specs.declared.kinds.GlKind.TheVariants.{CopyTexImage2d, CopyTexSubImage2d};
-ghost use Rattle.refusal_rows.specs.Rows.{first_error};
 ghost use Rattle.call_rules.specs.CopyRules.{alpha_row, copied_border_row, copied_part_row, copied_sides_row, has_alpha};
 ghost use Rattle.call_rules.specs.GlRules.{object_rows};
 
@@ -18,7 +17,7 @@ use egl_calls::places::{
 };
 use egl_calls::{Call, GlError};
 use egl_names::codes::{GL_ALPHA, GL_LUMINANCE_ALPHA, GL_RGBA};
-use refusal_rows::first_error;
+use refusal_rows::Verdict;
 
 /// Whether a base format has alpha.
 pub fn has_alpha(format: u64) -> bool
@@ -56,10 +55,10 @@ fn wrong_border(call: &Call) -> (bool, GlError)
 }
 
 /// Section 3.7.2.
-pub(crate) fn copy_tex_image(call: &Call, facts: &GlFacts) -> Option<GlError>
-    ensures { result ≡ first_error (object_rows CopyTexImage2d call.now facts.now) }
+pub(crate) fn copy_tex_image<V: Verdict<GlError>>(call: &Call, facts: &GlFacts) -> V
+    ensures { result ≡ V.told (object_rows CopyTexImage2d call.now facts.now) }
 {
-    first_error(&[
+    V::tell(&[
         wrong_target(call),
         wrong_internal(call),
         wrong_level(call),
@@ -91,10 +90,10 @@ fn wrong_part(call: &Call, facts: &GlFacts) -> (bool, GlError)
 }
 
 /// Section 3.7.2.
-pub(crate) fn copy_tex_sub_image(call: &Call, facts: &GlFacts) -> Option<GlError>
-    ensures { result ≡ first_error (object_rows CopyTexSubImage2d call.now facts.now) }
+pub(crate) fn copy_tex_sub_image<V: Verdict<GlError>>(call: &Call, facts: &GlFacts) -> V
+    ensures { result ≡ V.told (object_rows CopyTexSubImage2d call.now facts.now) }
 {
-    first_error(&[
+    V::tell(&[
         wrong_target(call),
         wrong_level(call),
         no_storage(facts),

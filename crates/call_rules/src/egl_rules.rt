@@ -3,8 +3,8 @@ ghost use Rattle.std.specs.Prelude.{◌≡◌, ◌+◌, nat_lt, not, ◌<◌};
 ghost use Rattle.egl_calls.specs.Arguments.{is_zero};
 ghost use Rattle.egl_calls.specs.declared.kinds.EglKind.TheVariants.{CreateWindowSurface, CreatePbufferSurface, SurfaceAttrib, CreateContext, MakeCurrent, CreateSync, WaitSync, CreateImage};
 ghost use Rattle.egl_calls.specs.declared.errors.EglError.TheVariants.{NotInitialized, BadSurface, BadContext, BadParameter};
-ghost use Rattle.refusal_rows.specs.Rows.{first_error, ◌⇒◌};
-ghost use Rattle.call_rules.specs.EglRules.{egl_refusal, egl_rows, display_row, current_rows, has_attributes, has_code, is_one_alone, is_wrong, is_long, is_later_version, is_supported_version};
+ghost use Rattle.refusal_rows.specs.Rows.{◌⇒◌};
+ghost use Rattle.call_rules.specs.EglRules.{egl_refusal, egl_rows, egl_rows_by, display_row, current_rows, has_attributes, has_code, is_one_alone, is_wrong, is_long, is_later_version, is_supported_version};
 
 use crate::egl_facts::EglFacts;
 use egl_calls::arguments::{is_zero, number};
@@ -16,7 +16,7 @@ use egl_names::codes::{
     EGL_BUFFER_DESTROYED, EGL_BUFFER_PRESERVED, EGL_DRAW, EGL_GL_RENDERBUFFER, EGL_GL_TEXTURE_2D,
     EGL_OPENGL_ES_API, EGL_READ, EGL_SWAP_BEHAVIOR, EGL_SYNC_FENCE,
 };
-use refusal_rows::first_error;
+use refusal_rows::Verdict;
 
 fn is_long(side: i64) -> bool
     ensures { result ≡ is_long side }
@@ -99,11 +99,11 @@ fn no_sync(facts: &EglFacts) -> (bool, EglError)
 }
 
 /// Section 3.5.1.
-fn create_window_surface(call: &Call, facts: &EglFacts) -> Option<EglError>
-    ensures { result ≡ first_error (egl_rows CreateWindowSurface call.now facts.now) }
+fn create_window_surface<V: Verdict<EglError>>(call: &Call, facts: &EglFacts) -> V
+    ensures { result ≡ V.told (egl_rows CreateWindowSurface call.now facts.now) }
 {
     let _ = call;
-    first_error(&[
+    V::tell(&[
         no_display(facts),
         uninitialized(facts),
         (!facts.is_config, EglError::BadConfig),
@@ -120,12 +120,12 @@ fn create_window_surface(call: &Call, facts: &EglFacts) -> Option<EglError>
 }
 
 /// Section 3.5.2.
-fn create_pbuffer_surface(call: &Call, facts: &EglFacts) -> Option<EglError>
-    ensures { result ≡ first_error (egl_rows CreatePbufferSurface call.now facts.now) }
+fn create_pbuffer_surface<V: Verdict<EglError>>(call: &Call, facts: &EglFacts) -> V
+    ensures { result ≡ V.told (egl_rows CreatePbufferSurface call.now facts.now) }
 {
     let _ = call;
     let is_long = is_long(facts.width) || is_long(facts.height);
-    first_error(&[
+    V::tell(&[
         no_display(facts),
         uninitialized(facts),
         (!facts.is_config, EglError::BadConfig),
@@ -141,12 +141,12 @@ fn create_pbuffer_surface(call: &Call, facts: &EglFacts) -> Option<EglError>
 }
 
 /// Section 3.5.6.
-fn surface_attrib(call: &Call, facts: &EglFacts) -> Option<EglError>
-    ensures { result ≡ first_error (egl_rows SurfaceAttrib call.now facts.now) }
+fn surface_attrib<V: Verdict<EglError>>(call: &Call, facts: &EglFacts) -> V
+    ensures { result ≡ V.told (egl_rows SurfaceAttrib call.now facts.now) }
 {
     let is_behavior = has_code(call, VALUE, EGL_BUFFER_PRESERVED)
         || has_code(call, VALUE, EGL_BUFFER_DESTROYED);
-    first_error(&[
+    V::tell(&[
         no_display(facts),
         uninitialized(facts),
         no_surface(facts),
@@ -159,13 +159,13 @@ fn surface_attrib(call: &Call, facts: &EglFacts) -> Option<EglError>
 }
 
 /// Section 3.7.1.
-fn create_context(call: &Call, facts: &EglFacts) -> Option<EglError>
-    ensures { result ≡ first_error (egl_rows CreateContext call.now facts.now) }
+fn create_context<V: Verdict<EglError>>(call: &Call, facts: &EglFacts) -> V
+    ensures { result ≡ V.told (egl_rows CreateContext call.now facts.now) }
 {
     let _ = call;
     let is_later = is_later_version(facts.version, facts.minor_version);
     let is_supported = is_supported_version(facts.version, facts.minor_version);
-    first_error(&[
+    V::tell(&[
         no_display(facts),
         uninitialized(facts),
         (!facts.is_config, EglError::BadConfig),
@@ -186,11 +186,11 @@ fn is_one_alone(call: &Call) -> bool
 }
 
 /// Section 3.7.3, where a draw surface, a read surface or a context is given.
-fn make_some_current(call: &Call, facts: &EglFacts) -> Option<EglError>
-    ensures { result ≡ first_error (current_rows call.now facts.now) }
+fn make_some_current<V: Verdict<EglError>>(call: &Call, facts: &EglFacts) -> V
+    ensures { result ≡ V.told (current_rows call.now facts.now) }
 {
     let is_no_surface = is_wrong(call, DRAW, facts.is_draw) || is_wrong(call, READ, facts.is_read);
-    first_error(&[
+    V::tell(&[
         no_display(facts),
         uninitialized(facts),
         (is_no_surface, EglError::BadSurface),
@@ -210,20 +210,20 @@ fn make_some_current(call: &Call, facts: &EglFacts) -> Option<EglError>
 }
 
 /// Section 3.7.3.
-fn make_current(call: &Call, facts: &EglFacts) -> Option<EglError>
-    ensures { result ≡ first_error (egl_rows MakeCurrent call.now facts.now) }
+fn make_current<V: Verdict<EglError>>(call: &Call, facts: &EglFacts) -> V
+    ensures { result ≡ V.told (egl_rows MakeCurrent call.now facts.now) }
 {
     if is_zero(call, DRAW) && is_zero(call, READ) && is_zero(call, CONTEXT) {
-        return first_error(&[no_display(facts)]);
+        return V::tell(&[no_display(facts)]);
     }
     make_some_current(call, facts)
 }
 
 /// Section 3.8.1.
-fn create_sync(call: &Call, facts: &EglFacts) -> Option<EglError>
-    ensures { result ≡ first_error (egl_rows CreateSync call.now facts.now) }
+fn create_sync<V: Verdict<EglError>>(call: &Call, facts: &EglFacts) -> V
+    ensures { result ≡ V.told (egl_rows CreateSync call.now facts.now) }
 {
-    first_error(&[
+    V::tell(&[
         no_display(facts),
         uninitialized(facts),
         (
@@ -237,10 +237,10 @@ fn create_sync(call: &Call, facts: &EglFacts) -> Option<EglError>
 }
 
 /// Section 3.8.1.2.
-fn wait_sync(call: &Call, facts: &EglFacts) -> Option<EglError>
-    ensures { result ≡ first_error (egl_rows WaitSync call.now facts.now) }
+fn wait_sync<V: Verdict<EglError>>(call: &Call, facts: &EglFacts) -> V
+    ensures { result ≡ V.told (egl_rows WaitSync call.now facts.now) }
 {
-    first_error(&[
+    V::tell(&[
         no_display(facts),
         uninitialized(facts),
         no_sync(facts),
@@ -250,12 +250,12 @@ fn wait_sync(call: &Call, facts: &EglFacts) -> Option<EglError>
 }
 
 /// Section 3.9.
-fn create_image(call: &Call, facts: &EglFacts) -> Option<EglError>
-    ensures { result ≡ first_error (egl_rows CreateImage call.now facts.now) }
+fn create_image<V: Verdict<EglError>>(call: &Call, facts: &EglFacts) -> V
+    ensures { result ≡ V.told (egl_rows CreateImage call.now facts.now) }
 {
     let is_kind = has_code(call, IMAGE_SOURCE, EGL_GL_TEXTURE_2D)
         || has_code(call, IMAGE_SOURCE, EGL_GL_RENDERBUFFER);
-    first_error(&[
+    V::tell(&[
         no_display(facts),
         uninitialized(facts),
         no_context(facts),
@@ -269,25 +269,22 @@ fn create_image(call: &Call, facts: &EglFacts) -> Option<EglError>
     ])
 }
 
-/// The error that a call of EGL answers, and None where it isn't refused: a table of the rows of each call, in the order of the tests. A call of another interface has no row.
-#[tactic(auto, unfolding(crate::specs::EglRules::egl_refusal))]
-pub fn egl_refusal(call: &Call, facts: &EglFacts) -> Option<EglError>
-    ensures { result ≡ egl_refusal call.now facts.now }
+/// What the rows of a call of EGL tell, in the order of the tests. A call of another interface has no row.
+pub fn egl_verdict<V: Verdict<EglError>>(call: &Call, facts: &EglFacts) -> V
+    ensures { result ≡ V.told (egl_rows_by call.now.kind call.now facts.now) }
 {
     match call.kind {
-        Kind::Egl(EglKind::GetError) => None,
-        Kind::Egl(EglKind::GetDisplay) => None,
-        Kind::Egl(EglKind::Initialize) => first_error(&[no_display(facts)]),
-        Kind::Egl(EglKind::Terminate) => first_error(&[no_display(facts)]),
-        Kind::Egl(EglKind::GetConfigs) => {
-            first_error(&[no_display(facts), uninitialized(facts)])
-        }
-        Kind::Egl(EglKind::ChooseConfig) => first_error(&[
+        Kind::Egl(EglKind::GetError) => V::tell(&[]),
+        Kind::Egl(EglKind::GetDisplay) => V::tell(&[]),
+        Kind::Egl(EglKind::Initialize) => V::tell(&[no_display(facts)]),
+        Kind::Egl(EglKind::Terminate) => V::tell(&[no_display(facts)]),
+        Kind::Egl(EglKind::GetConfigs) => { V::tell(&[no_display(facts), uninitialized(facts)]) }
+        Kind::Egl(EglKind::ChooseConfig) => V::tell(&[
             no_display(facts),
             uninitialized(facts),
             (!facts.is_list_allowed, EglError::BadAttribute),
         ]),
-        Kind::Egl(EglKind::GetConfigAttrib) => first_error(&[
+        Kind::Egl(EglKind::GetConfigAttrib) => V::tell(&[
             no_display(facts),
             uninitialized(facts),
             (!facts.is_config, EglError::BadConfig),
@@ -296,65 +293,73 @@ pub fn egl_refusal(call: &Call, facts: &EglFacts) -> Option<EglError>
         Kind::Egl(EglKind::CreateWindowSurface) => create_window_surface(call, facts),
         Kind::Egl(EglKind::CreatePbufferSurface) => create_pbuffer_surface(call, facts),
         Kind::Egl(EglKind::DestroySurface) => {
-            first_error(&[no_display(facts), uninitialized(facts), no_surface(facts)])
+            V::tell(&[no_display(facts), uninitialized(facts), no_surface(facts)])
         }
-        Kind::Egl(EglKind::QuerySurface) => first_error(&[
+        Kind::Egl(EglKind::QuerySurface) => V::tell(&[
             no_display(facts),
             uninitialized(facts),
             no_surface(facts),
             (!facts.is_attribute, EglError::BadAttribute),
         ]),
         Kind::Egl(EglKind::SurfaceAttrib) => surface_attrib(call, facts),
-        Kind::Egl(EglKind::BindApi) => first_error(&[(
+        Kind::Egl(EglKind::BindApi) => V::tell(&[(
             !has_code(call, API, EGL_OPENGL_ES_API),
             EglError::BadParameter,
         )]),
-        Kind::Egl(EglKind::QueryApi) => None,
+        Kind::Egl(EglKind::QueryApi) => V::tell(&[]),
         Kind::Egl(EglKind::CreateContext) => create_context(call, facts),
         Kind::Egl(EglKind::DestroyContext) => {
-            first_error(&[no_display(facts), uninitialized(facts), no_context(facts)])
+            V::tell(&[no_display(facts), uninitialized(facts), no_context(facts)])
         }
         Kind::Egl(EglKind::MakeCurrent) => make_current(call, facts),
-        Kind::Egl(EglKind::GetCurrentContext) => None,
-        Kind::Egl(EglKind::GetCurrentSurface) => first_error(&[(
+        Kind::Egl(EglKind::GetCurrentContext) => V::tell(&[]),
+        Kind::Egl(EglKind::GetCurrentSurface) => V::tell(&[(
             !(has_code(call, READDRAW, EGL_DRAW) || has_code(call, READDRAW, EGL_READ)),
             EglError::BadParameter,
         )]),
-        Kind::Egl(EglKind::GetCurrentDisplay) => None,
-        Kind::Egl(EglKind::QueryContext) => first_error(&[
+        Kind::Egl(EglKind::GetCurrentDisplay) => V::tell(&[]),
+        Kind::Egl(EglKind::QueryContext) => V::tell(&[
             no_display(facts),
             uninitialized(facts),
             no_context(facts),
             (!facts.is_attribute, EglError::BadAttribute),
         ]),
-        Kind::Egl(EglKind::SwapBuffers) => first_error(&[
+        Kind::Egl(EglKind::SwapBuffers) => V::tell(&[
             no_display(facts),
             uninitialized(facts),
             no_surface(facts),
             (!facts.is_drawn_to, EglError::BadSurface),
         ]),
-        Kind::Egl(EglKind::WaitClient) => None,
-        Kind::Egl(EglKind::ReleaseThread) => None,
+        Kind::Egl(EglKind::WaitClient) => V::tell(&[]),
+        Kind::Egl(EglKind::ReleaseThread) => V::tell(&[]),
         Kind::Egl(EglKind::CreateSync) => create_sync(call, facts),
         Kind::Egl(EglKind::DestroySync) => {
-            first_error(&[no_display(facts), uninitialized(facts), no_sync(facts)])
+            V::tell(&[no_display(facts), uninitialized(facts), no_sync(facts)])
         }
         Kind::Egl(EglKind::ClientWaitSync) => {
-            first_error(&[no_display(facts), uninitialized(facts), no_sync(facts)])
+            V::tell(&[no_display(facts), uninitialized(facts), no_sync(facts)])
         }
         Kind::Egl(EglKind::WaitSync) => wait_sync(call, facts),
-        Kind::Egl(EglKind::GetSyncAttrib) => first_error(&[
+        Kind::Egl(EglKind::GetSyncAttrib) => V::tell(&[
             no_display(facts),
             uninitialized(facts),
             no_sync(facts),
             (!facts.is_attribute, EglError::BadAttribute),
         ]),
         Kind::Egl(EglKind::CreateImage) => create_image(call, facts),
-        Kind::Egl(EglKind::DestroyImage) => first_error(&[
+        Kind::Egl(EglKind::DestroyImage) => V::tell(&[
             no_display(facts),
             uninitialized(facts),
             (!facts.is_image, EglError::BadParameter),
         ]),
-        Kind::Gl(_) | Kind::Own(_) => None,
+        Kind::Gl(_) | Kind::Own(_) => V::tell(&[]),
     }
+}
+
+/// The error that a call of EGL answers, and None where it isn't refused: that of the first of its rows that holds.
+#[tactic(auto, unfolding(crate::specs::EglRules::egl_refusal))]
+pub fn egl_refusal(call: &Call, facts: &EglFacts) -> Option<EglError>
+    ensures { result ≡ egl_refusal call.now facts.now }
+{
+    egl_verdict(call, facts)
 }

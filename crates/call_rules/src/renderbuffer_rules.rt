@@ -1,6 +1,5 @@
 //! The conditions of the calls on renderbuffers (OES_framebuffer_object).
 ghost use Rattle.std.specs.Prelude.{◌≡◌};
-ghost use Rattle.refusal_rows.specs.Rows.{first_error};
 ghost use Rattle.call_rules.specs.RenderbufferRules.{internal_row, is_no_side, is_renderbuffer_parameter, renderbuffer_parameter_row, renderbuffer_row, storage_rows, storage_sides_row};
 
 use crate::buffer_rules::not_bound;
@@ -13,7 +12,7 @@ use egl_names::codes::{
     GL_RENDERBUFFER_HEIGHT_OES, GL_RENDERBUFFER_OES, GL_RENDERBUFFER_WIDTH_OES,
 };
 use framebuffer_objects::is_internal;
-use refusal_rows::first_error;
+use refusal_rows::Verdict;
 
 pub(crate) fn wrong_renderbuffer_target(call: &Call) -> (bool, GlError)
     ensures { result ≡ renderbuffer_row call.now }
@@ -66,10 +65,10 @@ fn wrong_sides(call: &Call) -> (bool, GlError)
     )
 }
 
-pub(crate) fn renderbuffer_storage(call: &Call, facts: &GlFacts) -> Option<GlError>
-    ensures { result ≡ first_error (storage_rows call.now facts.now) }
+pub(crate) fn renderbuffer_storage<V: Verdict<GlError>>(call: &Call, facts: &GlFacts) -> V
+    ensures { result ≡ V.told (storage_rows call.now facts.now) }
 {
-    first_error(&[
+    V::tell(&[
         wrong_renderbuffer_target(call),
         wrong_internal(call),
         wrong_sides(call),

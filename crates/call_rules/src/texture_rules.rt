@@ -1,7 +1,6 @@
 //! The conditions of the calls on names and on textures (OpenGL ES 1.1, sections 3.7.1, 3.7.2, 3.7.4 and 3.7.11).
 ghost use Rattle.std.specs.Prelude.{◌≡◌};
 ghost use Rattle.egl_calls.specs.declared.kinds.GlKind.TheVariants.{TexImage2d, TexParameteriv, TexSubImage2d};
-ghost use Rattle.refusal_rows.specs.Rows.{first_error};
 ghost use Rattle.call_rules.specs.GlRules.{object_rows};
 ghost use Rattle.call_rules.specs.TextureRules.{base_row, border_row, count_row, crop_length_row, crop_row, image_kind_row, image_pair_row, internal_row, is_image_format, is_image_type, is_no_count, is_no_level, is_no_level_side, is_no_part, is_power, level_row, longest_side, memory_row, name_row, parameter_row, part_row, same_format_row, sides_row, storage_row, texture_row};
 
@@ -18,7 +17,7 @@ use egl_names::codes::{
     GL_TEXTURE_CROP_RECT_OES, GL_UNSIGNED_BYTE, GL_UNSIGNED_SHORT_4_4_4_4,
     GL_UNSIGNED_SHORT_5_5_5_1, GL_UNSIGNED_SHORT_5_6_5,
 };
-use refusal_rows::first_error;
+use refusal_rows::Verdict;
 use texture_objects::{form_of, is_parameter_pair};
 
 /// How many names one call gives, at most.
@@ -79,11 +78,11 @@ fn wrong_length(call: &Call) -> (bool, GlError)
 }
 
 /// OES_draw_texture.
-pub(crate) fn tex_parameteriv(call: &Call, facts: &GlFacts) -> Option<GlError>
-    ensures { result ≡ first_error (object_rows TexParameteriv call.now facts.now) }
+pub(crate) fn tex_parameteriv<V: Verdict<GlError>>(call: &Call, facts: &GlFacts) -> V
+    ensures { result ≡ V.told (object_rows TexParameteriv call.now facts.now) }
 {
     let _ = facts;
-    first_error(&[wrong_target(call), no_crop(call), wrong_length(call)])
+    V::tell(&[wrong_target(call), no_crop(call), wrong_length(call)])
 }
 
 // Pixels that are given.
@@ -210,10 +209,10 @@ pub(crate) fn too_many_bytes(facts: &GlFacts) -> (bool, GlError)
 }
 
 /// Section 3.7.1.
-pub(crate) fn tex_image(call: &Call, facts: &GlFacts) -> Option<GlError>
-    ensures { result ≡ first_error (object_rows TexImage2d call.now facts.now) }
+pub(crate) fn tex_image<V: Verdict<GlError>>(call: &Call, facts: &GlFacts) -> V
+    ensures { result ≡ V.told (object_rows TexImage2d call.now facts.now) }
 {
-    first_error(&[
+    V::tell(&[
         wrong_target(call),
         wrong_image_kind(call),
         wrong_internal(call),
@@ -265,10 +264,10 @@ fn other_base(call: &Call, facts: &GlFacts) -> (bool, GlError)
 }
 
 /// Section 3.7.2.
-pub(crate) fn tex_sub_image(call: &Call, facts: &GlFacts) -> Option<GlError>
-    ensures { result ≡ first_error (object_rows TexSubImage2d call.now facts.now) }
+pub(crate) fn tex_sub_image<V: Verdict<GlError>>(call: &Call, facts: &GlFacts) -> V
+    ensures { result ≡ V.told (object_rows TexSubImage2d call.now facts.now) }
 {
-    first_error(&[
+    V::tell(&[
         wrong_target(call),
         wrong_image_kind(call),
         wrong_level(call),

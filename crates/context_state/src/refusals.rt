@@ -2,7 +2,7 @@
 ghost use Rattle.std.specs.Prelude.{◌≡◌};
 ghost use Rattle.context_state.specs.Arguments.{may_enable, may_disable, is_environment, is_store, is_box_name, is_parameter, is_index};
 ghost use Rattle.context_state.specs.Parts.{is_alignment};
-ghost use Rattle.context_state.specs.Refusals.{refusal};
+ghost use Rattle.context_state.specs.Refusals.{context_rows, refusal};
 
 use crate::arguments::has_negative_side;
 use crate::bindings::is_binding_code;
@@ -16,7 +16,7 @@ use egl_names::codes::{
     GL_SCISSOR_TEST, GL_STENCIL_TEST, GL_TEXTURE_2D, GL_TEXTURE_ENV, GL_TEXTURE_ENV_MODE,
     GL_UNPACK_ALIGNMENT, GL_VIEWPORT,
 };
-use refusal_rows::first_error;
+use refusal_rows::Verdict;
 
 fn may_enable(cap: u64) -> bool
     ensures { result ≡ may_enable cap }
@@ -82,23 +82,17 @@ fn is_index(pname: u64, index: i64) -> bool
     index >= 0 && index <= last
 }
 
-/// The error that refuses a call, and None where it isn't refused: that of the first row that holds, in the order of the tests.
-pub fn refusal(kind: ContextCall, call: &Call) -> Option<GlError>
-    ensures { result ≡ refusal kind call.now }
+/// What the rows of a call tell, in the order of the tests.
+pub fn verdict<V: Verdict<GlError>>(kind: ContextCall, call: &Call) -> V
+    ensures { result ≡ V.told (context_rows kind call.now) }
 {
     match kind {
-        ContextCall::Enable => first_error(&[(
-            !may_enable(number(call, CAP)),
-            GlError::InvalidEnum,
-        )]),
-        ContextCall::Disable => first_error(&[(
-            !may_disable(number(call, CAP)),
-            GlError::InvalidEnum,
-        )]),
+        ContextCall::Enable => V::tell(&[(!may_enable(number(call, CAP)), GlError::InvalidEnum)]),
+        ContextCall::Disable => V::tell(&[(!may_disable(number(call, CAP)), GlError::InvalidEnum)]),
         ContextCall::Scissor | ContextCall::Viewport => {
-            first_error(&[(has_negative_side(call), GlError::InvalidValue)])
+            V::tell(&[(has_negative_side(call), GlError::InvalidValue)])
         }
-        ContextCall::TexEnvx => first_error(&[(
+        ContextCall::TexEnvx => V::tell(&[(
             !is_environment(
                 number(call, TARGET),
                 number(call, ENVIRONMENT_PNAME),
@@ -106,11 +100,11 @@ pub fn refusal(kind: ContextCall, call: &Call) -> Option<GlError>
             ),
             GlError::InvalidEnum,
         )]),
-        ContextCall::PixelStorei => first_error(&[
+        ContextCall::PixelStorei => V::tell(&[
             (!is_store(number(call, PNAME)), GlError::InvalidEnum),
             (!is_alignment(number(call, PARAM)), GlError::InvalidValue),
         ]),
-        ContextCall::GetIntegerv => first_error(&[
+        ContextCall::GetIntegerv => V::tell(&[
             (!is_parameter(number(call, PNAME)), GlError::InvalidEnum),
             (
                 !is_index(number(call, PNAME), signed(call, INDEX)),
@@ -122,6 +116,13 @@ pub fn refusal(kind: ContextCall, call: &Call) -> Option<GlError>
         | ContextCall::Color4x
         | ContextCall::ClearDepthx
         | ContextCall::ClearStencil
-        | ContextCall::ColorMask => None,
+        | ContextCall::ColorMask => V::tell(&[]),
     }
+}
+
+/// The error that refuses a call, and None where it isn't refused: that of the first of its rows that holds.
+pub fn refusal(kind: ContextCall, call: &Call) -> Option<GlError>
+    ensures { result ≡ refusal kind call.now }
+{
+    verdict(kind, call)
 }

@@ -1,15 +1,12 @@
 //! Threads of a trace that run at once.
-use crate::commands::{answer, sink, source, wrote};
+use crate::commands::{answer, sink, source};
+use crate::local_lines::is_reached;
 use egl_cli::{Gate, play_words};
 use std::process::Abort;
 use std::sync::Wait;
 use std::sync::atomic::AtomicU64;
 use std::sync::atomic::Ordering::SeqCst;
-use std::thread;
 use std::thread::Threads;
-
-/// How many turns a thread is kept at most.
-const MOST_TURNS: u64 = 10_000_000;
 
 /// One line of thread 0, and two of thread 1 behind it.
 const THREE_LINES: &[u8] = b"egl-trace 1 2\n0 eglGetError\n1 eglGetError\n1 eglGetError\n";
@@ -21,25 +18,13 @@ struct Meeting {
     met: AtomicU64,
 }
 
-impl Meeting {
-    fn keep(&self) {
-        'turns: for _turn in 0..MOST_TURNS {
-            if self.came.load(SeqCst) == 1 {
-                self.met.store(1, SeqCst);
-                return;
-            }
-            thread::yield_now();
-        }
-    }
-}
-
 impl Gate for Meeting {
     fn before(&self, thread: u32, line: u64) {
         if thread == 1 && line == 4 {
             self.came.store(1, SeqCst);
         }
-        if thread == 0 {
-            self.keep();
+        if thread == 0 && is_reached(&self.came) {
+            self.met.store(1, SeqCst);
         }
     }
 }
@@ -51,8 +36,8 @@ fn two_at_once(rt: HostRuntime) {
         came: AtomicU64::new(0),
         met: AtomicU64::new(0),
     };
-    let mut sink = sink(&rt, alloc, 200, &[]);
-    let mut source = source(&rt, alloc, THREE_LINES, &[]);
+    let mut sink = sink(&rt, alloc, 200, -1);
+    let mut source = source(&rt, alloc, THREE_LINES, -1);
     let status = play_words(&rt, alloc, false, &mut source, &mut sink, &gate);
     assert_eq!(rt; (status.number(), gate.met.load(SeqCst)), (0, 1));
 }
@@ -67,16 +52,12 @@ static RECORDINGS: [&[u8]; 2] = [
     b"recording\n1 2 ok 1 [] -\n1 3 ok 1 [] -\n1 4 ok 3 [] -\n1 5 ok 4 [] -\n1 6 ok 1 [] -\n1 7 ok 5 [] -\n1 9 ok 0 [] -\n0 8 ok EGL_CONDITION_SATISFIED [] -\ncensus 1 1 1 0 0 0 1 1 0 1 4\nend\n",
 ];
 
-/// Whether a run of it ends, by one of the two recordings.
-fn ends_so<R: Abort + AllocGlobal + Threads + Wait + Sync>(rt: &R) -> bool {
-    let ran = answer(rt, "play", WAIT);
-    let [before, behind] = RECORDINGS;
-    wrote(&ran, 0, before) || wrote(&ran, 0, behind)
-}
-
 #[test]
 fn a_wait_ends_by_another_threads_flush(rt: HostRuntime) {
+    let [before, behind] = RECORDINGS;
     for _run in 0..20 {
-        assert!(rt; ends_so(&rt));
+        let (status, sink) = answer(&rt, "play", WAIT, 65_536);
+        let is_one = sink.taken() == before || sink.taken() == behind;
+        assert_eq!(rt; (status, is_one), (0, true));
     }
 }

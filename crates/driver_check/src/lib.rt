@@ -2,17 +2,13 @@
 #![tactic(auto)]
 
 #[cfg(test)]
-mod apart;
-#[cfg(test)]
 mod at_once;
-#[cfg(test)]
-mod calls;
 #[cfg(test)]
 mod commands;
 #[cfg(test)]
-mod configs;
-#[cfg(test)]
 mod crowds;
+#[cfg(test)]
+mod cut_runs;
 #[cfg(test)]
 mod draws;
 #[cfg(test)]
@@ -20,17 +16,13 @@ mod faults;
 #[cfg(test)]
 mod faults_in_turn;
 #[cfg(test)]
-mod heads;
-#[cfg(test)]
-mod lines;
+mod late_texels;
 #[cfg(test)]
 mod local_lines;
 #[cfg(test)]
 mod parts;
 #[cfg(test)]
 mod places;
-#[cfg(test)]
-mod read_calls;
 #[cfg(test)]
 mod readings;
 #[cfg(test)]
@@ -42,11 +34,13 @@ mod shared_texture;
 #[cfg(test)]
 mod sides;
 #[cfg(test)]
+mod texture_calls;
+#[cfg(test)]
 mod tokens;
 #[cfg(test)]
 mod traces;
 #[cfg(test)]
-mod variables;
+mod uploads;
 #[cfg(test)]
 mod waits;
 #[cfg(test)]

@@ -17,6 +17,7 @@ use std::sync::atomic::Ordering::SeqCst;
 use std::thread;
 use std::thread::Threads;
 use trace_reader::Trace;
+use trace_session::Chains;
 
 /// How many turns a thread is kept at most.
 const MOST_TURNS: u64 = 10_000_000;
@@ -39,8 +40,8 @@ struct Stages {
     met: AtomicU64,
 }
 
-// Whether a stage was reached within so many turns.
-fn is_reached(stage: &AtomicU64) -> bool {
+/// Whether a stage was reached within so many turns.
+pub fn is_reached(stage: &AtomicU64) -> bool {
     'turns: for _turn in 0..MOST_TURNS {
         if stage.load(SeqCst) == 1 {
             return true;
@@ -101,7 +102,10 @@ fn go_on<R: Abort + Wait>(
     ensures { IsOf shared.now thread.new }
 {
     if plays && thread.number() < trace.threads() {
-        let played = work(shared, thread, rt, alloc, trace, stages);
+        let Ok(chains) = Chains::new(alloc, trace) else {
+            panic!(rt; "memory");
+        };
+        let played = work(shared, thread, rt, alloc, trace, &chains, stages);
         assert!(rt; played.is_ok());
         return;
     }

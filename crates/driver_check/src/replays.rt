@@ -6,30 +6,15 @@ use egl_calls::{Entry, Journal, Reply};
 use std::alloc::Global;
 use std::process::Abort;
 
-/// Whether two replies are equal.
-pub fn is_same(one: &Reply, other: &Reply) -> bool {
+// Whether two replies are equal.
+fn is_same(one: &Reply, other: &Reply) -> bool {
     one.outcome == other.outcome
         && one.value == other.value
         && one.list.as_slice() == other.list.as_slice()
         && one.bytes.as_slice() == other.bytes.as_slice()
 }
 
-/// A driver of so many threads.
-fn opened<R: Abort>(rt: &R, alloc: Global, threads: u32, video: u64) -> Driver
-    requires { video ≤ 1073741824 }
-{
-    let Ok(mut driver) = Driver::new(alloc, &[], video) else {
-        panic!(rt; "memory");
-    };
-    'adding: for _ in 1..threads {
-        if driver.threads() == 65536 || driver.add_thread().is_err() {
-            panic!(rt; "memory");
-        }
-    }
-    driver
-}
-
-/// Whether a driver answers a call as an entry says.
+// Whether a driver answers a call as an entry says.
 fn is_answered<R: Abort>(rt: &R, alloc: Global, driver: &mut Driver, entry: &Entry) -> bool {
     if entry.thread >= driver.threads() {
         return false;
@@ -40,7 +25,7 @@ fn is_answered<R: Abort>(rt: &R, alloc: Global, driver: &mut Driver, entry: &Ent
     }
 }
 
-/// Whether a driver answers each call of a journal as the journal says.
+// Whether a driver answers each call of a journal as the journal says.
 fn answers_all<R: Abort>(rt: &R, alloc: Global, driver: &mut Driver, journal: &Journal) -> bool {
     'playing: for entry in journal.as_slice() {
         if !is_answered(rt, alloc, driver, entry) {
@@ -50,7 +35,7 @@ fn answers_all<R: Abort>(rt: &R, alloc: Global, driver: &mut Driver, journal: &J
     true
 }
 
-/// Whether a fresh driver answers each call of a journal as the journal says.
+/// Whether a fresh driver of so many threads answers each call of a journal as the journal says.
 pub fn is_replayed<R: Abort>(
     rt: &R,
     alloc: Global,
@@ -60,6 +45,13 @@ pub fn is_replayed<R: Abort>(
 ) -> bool
     requires { video ≤ 1073741824 }
 {
-    let mut driver = opened(rt, alloc, threads, video);
+    let Ok(mut driver) = Driver::new(alloc, &[], video) else {
+        panic!(rt; "memory");
+    };
+    'adding: for _ in 1..threads {
+        if driver.threads() == 65536 || driver.add_thread().is_err() {
+            panic!(rt; "memory");
+        }
+    }
     answers_all(rt, alloc, &mut driver, journal)
 }

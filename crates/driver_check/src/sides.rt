@@ -16,6 +16,7 @@ use std::sync::atomic::AtomicU64;
 use std::sync::atomic::Ordering::SeqCst;
 use std::thread;
 use std::thread::Threads;
+use std::time::{Clock, Duration};
 
 // The numbers that the driver gives in this scene.
 const DISPLAY: u32 = 1;
@@ -28,6 +29,9 @@ const SYNC: u32 = 5;
 
 /// The marks of calls that the third side sleeps for, one after another: one that is picked, one that takes memory, the wait, and one that was played without a turn and is then handed in. The last one never comes, but a Halt does.
 static MARKS: [u64; 5] = [9, 10, 8, 13, 14];
+
+/// How long the second side is kept before the flush, so that the first one sleeps by then, in milliseconds.
+const NAP: u64 = 20;
 
 /// What the sides tell one another.
 #[derive(Drop)]
@@ -72,7 +76,8 @@ fn egl(alloc: Global, kind: EglKind, numbers: [u32; 4]) -> Call
     )
 }
 
-fn played<R: Abort + Wait>(
+/// A call's reply.
+pub fn played<R: Abort + Wait>(
     rt: &R,
     alloc: Global,
     shared: &Shared,
@@ -191,7 +196,7 @@ impl Picker for Seeing {
 }
 
 // Destroys the fence's handle once the other side waits, and then flushes, each once the third side sleeps.
-fn frees<R: Abort + Wait>(
+fn frees<R: Abort + Wait + Clock>(
     rt: &R,
     alloc: Global,
     shared: &Shared,
@@ -213,6 +218,7 @@ fn frees<R: Abort + Wait>(
     let call = call_with(Kind::Own(OwnKind::Census), [0; 8], Numbers::new(alloc));
     played(rt, alloc, shared, thread, 10, call);
     scene.until_wanted(rt, 8);
+    thread::sleep(rt, Duration::from_millis(NAP));
     let call = call_with(Kind::Gl(GlKind::Flush), [0; 8], Numbers::new(alloc));
     played(rt, alloc, shared, thread, 11, call);
 }
@@ -281,7 +287,7 @@ fn sleeps<R: Abort + Wait>(
     }
 }
 
-fn one_side<R: Abort + Wait>(
+fn one_side<R: Abort + Wait + Clock>(
     rt: &R,
     alloc: Global,
     shared: &Shared,
@@ -300,7 +306,7 @@ fn one_side<R: Abort + Wait>(
 }
 
 /// The first of three tokens waits for the fence that the second one flushes, and the third sleeps until each of the marks has come.
-pub fn three_sides<R: Abort + Threads + Wait + Sync>(
+pub fn three_sides<R: Abort + Threads + Wait + Clock + Sync>(
     rt: &R,
     alloc: Global,
     shared: &Shared,

@@ -12,28 +12,24 @@ use Rattle.call_rules.specs.GlAllowed.{CopyPartAllowed}
 use Rattle.call_rules.proofs.GlLaws.{copy_part_allowed}
 use Rattle.pixel_rows.specs.Rects.{IsInSide, IsInside}
 use Rattle.rect_pipeline.specs.Copying.{moved}
-use Rattle.texture_objects.specs.Uploads.{IsSide}
 use Rattle.driver_objects.specs.Storages.{IsCopiedSide, StorageValue}
 use Rattle.egl_model.specs.Copies.{copied_part_rect}
-use Rattle.egl_model.specs.GlFacts.{copy_part_facts, gl_refusal, stored_facts}
+use Rattle.egl_model.specs.GlFacts.{copy_facts, copy_part_facts, gl_refusal, stored_facts}
 use Rattle.egl_model.specs.Objects.{storage_in}
 use Rattle.egl_model.specs.State.{State}
 use Rattle.egl_model.specs.Textures.{level_of, level_storage}
 use Rattle.model_laws.proofs.CopyCalls.{copy_passed}
-use Rattle.driver_core.proofs.LevelLaws.{level_few, second_false, side}
+use Rattle.thread_part.proofs.Givens.{copied_below as given_below, copied_high as given_high, copied_wide as given_wide}
 
 -- ---- glCopyTexImage2D.
-copied_side : (z : ℤ) → IsSide z → IsCopiedSide z
-copied_side z h = record { low = h.low; high = h.high }
-
 pub copied_wide : (s : State) (t n : ℕ) (c : CallValue) → c.kind ≡ Gl CopyTexImage2d → gl_refusal s t n CopyTexImage2d c ≡ None → IsCopiedSide (signed c 5)
-copied_wide s t n c h r = copied_side _ (side _ (signed c 5) (copy_passed s t n c h r).width)
+copied_wide s t n c h r = given_wide c (copy_facts s t c) (copy_passed s t n c h r)
 
 pub copied_high : (s : State) (t n : ℕ) (c : CallValue) → c.kind ≡ Gl CopyTexImage2d → gl_refusal s t n CopyTexImage2d c ≡ None → IsCopiedSide (signed c 6)
-copied_high s t n c h r = copied_side _ (side _ (signed c 6) (copy_passed s t n c h r).height)
+copied_high s t n c h r = given_high c (copy_facts s t c) (copy_passed s t n c h r)
 
 pub copied_below : (s : State) (t n : ℕ) (c : CallValue) → c.kind ≡ Gl CopyTexImage2d → gl_refusal s t n CopyTexImage2d c ≡ None → number c 1 < 11
-copied_below s t n c h r = level_few (signed c 1) (second_false _ _ (copy_passed s t n c h r).level)
+copied_below s t n c h r = given_below c (copy_facts s t c) (copy_passed s t n c h r)
 
 -- ---- glCopyTexSubImage2D.
 pub copy_part_passed : (s : State) (t n : ℕ) (c : CallValue) → c.kind ≡ Gl CopyTexSubImage2d → gl_refusal s t n CopyTexSubImage2d c ≡ None → CopyPartAllowed c (copy_part_facts s t n c)

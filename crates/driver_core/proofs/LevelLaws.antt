@@ -40,36 +40,6 @@ use Rattle.object_table.specs.Tables.{AreHolds, TableValue, weight_of}
 use Rattle.object_table.proofs.LeftLaws.{left_by_sweep, left_then}
 use Rattle.driver_core.specs.Costs.{IsCheap}
 
--- ---- What is known of a glTexImage2D that isn't refused.
-not_negative : (z : ℤ) → int_lt z (pos 0) ≡ false → pos 0 ≤ℤ z
-not_negative (pos n) h = omega (arith, ints)
-not_negative (negsuc n) h = absurd (cc)
-
-first_false : (a b : Bool) → (a || b) ≡ false → a ≡ false
-first_false true b h = h
-first_false false b h = refl
-
-pub second_false : (a b : Bool) → (a || b) ≡ false → b ≡ false
-second_false true b h = absurd (cc)
-second_false false b h = h
-
-high_side : (z : ℤ) → unsigned z ≤ 1024 → z ≤ℤ pos 1024
-high_side (pos n) h = omega (arith, ints, h)
-high_side (negsuc n) h = omega (arith, ints)
-
-pub side : (level : ℕ) (z : ℤ) → is_no_level_side level z ≡ false → IsSide z
-side level z h = record { low = not_negative z (first_false _ _ (first_false _ _ h)); high = high_side z (side_few level z h) }
-
-pub image_call : (c : CallValue) (f : GlFacts) → c.kind ≡ Gl TexImage2d → ImageAllowed c f → IsImageCall c
-image_call c f h a = record { kind = h; form = a.form; width = side _ (signed c 3) a.width; height = side _ (signed c 4) a.height }
-
-pub level_few : (z : ℤ) → int_lt (pos 10) z ≡ false → unsigned z < 11
-level_few (pos n) h = let e = ltb-false 10 n h in omega (arith, e)
-level_few (negsuc n) h = omega arith
-
-pub level_below : (c : CallValue) (f : GlFacts) → ImageAllowed c f → number c 1 < 11
-level_below c f a = level_few (signed c 1) (second_false _ _ a.level)
-
 -- ---- What is known of a glTexSubImage2D that isn't refused.
 stored_inside : (o : Option StorageValue) (r : Rect) → (stored_facts o).is_stored ≡ true → IsInside r (stored_facts o).stored_width (stored_facts o).stored_height → IfSome o (λ v. IsInside r v.width v.height)
 stored_inside None r h i = tt

@@ -8,6 +8,7 @@ ghost use Rattle.egl_model.specs.Buffers.{buffer_of, buffer_parameter, part_read
 ghost use Rattle.egl_model.specs.GlFacts.{buffer_facts, data_facts, gl_refusal};
 ghost use Rattle.egl_model.specs.OwnCalls.{buffer_refusal};
 ghost use Rattle.egl_model.specs.Step.{own_step};
+ghost use Rattle.driver_core.specs.Uploads.{refilled};
 
 use crate::machine::Driver;
 use buffer_objects::Buffer;
@@ -17,7 +18,7 @@ use egl_calls::arguments::{number, signed};
 use egl_calls::places::{BOUND_PNAME, BUFFER_SIZE, TARGET};
 use egl_calls::{Bytes, Call, GlError, NoMemory, Outcome, ReplyPair};
 use std::alloc::Global;
-use thread_part::{bare, read};
+use thread_part::{bare, new_contents, read};
 
 impl Driver {
     /// The number of the buffer on which a call works: of what the context has bound to the call's target.
@@ -66,22 +67,35 @@ impl Driver {
         }
     }
 
-    fn set_data_of(&mut self, buffer: u64, call: &Call) -> Result<(), NoMemory>
-        ensures ok { OnOk result (self.new ≡ record self.old { state = set_data call.now (Some buffer) self.old.state }) }
-        ensures err { OnErr result (self.new ≡ self.old) }
+    fn put_contents_of(&mut self, buffer: u64, contents: Buffer)
+        ensures { self.new ≡ record self.old { state = refilled contents (Some buffer) self.old.state } }
     {
-        self.objects.set_data(buffer, call)
+        self.objects.put_contents(buffer, contents);
+    }
+
+    /// Makes the buffer on which a glBufferData works what that leaves. It takes no memory.
+    pub(crate) fn put_contents(&mut self, context: u64, call: &Call, contents: Buffer)
+        ensures { self.new ≡ record self.old { state = refilled contents (target_buffer self.old.state context call.now) self.old.state } }
+    {
+        match self.target_buffer(context, call) {
+            Some(buffer) => self.put_contents_of(buffer, contents),
+            None => (),
+        }
     }
 
     /// Gives the buffer on which a glBufferData works its contents.
-    pub(crate) fn set_data(&mut self, context: u64, call: &Call) -> Result<(), NoMemory>
+    pub(crate) fn set_data(
+        &mut self,
+        alloc: Global,
+        context: u64,
+        call: &Call,
+    ) -> Result<(), NoMemory>
         ensures ok { OnOk result (self.new ≡ record self.old { state = set_data call.now (target_buffer self.old.state context call.now) self.old.state }) }
         ensures err { OnErr result (self.new ≡ self.old) }
     {
-        match self.target_buffer(context, call) {
-            Some(buffer) => self.set_data_of(buffer, call),
-            None => Ok(()),
-        }
+        let contents = new_contents(alloc, call)?;
+        self.put_contents(context, call, contents);
+        Ok(())
     }
 
     /// Writes the part of a buffer's contents that a glBufferSubData gives.

@@ -3,7 +3,7 @@ ghost use Rattle.std.specs.Prelude.{◌≡◌, ◌<◌, Some, None, IfOk, OnErr,
 ghost use Rattle.std.specs.Option.{option_map};
 ghost use Rattle.egl_calls.specs.declared.kinds.Kind.TheVariants.{Gl as GlCall};
 ghost use Rattle.egl_calls.specs.declared.kinds.GlKind.TheVariants.{CopyTexImage2d, CopyTexSubImage2d};
-ghost use Rattle.egl_model.specs.Copies.{copied, copied_bytes, copied_format, copied_level, copied_part, copied_part_rect, copied_rect, copies_nothing, read_image};
+ghost use Rattle.egl_model.specs.Copies.{copied, copied_bytes, copied_level, copied_part, copied_part_rect, read_image};
 ghost use Rattle.egl_model.specs.GlFacts.{copy_facts, copy_part_facts, gl_refusal, has_read_alpha, has_stored_alpha};
 ghost use Rattle.egl_model.specs.Objects.{storage_in};
 ghost use Rattle.egl_model.specs.Sweep.{sweep};
@@ -17,50 +17,24 @@ use driver_objects::Storage;
 use egl_calls::arguments::{number, signed};
 use egl_calls::places::{
     COPIED_HEIGHT, COPIED_PART_HEIGHT, COPIED_PART_WIDTH, COPIED_PART_X, COPIED_PART_Y,
-    COPIED_WIDTH, COPIED_X, COPIED_Y, INTERNAL_FORMAT, LEVEL, X_OFFSET, Y_OFFSET,
+    COPIED_WIDTH, LEVEL, X_OFFSET, Y_OFFSET,
 };
 use egl_calls::{Call, NoMemory};
-use egl_names::codes::GL_UNSIGNED_BYTE;
-use pixel_formats::{Format, bytes_of};
+use pixel_formats::bytes_of;
 use pixel_rows::Rect;
 use ref_store::Steps;
 use std::alloc::Global;
 use std::sync::ledger::Ledger;
-use texture_objects::{base_code, form_of};
-use thread_part::framebuffer_facts;
+use texture_objects::base_code;
+use thread_part::{copied_format, copied_rect, copies_nothing, framebuffer_facts};
 
-/// The format of the level that a glCopyTexImage2D gives: a byte for each component.
-fn copied_format(call: &Call) -> Format
-    ensures { result ≡ copied_format call.now }
-{
-    form_of(signed(call, INTERNAL_FORMAT), GL_UNSIGNED_BYTE as i64).unwrap_or(Format::Rgba8888)
-}
-
-/// The bytes of that level; a longer side is another refusal's.
+/// The bytes of the level that a glCopyTexImage2D gives; a longer side is another refusal's.
 fn copied_bytes(call: &Call) -> u64
     ensures { result ≡ copied_bytes call.now }
 {
     number(call, COPIED_WIDTH).min(LONGEST_SIDE)
         * number(call, COPIED_HEIGHT).min(LONGEST_SIDE)
         * bytes_of(copied_format(call)) as u64
-}
-
-fn copies_nothing(call: &Call) -> bool
-    ensures { result ≡ copies_nothing call.now }
-{
-    number(call, COPIED_WIDTH) == 0 || number(call, COPIED_HEIGHT) == 0
-}
-
-/// The rectangle that a glCopyTexImage2D reads.
-fn copied_rect(call: &Call) -> Rect
-    ensures { result ≡ copied_rect call.now }
-{
-    Rect {
-        x: signed(call, COPIED_X),
-        y: signed(call, COPIED_Y),
-        w: signed(call, COPIED_WIDTH),
-        h: signed(call, COPIED_HEIGHT),
-    }
 }
 
 /// The rectangle that a glCopyTexSubImage2D reads.

@@ -270,7 +270,7 @@ impl Driver {
                 Ok(valued(alloc, self.is_name(context, NameKind::Buffer, name)))
             }
             GlKind::BufferData => {
-                self.set_data(context, call)?;
+                self.set_data(alloc, context, call)?;
                 Ok(valued(alloc, 0))
             }
             GlKind::BufferSubData => {
@@ -492,6 +492,7 @@ impl Driver {
         ensures err { OnErr result (self.new ≡ self.old) }
         ensures memory { takes_no_memory call.now.kind ≡ true → IsOk result }
         ensures bare { is_bare self.old.state thread call.now.kind call.now ≡ true → IsOk result }
+        ensures waits { is_some (record_of self.old.state thread).wait ≡ true → IsOk result }
     {
         match self.record(thread).wait {
             Some(sync) => Ok(self.wait_step(alloc, thread, sync, call, steps)),
@@ -518,6 +519,7 @@ impl Driver {
         ensures err { OnErr result (self.new ≡ self.old) }
         ensures memory { takes_no_memory call.now.kind ≡ true → IsOk result }
         ensures bare { is_bare self.old.state thread call.now.kind call.now ≡ true → IsOk result }
+        ensures waits { is_some (record_of self.old.state thread).wait ≡ true → IsOk result }
     {
         self.apart();
         self.names_apart();
@@ -542,6 +544,7 @@ impl Driver {
         ensures err { OnErr result (self.new ≡ self.old) }
         ensures memory { takes_no_memory call.now.kind ≡ true → IsOk result }
         ensures bare { is_bare self.old.state thread call.now.kind call.now ≡ true → IsOk result }
+        ensures waits { is_some (record_of self.old.state thread).wait ≡ true → IsOk result }
     {
         self.apart();
         self.names_apart();

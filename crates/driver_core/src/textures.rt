@@ -1,45 +1,22 @@
 //! Textures (OpenGL ES 1.1, section 3.7).
-ghost use Rattle.std.specs.Prelude.{◌≡◌, ◌<◌, length, None, Some, IfOk, OnErr, OnOk};
+ghost use Rattle.std.specs.Prelude.{◌≡◌, ◌<◌, length, None, Some, OnErr, OnOk};
 ghost use Rattle.egl_calls.specs.declared.kinds.Kind.TheVariants.{Gl as GlCall};
 ghost use Rattle.egl_calls.specs.declared.kinds.GlKind.TheVariants.{TexImage2d, TexParameteriv, TexSubImage2d};
-ghost use Rattle.pixel_rows.specs.Transfers.{IsAlignment};
-ghost use Rattle.texture_objects.specs.Uploads.{IsImageCall};
 ghost use Rattle.egl_model.specs.Arguments.{number};
 ghost use Rattle.egl_model.specs.GlFacts.{gl_refusal};
 ghost use Rattle.egl_model.specs.Sweep.{sweep};
-ghost use Rattle.egl_model.specs.Textures.{has_no_side, level_of, level_storage, new_level, rewritten_part, set_crop, set_parameter, specified, target_texture, unpack_alignment};
+ghost use Rattle.egl_model.specs.Textures.{level_of, level_storage, new_level, rewritten_part, set_crop, set_parameter, specified, target_texture, unpack_alignment};
 ghost use Rattle.driver_core.specs.Costs.{IsCheap};
 
 use crate::machine::Driver;
 use driver_objects::{Object, Storage};
 use egl_calls::arguments::number;
-use egl_calls::places::{IMAGE_HEIGHT, IMAGE_WIDTH, LEVEL};
+use egl_calls::places::LEVEL;
 use egl_calls::{Call, NoMemory};
 use ref_store::Steps;
 use std::alloc::Global;
 use std::sync::ledger::Ledger;
-use texture_objects::tex_image;
-
-fn has_no_side(call: &Call) -> bool
-    ensures { result ≡ has_no_side call.now }
-{
-    number(call, IMAGE_WIDTH) == 0 || number(call, IMAGE_HEIGHT) == 0
-}
-
-/// The storage that a glTexImage2D gives a level: its pixels, frozen, and none where a side is 0.
-fn new_level(alloc: Global, call: &Call, align: u32) -> Result<Option<Storage>, NoMemory>
-    requires call { IsImageCall call.now }
-    requires alignment { IsAlignment align }
-    ensures { IfOk result (λ o. o ≡ new_level call.now align) }
-{
-    if has_no_side(call) {
-        return Ok(None);
-    }
-    match tex_image(alloc, call, align)?.freeze() {
-        Ok(image) => Ok(Some(Storage::new(image))),
-        Err(_) => Err(NoMemory),
-    }
-}
+use thread_part::new_level;
 
 impl Driver {
     /// The texture on which calls work: what the context has bound, or its texture 0.

@@ -1,8 +1,9 @@
 -- The answer to bytes, by what they spell.
 use Rattle.std.proofs.Common.{◌≡◌, ℕ, Bool, List, refl, Some}
 use Rattle.trace_reader.specs.Grammar.{trace}
-use Rattle.egl_cli.specs.declared.commands.Command.TheVariants.{Serial, Play, Check, Compose, Races}
-use Rattle.egl_cli.specs.Answers.{serial_answer, frames_answer, races_answer, check_answer, run_answer, run_frames, unreported, claim_answer, claimed, within_limit, answer_or_defect}
+use Rattle.egl_cli.specs.declared.commands.Command.TheVariants.{Serial, Play, Check, Compose, Scene, Races}
+use Rattle.egl_cli.specs.Answers.{serial_answer, frames_answer, races_answer, scene_answer, check_answer, drawn, run_answer, run_frames, unreported, claim_answer, claimed, within_limit, answer_or_defect}
+use Rattle.scene_reader.specs.Grammar.{scene}
 use Rattle.egl_cli.specs.BodyLines.{short_trace}
 use Rattle.egl_cli.specs.Says.{answer_of}
 
@@ -21,6 +22,10 @@ compose_is w h b = refl
 pub races_is : (b : List ℕ) → answer_of (Some Races) b ≡ within_limit b (answer_or_defect unreported (short_trace b))
 unfolding races_answer
 races_is b = refl
+
+pub scene_is : (b : List ℕ) → answer_of (Some Scene) b ≡ within_limit b (answer_or_defect drawn (scene b))
+unfolding scene_answer
+scene_is b = refl
 
 pub check_is : (b : List ℕ) → answer_of (Some Check) b ≡ within_limit b (answer_or_defect claim_answer (claimed b))
 unfolding check_answer

@@ -79,6 +79,7 @@ true_at b (Some cut) q c h is v =
       begins = q;
       t = c.trace;
       spelt = both.trace;
+      ordered = is;
       recorded = holds_alone c.trace (drop cut.front b) cut.line is (subst (λ (r : Result (List RecordedLine) Defect). IsOkAnd r (λ ls. verdict c.trace ls ≡ Holds)) (sym both.recording) v);
     }
 

@@ -66,13 +66,13 @@ module _ (w h : ℕ) where
     says_frames t bytes result r spelt (inr q) = wanted left rest source_failed before after sink_failed (Some (Compose w h)) result q
 
   -- ---- What statuses Ok and Stalled are worth.
-  module _ (b : List ℕ) (before after : Option (List ℕ)) (t : TraceValue) (spelt : Spells b t) (traced : IsTrace t) where
+  module _ (b : List ℕ) (before after : Option (List ℕ)) (t : TraceValue) (spells : Spells b t) where
     shown_by : (stalled : Bool) → is_stalled t (serial t) (state_behind t (serial t)) ≡ stalled → (journal_frames w h t (serial t) stalled).status ≡ Fine → Took before (journal_frames w h t (serial t) stalled).text after → AreFrames w h b before after
     shown_by true e s took = absurd (let f : Stalled ≡ Fine = s in cc)
-    shown_by false e s took = (t, spelt, (serial t, serial_plays t traced, not_stalled t e, took))
+    shown_by false e s took = (t, spells, (serial t, serial_plays t spells.ordered, not_stalled t e, took))
 
     stuck_by : (stalled : Bool) → is_stalled t (serial t) (state_behind t (serial t)) ≡ stalled → (journal_frames w h t (serial t) stalled).status ≡ Stalled → Took before (journal_frames w h t (serial t) stalled).text after → AreFramesStalled w h b before after
-    stuck_by true e s took = (t, spelt, (serial t, serial_plays t traced, e, took))
+    stuck_by true e s took = (t, spells, (serial t, serial_plays t spells.ordered, e, took))
     stuck_by false e s took = absurd (let f : Fine ≡ Stalled = s in cc)
 
     shown : (run_frames w h t).status ≡ Fine → Took before (run_frames w h t).text after → AreFrames w h b before after
@@ -85,11 +85,11 @@ module _ (w h : ℕ) where
 
   module _ (left rest before after : Option (List ℕ)) (failed : Type 0) (bytes : List ℕ) (result : Status) (r : WasRead left rest bytes) (t : TraceValue) (spelt : trace bytes ≡ Ok t) (traced : IsTrace t) where
     pub headline_frames : WroteIfMade before (run_frames w h t).text after failed (run_frames w h t).status result → result ≡ Fine → IsHeadline (Some (Compose w h)) left rest before after
-    headline_frames (inl (inl q)) s = (r.ended, where_told (λ b. AreFrames w h b before after) left rest bytes r (shown bytes before after t (r.within, spelt) traced (sym q.0 ∙ s) q.1))
+    headline_frames (inl (inl q)) s = (r.ended, where_told (λ b. AreFrames w h b before after) left rest bytes r (shown bytes before after t (record { within = r.within; spelt = spelt; ordered = traced }) (sym q.0 ∙ s) q.1))
     headline_frames (inl (inr q)) s = absurd (let f : WriteFault ≡ Fine = sym q.0 ∙ s in cc)
     headline_frames (inr q) s = absurd (let f : NoMemory ≡ Fine = sym q.0 ∙ s in cc)
 
     pub stalled_frames : WroteIfMade before (run_frames w h t).text after failed (run_frames w h t).status result → result ≡ Stalled → IsStalledHeadline (Some (Compose w h)) left rest before after
-    stalled_frames (inl (inl q)) s = (r.ended, where_told (λ b. AreFramesStalled w h b before after) left rest bytes r (stuck bytes before after t (r.within, spelt) traced (sym q.0 ∙ s) q.1))
+    stalled_frames (inl (inl q)) s = (r.ended, where_told (λ b. AreFramesStalled w h b before after) left rest bytes r (stuck bytes before after t (record { within = r.within; spelt = spelt; ordered = traced }) (sym q.0 ∙ s) q.1))
     stalled_frames (inl (inr q)) s = absurd (let f : WriteFault ≡ Stalled = sym q.0 ∙ s in cc)
     stalled_frames (inr q) s = absurd (let f : NoMemory ≡ Stalled = sym q.0 ∙ s in cc)

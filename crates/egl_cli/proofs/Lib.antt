@@ -8,5 +8,6 @@ pub mod FrameLaws
 pub mod ComposeLaws
 pub mod RaceLaws
 pub mod PlayLaws
+pub mod SceneLaws
 pub mod CheckLaws
 pub mod HeldLaws

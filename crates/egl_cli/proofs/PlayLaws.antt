@@ -4,6 +4,7 @@ use Rattle.std.specs.Prelude.{◌⊎◌}
 use Rattle.egl_calls.specs.declared.entries.Entry.{Entry}
 use Rattle.egl_flow.specs.Flow.{AtEnd}
 use Rattle.trace_reader.specs.Grammar.{trace}
+use Rattle.trace_reader.specs.Order.{IsTrace}
 use Rattle.trace_reader.specs.Traces.{TraceValue}
 use Rattle.trace_model.specs.Follows.{IsPlayOf}
 use Rattle.trace_model.specs.Stalled.{IsComplete, IsStalled}
@@ -44,9 +45,9 @@ module _ (left rest : Option (List ℕ)) (source_failed : Type 0) (before after 
   says_end a journal e s p (inr c) w = says_stuck journal e s p c.0 (subst WroteAs c.1 w)
 
   -- what is said where the bytes that were read spell a trace
-  pub says_play : (bytes : List ℕ) → WasRead left rest bytes → trace bytes ≡ Spelt t → WrotePlay how t before after sink_failed result → Promised result
-  says_play bytes r h (inl q) = says_end q.0 q.1.0 r.ended (where_told (λ b. Spells b t) left rest bytes r (r.within, h)) q.1.1 q.1.2 q.2
-  says_play bytes r h (inr q) = wanted left rest source_failed before after sink_failed (Some (Play how)) result q
+  pub says_play : (bytes : List ℕ) → WasRead left rest bytes → trace bytes ≡ Spelt t → IsTrace t → WrotePlay how t before after sink_failed result → Promised result
+  says_play bytes r h is (inl q) = says_end q.0 q.1.0 r.ended (where_told (λ b. Spells b t) left rest bytes r (record { within = r.within; spelt = h; ordered = is })) q.1.1 q.1.2 q.2
+  says_play bytes r h is (inr q) = wanted left rest source_failed before after sink_failed (Some (Play how)) result q
 
 pub whole_play : (how : Bool) (left rest : Option (List ℕ)) (source_failed : Type 0) (before after : Option (List ℕ)) (sink_failed : Type 0) (result : Status) → Says (Some (Play how)) left rest source_failed before after sink_failed result → IsWhole (Some (Play how)) left source_failed sink_failed result
 whole_play how None rest source_failed before after sink_failed result s = tt

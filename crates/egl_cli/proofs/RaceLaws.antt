@@ -113,11 +113,11 @@ module _ (left rest before after : Option (List ℕ)) (failed : Type 0) (bytes :
   Written a = Wrote before a.text after failed a.status result
 
   headline_by : (pairs : List Pair) → AreRacesOf t (serial t) pairs → Written (journal_races t (serial t) pairs (is_stalled t (serial t) (state_behind t (serial t)))) → result ≡ Fine → IsHeadline (Some Races) left rest before after
-  headline_by pairs all (inl q) s = (r.ended, where_told (λ b. AreRacesTold b before after) left rest bytes r (ended_by bytes before after t (r.within, short_is_one bytes t spelt) traced pairs all (is_stalled t (serial t) (state_behind t (serial t))) refl (sym q.0 ∙ s) q.1))
+  headline_by pairs all (inl q) s = (r.ended, where_told (λ b. AreRacesTold b before after) left rest bytes r (ended_by bytes before after t (record { within = r.within; spelt = short_is_one bytes t spelt; ordered = traced }) traced pairs all (is_stalled t (serial t) (state_behind t (serial t))) refl (sym q.0 ∙ s) q.1))
   headline_by pairs all (inr q) s = absurd (let f : WriteFault ≡ Fine = sym q.0 ∙ s in cc)
 
   stalled_by : (pairs : List Pair) → AreRacesOf t (serial t) pairs → Written (journal_races t (serial t) pairs (is_stalled t (serial t) (state_behind t (serial t)))) → result ≡ Stalled → IsStalledHeadline (Some Races) left rest before after
-  stalled_by pairs all (inl q) s = (r.ended, where_told (λ b. AreRacesToldStalled b before after) left rest bytes r (stuck_by bytes before after t (r.within, short_is_one bytes t spelt) traced pairs all (is_stalled t (serial t) (state_behind t (serial t))) refl (sym q.0 ∙ s) q.1))
+  stalled_by pairs all (inl q) s = (r.ended, where_told (λ b. AreRacesToldStalled b before after) left rest bytes r (stuck_by bytes before after t (record { within = r.within; spelt = short_is_one bytes t spelt; ordered = traced }) traced pairs all (is_stalled t (serial t) (state_behind t (serial t))) refl (sym q.0 ∙ s) q.1))
   stalled_by pairs all (inr q) s = absurd (let f : WriteFault ≡ Stalled = sym q.0 ∙ s in cc)
 
   pub headline_races : WroteRaces t before after failed result → result ≡ Fine → IsHeadline (Some Races) left rest before after

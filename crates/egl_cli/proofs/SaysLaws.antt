@@ -12,7 +12,7 @@ use Rattle.egl_cli.specs.declared.statuses.Status.{Status}
 use Rattle.egl_cli.specs.declared.statuses.Status.TheVariants.{Ok as Fine, Usage, ReadFault, Malformed, WriteFault, NoMemory, TooLong}
 use Rattle.egl_cli.specs.declared.answers.Answer.{Answer}
 use Rattle.egl_cli.specs.declared.commands.Command.{Command}
-use Rattle.egl_cli.specs.declared.commands.Command.TheVariants.{Serial, Play, Check, Configs, Generate, Compose, Races}
+use Rattle.egl_cli.specs.declared.commands.Command.TheVariants.{Serial, Play, Check, Configs, Generate, Compose, Scene, Races}
 use Rattle.egl_cli.specs.declared.inputs.InputError.{InputError}
 use Rattle.egl_cli.specs.declared.inputs.InputError.TheVariants.{ReadFault as Unread, TooLong as Overlong, Malformed as Defective, NoMemory as Unmade}
 use Rattle.egl_cli.specs.Answers.{within_limit, answer_or_defect, malformed_text, usage_text, read_fault_text, too_long_text, most_input}
@@ -49,6 +49,8 @@ meant (Some Configs) p left failed a w = absurd p
 meant (Some (Generate lines threads seed)) p left failed a w = absurd p
 meant (Some (Compose width height)) p None failed a w = tt
 meant (Some (Compose width height)) p (Some b) failed a w = inl (ap (λ (x : Answer). x.text) (sym w))
+meant (Some Scene) p None failed a w = tt
+meant (Some Scene) p (Some b) failed a w = inl (ap (λ (x : Answer). x.text) (sym w))
 meant (Some Races) p None failed a w = tt
 meant (Some Races) p (Some b) failed a w = inl (inl (ap (λ (x : Answer). x.text) (sym w)))
 
@@ -64,6 +66,8 @@ meant_fault (Some Configs) p left failed f = absurd p
 meant_fault (Some (Generate lines threads seed)) p left failed f = absurd p
 meant_fault (Some (Compose width height)) p None failed f = tt
 meant_fault (Some (Compose width height)) p (Some b) failed f = inr (refl, f)
+meant_fault (Some Scene) p None failed f = tt
+meant_fault (Some Scene) p (Some b) failed f = inr (refl, f)
 meant_fault (Some Races) p None failed f = tt
 meant_fault (Some Races) p (Some b) failed f = inr (refl, f)
 
@@ -96,7 +100,7 @@ module _ (left rest : Option (List ℕ)) (source_failed : Type 0) (before after 
   pub wanted : (command : Option Command) (result : Status) → ((result ≡ NoMemory) × Took before [] after) → Promises command result
   wanted command result w = subst (Promises command) (sym w.0) w.1
 
-  pub says_usage : (command : Option Command) (result : Status) → command ≡ None → rest ≡ left → Written (codes "usage: egl_cli serial | play [summary] | check | configs | gen N THREADS SEED | compose W H | races\n") Usage result → Promises command result
+  pub says_usage : (command : Option Command) (result : Status) → command ≡ None → rest ≡ left → Written (codes "usage: egl_cli serial | play [summary] | check | configs | gen N THREADS SEED | compose W H | scene | races\n") Usage result → Promises command result
   unfolding usage_text
   says_usage (Some x) result h e q = absurd (let f : Some x ≡ None = h in cc)
   says_usage None result h e (inl q) = subst (Promises None) (sym q.0) (refl, e, q.1)

@@ -38,13 +38,13 @@ module _ (left rest : Option (List ℕ)) (source_failed : Type 0) (before after 
   says_serial t bytes result r h (inr q) = wanted left rest source_failed before after sink_failed (Some Serial) result q
 
 -- ---- What statuses Ok and Stalled are worth.
-module _ (b : List ℕ) (before after : Option (List ℕ)) (t : TraceValue) (spelt : Spells b t) (traced : IsTrace t) where
+module _ (b : List ℕ) (before after : Option (List ℕ)) (t : TraceValue) (spells : Spells b t) where
   recorded_by : (stalled : Bool) → is_stalled t (serial t) (state_behind t (serial t)) ≡ stalled → (journal_answer false t (serial t) stalled).status ≡ Fine → Took before (journal_answer false t (serial t) stalled).text after → IsTold false b before after
   recorded_by true h s w = absurd (let f : Stalled ≡ Fine = s in cc)
-  recorded_by false h s w = ((journal_answer false t (serial t) false).text, (t, spelt, (serial t, serial_plays t traced, not_stalled t h, refl)), w)
+  recorded_by false h s w = ((journal_answer false t (serial t) false).text, (t, spells, (serial t, serial_plays t spells.ordered, not_stalled t h, refl)), w)
 
   stalled_by : (stalled : Bool) → is_stalled t (serial t) (state_behind t (serial t)) ≡ stalled → (journal_answer false t (serial t) stalled).status ≡ Stalled → Took before (journal_answer false t (serial t) stalled).text after → IsToldStalled false b before after
-  stalled_by true h s w = ((journal_answer false t (serial t) true).text, (t, spelt, (serial t, serial_plays t traced, h, refl)), w)
+  stalled_by true h s w = ((journal_answer false t (serial t) true).text, (t, spells, (serial t, serial_plays t spells.ordered, h, refl)), w)
   stalled_by false h s w = absurd (let f : Fine ≡ Stalled = s in cc)
 
   recorded : (run_answer t).status ≡ Fine → Took before (run_answer t).text after → IsTold false b before after
@@ -57,11 +57,11 @@ module _ (b : List ℕ) (before after : Option (List ℕ)) (t : TraceValue) (spe
 
 module _ (left rest before after : Option (List ℕ)) (failed : Type 0) (bytes : List ℕ) (result : Status) (r : WasRead left rest bytes) (t : TraceValue) (h : trace bytes ≡ Ok t) (traced : IsTrace t) where
   pub headline_serial : WroteIfMade before (run_answer t).text after failed (run_answer t).status result → result ≡ Fine → IsHeadline (Some Serial) left rest before after
-  headline_serial (inl (inl q)) s = (r.ended, where_told (λ b. IsTold false b before after) left rest bytes r (recorded bytes before after t (r.within, h) traced (sym q.0 ∙ s) q.1))
+  headline_serial (inl (inl q)) s = (r.ended, where_told (λ b. IsTold false b before after) left rest bytes r (recorded bytes before after t (record { within = r.within; spelt = h; ordered = traced }) (sym q.0 ∙ s) q.1))
   headline_serial (inl (inr q)) s = absurd (let f : WriteFault ≡ Fine = sym q.0 ∙ s in cc)
   headline_serial (inr q) s = absurd (let f : NoMemory ≡ Fine = sym q.0 ∙ s in cc)
 
   pub stalled_serial : WroteIfMade before (run_answer t).text after failed (run_answer t).status result → result ≡ Stalled → IsStalledHeadline (Some Serial) left rest before after
-  stalled_serial (inl (inl q)) s = (r.ended, where_told (λ b. IsToldStalled false b before after) left rest bytes r (recorded_stalled bytes before after t (r.within, h) traced (sym q.0 ∙ s) q.1))
+  stalled_serial (inl (inl q)) s = (r.ended, where_told (λ b. IsToldStalled false b before after) left rest bytes r (recorded_stalled bytes before after t (record { within = r.within; spelt = h; ordered = traced }) (sym q.0 ∙ s) q.1))
   stalled_serial (inl (inr q)) s = absurd (let f : WriteFault ≡ Stalled = sym q.0 ∙ s in cc)
   stalled_serial (inr q) s = absurd (let f : NoMemory ≡ Stalled = sym q.0 ∙ s in cc)

@@ -21,6 +21,9 @@ use Rattle.trace_check.specs.declared.verdicts.Verdict.{Verdict}
 use Rattle.race_report.specs.declared.reports.Pair.{Pair}
 use Rattle.race_report.specs.Replays.{AreRacesOf}
 use Rattle.trace_check.specs.declared.verdicts.Verdict.TheVariants.{Holds, Differs as DiffersAt, Incomplete}
+use Rattle.scene_reader.specs.Grammar.{scene}
+use Rattle.scene_reader.specs.Scenes.{SceneValue}
+use Rattle.scene_trace.specs.Lines.{scene_text}
 use Rattle.egl_cli.specs.Frames.{frames_text}
 use Rattle.egl_cli.specs.BodyLines.{short_trace}
 use Rattle.egl_cli.specs.RaceLines.{races_text}
@@ -30,7 +33,7 @@ use Rattle.egl_cli.specs.declared.answers.Answer.{Answer}
 use Rattle.egl_cli.specs.declared.inputs.Claim.{Claim}
 
 unfoldable pub usage_text : List ℕ
-usage_text = codes "usage: egl_cli serial | play [summary] | check | configs | gen N THREADS SEED | compose W H | races\n"
+usage_text = codes "usage: egl_cli serial | play [summary] | check | configs | gen N THREADS SEED | compose W H | scene | races\n"
 
 unfoldable pub read_fault_text : List ℕ
 read_fault_text = codes "read fault\n"
@@ -103,6 +106,11 @@ IsRacesAnswer t a = IsJournalRaces t (serial t) (is_stalled t (serial t) (state_
 abbrev pub unreported : TraceValue → Answer
 unreported t = record { status = (run_answer t).status; text = [] }
 
+-- ---- Of a scene.
+-- the trace that draws it
+abbrev pub drawn : SceneValue → Answer
+drawn s = record { status = Fine; text = scene_text s }
+
 -- ---- Of a recording behind its trace.
 abbrev pub with_lines : TraceValue → Result (List RecordedLine) Defect → Result Claim Defect
 with_lines t (Ok lines) = Ok (record { trace = t; recording = lines })
@@ -154,6 +162,10 @@ frames_answer w h b = within_limit b (answer_or_defect (run_frames w h) (trace b
 -- the answer of `races`, but for the text where the bytes spell a trace
 unfoldable pub races_answer : List ℕ → Answer
 races_answer b = within_limit b (answer_or_defect unreported (short_trace b))
+
+-- the answer of `scene`
+unfoldable pub scene_answer : List ℕ → Answer
+scene_answer b = within_limit b (answer_or_defect drawn (scene b))
 
 -- the answer of `check`
 unfoldable pub check_answer : List ℕ → Answer

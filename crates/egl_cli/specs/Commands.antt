@@ -3,12 +3,12 @@ use Rattle.std.specs.Prelude.{ℕ, ◌==◌, ◌&&◌, ◌||◌, ◌<◌, ◌≤
 use Rattle.std.specs.Str.{bytes_eq}
 use Rattle.trace_reader.specs.Numerals.{numeral}
 use Rattle.egl_cli.specs.declared.commands.Command.{Command}
-use Rattle.egl_cli.specs.declared.commands.Command.TheVariants.{Serial, Play, Check, Configs, Generate, Compose, Races}
+use Rattle.egl_cli.specs.declared.commands.Command.TheVariants.{Serial, Play, Check, Configs, Generate, Compose, Scene, Races}
 
 -- the command with a name of one word
 abbrev pub command_named : List ℕ → Option Command
 command_named word =
-    if bytes_eq word (codes "serial") then Some Serial else if bytes_eq word (codes "play") then Some (Play false) else if bytes_eq word (codes "check") then Some Check else if bytes_eq word (codes "configs") then Some Configs else if bytes_eq word (codes "races") then Some Races else None
+    if bytes_eq word (codes "serial") then Some Serial else if bytes_eq word (codes "play") then Some (Play false) else if bytes_eq word (codes "check") then Some Check else if bytes_eq word (codes "configs") then Some Configs else if bytes_eq word (codes "scene") then Some Scene else if bytes_eq word (codes "races") then Some Races else None
 
 -- the command with a name of two words
 abbrev pub command_told : List ℕ → List ℕ → Option Command
@@ -52,6 +52,7 @@ without_play (Some Check) = Some Check
 without_play (Some Configs) = Some Configs
 without_play (Some (Generate lines threads seed)) = Some (Generate lines threads seed)
 without_play (Some (Compose width height)) = Some (Compose width height)
+without_play (Some Scene) = Some Scene
 without_play (Some Races) = Some Races
 
 -- the command that the words are without threads
@@ -67,4 +68,5 @@ HasSize (Some Check) = Unit {0}
 HasSize (Some Configs) = Unit {0}
 HasSize (Some (Generate lines threads seed)) = (lines ≤ 90000) × (0 < threads) × (threads ≤ 16)
 HasSize (Some (Compose width height)) = (0 < width) × (width ≤ 2048) × (0 < height) × (height ≤ 2048)
+HasSize (Some Scene) = Unit {0}
 HasSize (Some Races) = Unit {0}

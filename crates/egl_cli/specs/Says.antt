@@ -5,6 +5,7 @@ use Rattle.egl_flow.specs.Flow.{AtEnd, Took, TookFront}
 use Rattle.egl_flow.specs.Causes.{GavePast, GaveWithin}
 use Rattle.trace_reader.specs.Traces.{TraceValue}
 use Rattle.trace_reader.specs.Grammar.{trace}
+use Rattle.trace_reader.specs.Order.{IsTrace}
 use Rattle.trace_model.specs.Follows.{IsPlayOf}
 use Rattle.trace_model.specs.Stalled.{IsComplete, IsStalled}
 use Rattle.trace_gen.specs.Generated.{generated}
@@ -13,6 +14,11 @@ use Rattle.journal_text.specs.declared.cuts.Cut.{Cut}
 use Rattle.trace_check.specs.Recordings.{IsRecording}
 use Rattle.race_report.specs.declared.reports.Pair.{Pair}
 use Rattle.race_report.specs.Replays.{AreRacesOf}
+use Rattle.scene_reader.specs.Grammar.{scene}
+use Rattle.scene_reader.specs.Scenes.{SceneValue}
+use Rattle.sprite_scene.specs.Calls.{calls_of}
+use Rattle.sprite_scene.specs.Runs.{Draws}
+use Rattle.scene_trace.specs.Lines.{trace_of}
 use Rattle.egl_cli.specs.Frames.{frames_text}
 use Rattle.egl_cli.specs.BodyLines.{short_trace}
 use Rattle.egl_cli.specs.RaceLines.{races_text}
@@ -21,10 +27,10 @@ use Rattle.egl_cli.specs.declared.answers.Answer.{Answer}
 use Rattle.egl_cli.specs.declared.statuses.Status.{Status}
 use Rattle.egl_cli.specs.declared.statuses.Status.TheVariants.{Ok, Usage, ReadFault, Malformed, WriteFault, Stalled, NoMemory, TooLong, Differs}
 use Rattle.egl_cli.specs.declared.commands.Command.{Command}
-use Rattle.egl_cli.specs.declared.commands.Command.TheVariants.{Serial, Play, Check, Configs, Generate, Compose, Races}
+use Rattle.egl_cli.specs.declared.commands.Command.TheVariants.{Serial, Play, Check, Configs, Generate, Compose, Scene, Races}
 use Rattle.egl_cli.specs.declared.inputs.InputError.{InputError}
 use Rattle.egl_cli.specs.declared.inputs.InputError.TheVariants.{ReadFault as Unread, TooLong as Overlong, Malformed as Defective, NoMemory as Unmade}
-use Rattle.egl_cli.specs.Answers.{told, serial_answer, frames_answer, races_answer, check_answer, IsPlayAnswer, IsRacesAnswer, malformed_text, usage_text, read_fault_text, too_long_text, most_input}
+use Rattle.egl_cli.specs.Answers.{told, serial_answer, frames_answer, races_answer, scene_answer, check_answer, IsPlayAnswer, IsRacesAnswer, malformed_text, usage_text, read_fault_text, too_long_text, most_input}
 use Rattle.egl_cli.specs.ConfigLines.{configs_text}
 
 -- a fact of the bytes of the input, where the source tells them
@@ -60,9 +66,11 @@ WroteRefusal Unmade before after failed result = (result ≡ NoMemory) × Took b
 abbrev pub IsAnswered : Answer → Option (List ℕ) → Option (List ℕ) → Status → Type 0
 IsAnswered a before after status = (a.status ≡ status) × Took before a.text after
 
--- the bytes spell a trace, within the limit
-abbrev pub Spells : List ℕ → TraceValue → Type 0
-Spells b t = (length b ≤ most_input) × (trace b ≡ Spelt t)
+-- the bytes spell a trace, within the limit, and it is what each trace is: so the recording of a journal that plays it tells that journal
+pub record Spells (b : List ℕ) (t : TraceValue) : Type 0 where
+  pub within : length b ≤ most_input
+  pub spelt : trace b ≡ Spelt t
+  pub ordered : IsTrace t
 
 -- the bytes spell a trace, and a text is what is told of a journal that plays it to the end of all threads
 abbrev pub IsToldOf : Bool → List ℕ → List ℕ → Type 0
@@ -111,12 +119,17 @@ IsRacesText b text = (text ≡ (races_answer b).text) ⊎ ((a : Answer) × Answe
 abbrev pub IsPlayText : Bool → List ℕ → List ℕ → Type 0
 IsPlayText how b text = (text ≡ (serial_answer b).text) ⊎ (IsToldOf how b text ⊎ IsToldStalledOf how b text)
 
+-- the bytes spell a scene, and what was written spells the trace of calls that draw it: made in order each is done, and the last one has the bytes of the scene's picture
+abbrev pub IsDrawn : List ℕ → Option (List ℕ) → Option (List ℕ) → Type 0
+IsDrawn b before after = (s : SceneValue) × (length b ≤ most_input) × (scene b ≡ Spelt s) × ((text : List ℕ) × (trace text ≡ Spelt (trace_of (calls_of s))) × Draws s (calls_of s) × Took before text after)
+
 -- the bytes are a trace and behind it, byte for byte, the recording of a journal that plays it to the end of all threads
 pub record IsClaimTrue (b : List ℕ) : Type 0 where
   pub cut : Cut
   pub begins : cut_recording b ≡ Some cut
   pub t : TraceValue
   pub spelt : trace (take cut.front b) ≡ Spelt t
+  pub ordered : IsTrace t
   pub recorded : IsRecording t (drop cut.front b)
 
 -- ---- What each status promises.
@@ -129,6 +142,7 @@ ReadsInput (Some Check) = Unit {0}
 ReadsInput (Some Configs) = ⊥
 ReadsInput (Some (Generate lines threads seed)) = ⊥
 ReadsInput (Some (Compose width height)) = Unit {0}
+ReadsInput (Some Scene) = Unit {0}
 ReadsInput (Some Races) = Unit {0}
 
 -- the answer of a command to the bytes; that of `play`, which isn't one alone, where there is no trace to play
@@ -140,6 +154,7 @@ answer_of (Some Check) b = check_answer b
 answer_of (Some Configs) b = record { status = Ok; text = configs_text }
 answer_of (Some (Generate lines threads seed)) b = record { status = Ok; text = generated lines threads seed }
 answer_of (Some (Compose width height)) b = frames_answer width height b
+answer_of (Some Scene) b = scene_answer b
 answer_of (Some Races) b = races_answer b
 
 -- a text that was to be written, by the command: an answer's, or of those that read that of a read fault where the source failed
@@ -151,6 +166,7 @@ IsMeant (Some Check) left source_failed text = WhereTold left (λ b. (text ≡ (
 IsMeant (Some Configs) left source_failed text = text ≡ configs_text
 IsMeant (Some (Generate lines threads seed)) left source_failed text = text ≡ generated lines threads seed
 IsMeant (Some (Compose width height)) left source_failed text = WhereTold left (λ b. (text ≡ (frames_answer width height b).text) ⊎ ((text ≡ read_fault_text) × source_failed))
+IsMeant (Some Scene) left source_failed text = WhereTold left (λ b. (text ≡ (scene_answer b).text) ⊎ ((text ≡ read_fault_text) × source_failed))
 IsMeant (Some Races) left source_failed text = WhereTold left (λ b. IsRacesText b text ⊎ ((text ≡ read_fault_text) × source_failed))
 
 -- what status Ok promises, by the command
@@ -162,6 +178,7 @@ WentWell (Some Check) left rest before after = AtEnd rest × WhereTold left (λ 
 WentWell (Some Configs) left rest before after = (rest ≡ left) × Took before configs_text after
 WentWell (Some (Generate lines threads seed)) left rest before after = (rest ≡ left) × Took before (generated lines threads seed) after
 WentWell (Some (Compose width height)) left rest before after = AtEnd rest × WhereTold left (λ b. IsAnswered (frames_answer width height b) before after Ok)
+WentWell (Some Scene) left rest before after = AtEnd rest × WhereTold left (λ b. IsAnswered (scene_answer b) before after Ok)
 WentWell (Some Races) left rest before after = AtEnd rest × WhereTold left (λ b. WroteReport b before after Ok)
 
 -- what status Stalled promises, by the command
@@ -173,6 +190,7 @@ GotStuck (Some Check) left rest before after = ⊥
 GotStuck (Some Configs) left rest before after = ⊥
 GotStuck (Some (Generate lines threads seed)) left rest before after = ⊥
 GotStuck (Some (Compose width height)) left rest before after = AtEnd rest × WhereTold left (λ b. IsAnswered (frames_answer width height b) before after Stalled)
+GotStuck (Some Scene) left rest before after = ⊥
 GotStuck (Some Races) left rest before after = AtEnd rest × WhereTold left (λ b. WroteReport b before after Stalled)
 
 -- what status Differs promises, by the command
@@ -184,6 +202,7 @@ GotDifference (Some Check) left rest before after = AtEnd rest × WhereTold left
 GotDifference (Some Configs) left rest before after = ⊥
 GotDifference (Some (Generate lines threads seed)) left rest before after = ⊥
 GotDifference (Some (Compose width height)) left rest before after = ⊥
+GotDifference (Some Scene) left rest before after = ⊥
 GotDifference (Some Races) left rest before after = ⊥
 
 -- by the status: the command that the words are; what the source had left before and has left now, and that it failed; what the sink had taken before and has taken now, and that it failed
@@ -207,6 +226,7 @@ WantsMemory (Some Check) left rest faults_before faults = (faults ≡ faults_bef
 WantsMemory (Some Configs) left rest faults_before faults = Unit {0}
 WantsMemory (Some (Generate lines threads seed)) left rest faults_before faults = Unit {0}
 WantsMemory (Some (Compose width height)) left rest faults_before faults = (faults ≡ faults_before) × GaveWithin left rest most_input
+WantsMemory (Some Scene) left rest faults_before faults = (faults ≡ faults_before) × GaveWithin left rest most_input
 WantsMemory (Some Races) left rest faults_before faults = (faults ≡ faults_before) × GaveWithin left rest most_input
 
 -- words that read nothing leave the source alone: what it has left, and its count of faults
@@ -218,9 +238,10 @@ IsUnread (Some Check) left rest faults_before faults = Unit {0}
 IsUnread (Some Configs) left rest faults_before faults = (rest ≡ left) × (faults ≡ faults_before)
 IsUnread (Some (Generate lines threads seed)) left rest faults_before faults = (rest ≡ left) × (faults ≡ faults_before)
 IsUnread (Some (Compose width height)) left rest faults_before faults = Unit {0}
+IsUnread (Some Scene) left rest faults_before faults = Unit {0}
 IsUnread (Some Races) left rest faults_before faults = Unit {0}
 
--- what status Ok is worth, by the command: of `serial`, `play`, `compose` and `races` a journal that plays the trace to its end, of `check` such a journal whose recording the bytes are, of the others their text
+-- what status Ok is worth, by the command: of `serial`, `play`, `compose` and `races` a journal that plays the trace to its end, of `check` such a journal whose recording the bytes are, of `scene` the picture that the written calls leave, of the others their text
 abbrev pub IsHeadline : Option Command → Option (List ℕ) → Option (List ℕ) → Option (List ℕ) → Option (List ℕ) → Type 0
 IsHeadline None left rest before after = ⊥
 IsHeadline (Some Serial) left rest before after = AtEnd rest × WhereTold left (λ b. IsTold false b before after)
@@ -229,6 +250,7 @@ IsHeadline (Some Check) left rest before after = AtEnd rest × WhereTold left (�
 IsHeadline (Some Configs) left rest before after = (rest ≡ left) × Took before configs_text after
 IsHeadline (Some (Generate lines threads seed)) left rest before after = (rest ≡ left) × Took before (generated lines threads seed) after
 IsHeadline (Some (Compose width height)) left rest before after = AtEnd rest × WhereTold left (λ b. AreFrames width height b before after)
+IsHeadline (Some Scene) left rest before after = AtEnd rest × WhereTold left (λ b. IsDrawn b before after)
 IsHeadline (Some Races) left rest before after = AtEnd rest × WhereTold left (λ b. AreRacesTold b before after)
 
 -- what status Stalled is worth: the command plays a trace, and a journal plays it as far as its threads can go
@@ -240,6 +262,7 @@ IsStalledHeadline (Some Check) left rest before after = ⊥
 IsStalledHeadline (Some Configs) left rest before after = ⊥
 IsStalledHeadline (Some (Generate lines threads seed)) left rest before after = ⊥
 IsStalledHeadline (Some (Compose width height)) left rest before after = AtEnd rest × WhereTold left (λ b. AreFramesStalled width height b before after)
+IsStalledHeadline (Some Scene) left rest before after = ⊥
 IsStalledHeadline (Some Races) left rest before after = AtEnd rest × WhereTold left (λ b. AreRacesToldStalled b before after)
 
 -- a status that `play` may answer to the bytes: that of `serial`, but a trace may come to its end in one run and stall in another
@@ -255,4 +278,5 @@ IsWhole (Some Check) left source_failed sink_failed status = WhereTold left (λ 
 IsWhole (Some Configs) left source_failed sink_failed status = ¬ sink_failed → (status ≡ Ok) ⊎ (status ≡ NoMemory)
 IsWhole (Some (Generate lines threads seed)) left source_failed sink_failed status = ¬ sink_failed → (status ≡ Ok) ⊎ (status ≡ NoMemory)
 IsWhole (Some (Compose width height)) left source_failed sink_failed status = WhereTold left (λ b. ¬ source_failed → ¬ sink_failed → ((frames_answer width height b).status ≡ status) ⊎ (status ≡ NoMemory))
+IsWhole (Some Scene) left source_failed sink_failed status = WhereTold left (λ b. ¬ source_failed → ¬ sink_failed → ((scene_answer b).status ≡ status) ⊎ (status ≡ NoMemory))
 IsWhole (Some Races) left source_failed sink_failed status = WhereTold left (λ b. ¬ source_failed → ¬ sink_failed → ((races_answer b).status ≡ status) ⊎ (status ≡ NoMemory))

@@ -31,6 +31,8 @@ pub enum Command {
     Generate { lines: u64, threads: u32, seed: u64 },
     /// Plays a trace by turns, and prints the frames of a screen of these sides.
     Compose { width: u32, height: u32 },
+    /// Prints the trace that draws a scene.
+    Scene,
     /// Plays a trace by turns, and prints which of its calls race.
     Races,
 }
@@ -46,6 +48,8 @@ fn command_named(word: &[u8]) -> Option<Command>
         Some(Command::Check)
     } else if word == b"configs".as_slice() {
         Some(Command::Configs)
+    } else if word == b"scene".as_slice() {
+        Some(Command::Scene)
     } else if word == b"races".as_slice() {
         Some(Command::Races)
     } else {

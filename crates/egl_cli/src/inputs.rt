@@ -1,7 +1,8 @@
-//! What the program reads: a trace, or a trace and a recording behind it, or why there is none.
+//! What the program reads: a trace, a trace and a recording behind it, or a scene, or why there is none.
 ghost use Rattle.std.specs.Prelude.{◌≡◌, ◌≤◌, length, IfOk, IfErr};
 ghost use Rattle.trace_reader.specs.Grammar.{trace};
 ghost use Rattle.trace_reader.specs.Reading.{Gives};
+ghost use Rattle.scene_reader.specs.Grammar.{scene};
 ghost use Rattle.egl_cli.specs.Answers.{claimed};
 ghost use Rattle.egl_cli.specs.BodyLines.{short_trace};
 ghost use Rattle.egl_cli.specs.Inputs.{GivesBytes, GivesNoBytes, GivesSpelled, GivesNone};
@@ -10,6 +11,7 @@ use crate::body_lines::short_trace;
 use egl_calls::Bytes;
 use egl_flow::{ReadError, Source, read_all};
 use journal_text::{Recording, cut_recording, line_behind, read_slice};
+use scene_reader::Scene;
 use std::alloc::Global;
 use trace_reader::{Reason, Trace, TraceError};
 
@@ -75,6 +77,22 @@ pub fn read_short_trace<S: Source>(alloc: Global, source: &mut S) -> Result<Trac
     };
     match short_trace(alloc, bytes.as_slice()) {
         Ok(trace) => Ok(trace),
+        Err(TraceError::Malformed { line, reason }) => Err(InputError::Malformed { line, reason }),
+        Err(TraceError::NoMemory) => Err(InputError::NoMemory),
+    }
+}
+
+/// Reads a source to its end, and then the scene that its bytes spell.
+pub fn read_scene<S: Source>(alloc: Global, source: &mut S) -> Result<Scene, InputError>
+    ensures scene { IfOk result (GivesSpelled scene (S.left source.old) (S.left source.new) (S.faults source.old) (S.faults source.new)) }
+    ensures cause { IfErr result (GivesNone scene (S.left source.old) (S.left source.new) (S.faults source.old) (S.faults source.new)) }
+{
+    let bytes = match read_input(alloc, source) {
+        Ok(bytes) => bytes,
+        Err(error) => return Err(error),
+    };
+    match Scene::read(alloc, &bytes) {
+        Ok(scene) => Ok(scene),
         Err(TraceError::Malformed { line, reason }) => Err(InputError::Malformed { line, reason }),
         Err(TraceError::NoMemory) => Err(InputError::NoMemory),
     }

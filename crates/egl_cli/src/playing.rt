@@ -1,6 +1,7 @@
 //! The command `play`, and the top call of a program that may start threads.
 ghost use Rattle.std.specs.Prelude.{◌≡◌, Some, IfOk};
 ghost use Rattle.egl_flow.specs.Flow.{HasRisen};
+ghost use Rattle.trace_reader.specs.Order.{IsTrace};
 ghost use Rattle.egl_cli.specs.Answers.{IsPlayAnswer};
 ghost use Rattle.egl_cli.specs.Says.{Says, WrotePlay, WantsMemory, IsUnread, IsHeadline, IsStalledHeadline, IsWhole};
 ghost use Rattle.egl_cli.specs.Commands.{command_of};
@@ -46,8 +47,10 @@ fn tell_play<R: Threads + Wait + Sync, K: Sink, G: Gate + Sync>(
     trace: &Trace,
     gate: &G,
 ) -> Status
+    ensures trace { IsTrace trace.now }
     ensures wrote { WrotePlay summary trace.now (K.taken sink.old) (K.taken sink.new) (HasRisen (K.faults sink.old) (K.faults sink.new)) result }
 {
+    trace.lines();
     match play_answer(rt, alloc, summary, trace, gate) {
         Ok(answer) => finish(sink, answer.status, answer.text.as_slice()),
         Err(_) => Status::NoMemory,
@@ -101,6 +104,7 @@ pub fn top<R: Threads + Wait + Sync, S: Source, K: Sink, G: Gate + Sync>(
             | Command::Configs
             | Command::Generate { .. }
             | Command::Compose { .. }
+            | Command::Scene
             | Command::Races,
         )
         | None => plain(alloc, words, source, sink),

@@ -1,8 +1,12 @@
 //! The top call without threads: words and a source in, a status and a sink's bytes out.
-ghost use Rattle.std.specs.Prelude.{◌≡◌, ◌<◌, ◌≤◌, Some};
+ghost use Rattle.std.specs.Prelude.{◌≡◌, ◌<◌, ◌≤◌, Some, Ok as Spelt};
 ghost use Rattle.egl_flow.specs.Flow.{HasRisen};
 ghost use Rattle.trace_gen.specs.Generated.{generated};
+ghost use Rattle.trace_reader.specs.Grammar.{trace};
 ghost use Rattle.trace_reader.specs.Order.{IsTrace};
+ghost use Rattle.sprite_scene.specs.Calls.{calls_of};
+ghost use Rattle.sprite_scene.specs.Runs.{Draws};
+ghost use Rattle.scene_trace.specs.Lines as lines;
 ghost use Rattle.egl_cli.specs.Answers.{run_answer, run_frames, claim_answer};
 ghost use Rattle.egl_cli.specs.Says.{Says, WroteIfMade, WroteRaces, WantsMemory, IsUnread, IsHeadline, IsStalledHeadline, IsWhole};
 ghost use Rattle.egl_cli.specs.Commands.{plain_command_of};
@@ -11,19 +15,22 @@ ghost use Rattle.egl_cli.specs.ConfigLines.{configs_text};
 use crate::answers::{run_answer, run_frames};
 use crate::commands::{Command, command_of};
 use crate::config_lines::configs_text;
-use crate::inputs::{Claim, read_claim, read_short_trace, read_trace};
+use crate::inputs::{Claim, read_claim, read_scene, read_short_trace, read_trace};
 use crate::races::run_races;
 use crate::statuses::Status;
 use crate::telling::{finish, refuse};
 use crate::verdict_lines::claim_answer;
 use egl_calls::Text;
 use egl_flow::{Sink, Source};
+use scene_reader::Scene;
+use scene_trace::{scene_text, text_is_read};
+use sprite_scene::calls_draw;
 use std::alloc::Global;
 use trace_gen::generate;
 use trace_reader::Trace;
 
 const USAGE: &[u8] =
-    b"usage: egl_cli serial | play [summary] | check | configs | gen N THREADS SEED | compose W H | races\n";
+    b"usage: egl_cli serial | play [summary] | check | configs | gen N THREADS SEED | compose W H | scene | races\n";
 
 /// Writes the text of the configs.
 fn tell_configs<K: Sink>(alloc: Global, sink: &mut K) -> Status
@@ -170,7 +177,34 @@ fn respond_claim<S: Source, K: Sink>(alloc: Global, source: &mut S, sink: &mut K
     }
 }
 
-/// Does the command that the words name: `serial` reads a trace from the source and writes the recording of its run by turns to the sink, and where that stalls, the lines at which threads wait; `check` reads a trace and a recording behind it, and writes whether that is the recording of one of the trace's runs to its end, or where it first differs; `compose` reads a trace and writes a line for each frame of a screen of its sides, on which the trace's windows are stacked, and where the run stalls, the lines at which threads wait; `races` reads a trace of at most 2,000 body lines and writes which of its calls touch one thing though nothing orders them, and where the run stalls, the lines at which threads wait; `configs` reads nothing and writes the eight configs, a line for each, and `gen` the trace that its numbers generate. `play` is no command here, since it starts threads: `top` knows it.
+/// Writes the trace that draws a scene.
+fn tell_scene<K: Sink>(alloc: Global, sink: &mut K, scene: &Scene) -> Status
+    ensures trace { trace (lines.scene_text scene.now) ≡ Spelt (lines.trace_of (calls_of scene.now)) }
+    ensures picture { Draws scene.now (calls_of scene.now) }
+    ensures wrote { WroteIfMade (K.taken sink.old) (lines.scene_text scene.now) (K.taken sink.new) (HasRisen (K.faults sink.old) (K.faults sink.new)) Status.Ok result }
+{
+    // What the text spells, and what its calls leave, is true of each scene, and the headline builds on it.
+    calls_draw(scene);
+    text_is_read(scene);
+    match scene_text(alloc, scene) {
+        Ok(text) => finish(sink, Status::Ok, text.as_slice()),
+        Err(_) => Status::NoMemory,
+    }
+}
+
+/// Reads a source, and answers the trace that draws its scene.
+fn respond_scene<S: Source, K: Sink>(alloc: Global, source: &mut S, sink: &mut K) -> Status
+    ensures says { Says (Some Command.Scene) (S.left source.old) (S.left source.new) (HasRisen (S.faults source.old) (S.faults source.new)) (K.taken sink.old) (K.taken sink.new) (HasRisen (K.faults sink.old) (K.faults sink.new)) result }
+    ensures memory { result ≡ Status.NoMemory → WantsMemory (Some Command.Scene) (S.left source.old) (S.left source.new) (S.faults source.old) (S.faults source.new) }
+    ensures headline { result ≡ Status.Ok → IsHeadline (Some Command.Scene) (S.left source.old) (S.left source.new) (K.taken sink.old) (K.taken sink.new) }
+{
+    match read_scene(alloc, source) {
+        Ok(scene) => tell_scene(alloc, sink, &scene),
+        Err(error) => refuse(sink, &error),
+    }
+}
+
+/// Does the command that the words name: `serial` reads a trace from the source and writes the recording of its run by turns to the sink, and where that stalls, the lines at which threads wait; `check` reads a trace and a recording behind it, and writes whether that is the recording of one of the trace's runs to its end, or where it first differs; `compose` reads a trace and writes a line for each frame of a screen of its sides, on which the trace's windows are stacked, and where the run stalls, the lines at which threads wait; `races` reads a trace of at most 2,000 body lines and writes which of its calls touch one thing though nothing orders them, and where the run stalls, the lines at which threads wait; `scene` reads a scene and writes the trace whose calls draw it; `configs` reads nothing and writes the eight configs, a line for each, and `gen` the trace that its numbers generate. `play` is no command here, since it starts threads: `top` knows it.
 ///
 /// All output is made before the first write. A write that fails gives `WriteFault` in place of every other status. Memory is wanted only to read an input within the limit and to play it, and for the texts of commands that read nothing.
 pub fn plain<S: Source, K: Sink>(
@@ -200,6 +234,7 @@ pub fn plain<S: Source, K: Sink>(
         Some(Command::Compose { width, height }) => {
             respond_frames(alloc, source, sink, width, height)
         }
+        Some(Command::Scene) => respond_scene(alloc, source, sink),
         Some(Command::Races) => respond_races(alloc, source, sink),
         Some(Command::Play { .. }) | None => finish(sink, Status::Usage, USAGE),
     }

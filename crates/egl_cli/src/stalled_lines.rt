@@ -6,7 +6,7 @@ use egl_calls::{Bytes, Journal, NoMemory};
 use journal_text::texts::{put_decimal, put_text};
 use std::alloc::Global;
 use trace_reader::Trace;
-use trace_session::Session;
+use trace_session::{Chains, Session};
 
 /// The line of a thread whose next line has this number.
 fn put_stalled_line(out: &mut Bytes, thread: u32, number: Option<u64>) -> Result<(), NoMemory>
@@ -32,7 +32,8 @@ pub fn put_stalled(
 ) -> Result<(), NoMemory>
     ensures { OnOk result (out.new ≡ out.old ++ stalled_lines trace.now journal.now.entries) }
 {
-    let session = Session::behind(alloc, trace, journal)?;
+    let chains = Chains::new(alloc, trace)?;
+    let session = Session::behind(alloc, trace, &chains, journal)?;
     let threads = session.threads();
     'each: for thread in 0..threads {
         put_stalled_line(out, thread, session.next(thread))?;

@@ -1,5 +1,5 @@
 -- What a source gives and a sink takes.
-use Rattle.std.specs.Prelude.{◌≡◌, ℕ, ◌-◌, ◌<◌, ◌^◌, ◌⊎◌, List, [], ◌++◌, take, Option, None, Some}
+use Rattle.std.specs.Prelude.{◌≡◌, ℕ, ◌-◌, ◌<◌, ◌^◌, ◌⊎◌, List, [], ◌++◌, length, take, Option, None, Some}
 
 -- a count of faults rose, or stands at the last value of a u64
 abbrev pub HasRisen : ℕ → ℕ → Type 0
@@ -22,6 +22,6 @@ Took None bytes after = Unit {0}
 Took (Some before) bytes (Some after) = after ≡ before ++ bytes
 Took (Some before) bytes None = ⊥
 
--- some of these bytes, from their front, were taken
+-- some of these bytes, from their front, were taken, and not all of them
 abbrev pub TookFront : Option (List ℕ) → List ℕ → Option (List ℕ) → Type 0
-TookFront before bytes after = (n : ℕ) × Took before (take n bytes) after
+TookFront before bytes after = (n : ℕ) × (n < length bytes) × Took before (take n bytes) after

@@ -259,13 +259,13 @@ pub long : (xs : List ℕ) (c : ℕ) → length (xs ++ c ∷ []) ≡ suc (length
 long [] c = refl
 long (x ∷ xs) c = ap (λ (n : ℕ). suc n) (long xs c)
 
-bracketed : (xs : List ℕ) → is_bracketed (91 ∷ (xs ++ 93 ∷ [])) ≡ true
+pub bracketed : (xs : List ℕ) → is_bracketed (91 ∷ (xs ++ 93 ∷ [])) ≡ true
 bracketed xs =
     let place : length (91 ∷ (xs ++ 93 ∷ [])) - 1 ≡ suc (length xs) = omega (arith, long xs 93) in
     let last : slice_index_or (91 ∷ (xs ++ 93 ∷ [])) (length (91 ∷ (xs ++ 93 ∷ [])) - 1) 0 ≡ 93 = ap (λ (n : ℕ). slice_index_or (91 ∷ (xs ++ 93 ∷ [])) n 0) place ∙ last_at xs 93 in
     and_from _ _ (and_from _ _ (le-leb 2 (length (91 ∷ (xs ++ 93 ∷ []))) (omega (arith, long xs 93))) refl) (ap (λ (n : ℕ). n == 93) last)
 
-within : (xs : List ℕ) → inside (91 ∷ (xs ++ 93 ∷ [])) ≡ xs
+pub within : (xs : List ℕ) → inside (91 ∷ (xs ++ 93 ∷ [])) ≡ xs
 unfolding inside
 within xs =
     let place : length (91 ∷ (xs ++ 93 ∷ [])) - 1 ≡ suc (length xs) = omega (arith, long xs 93) in
@@ -289,7 +289,7 @@ joined_word : (z : ℤ) (zs : List ℤ) → IsLong z → is_word (join_with_byte
 joined_word z [] h = (number_written z h).word
 joined_word z (y ∷ ys) h = word_on (number_text z) _ (number_written z h).word
 
-items_written : (zs : List ℤ) → All IsLong zs → items (join_with_byte 44 (map number_text zs)) ≡ map number_text zs
+pub items_written : (zs : List ℤ) → All IsLong zs → items (join_with_byte 44 (map number_text zs)) ≡ map number_text zs
 unfolding comma_parts
 items_written [] a = refl
 items_written (z ∷ zs) a =

@@ -55,7 +55,7 @@ none_current s t c h l e = record {
 }
 
 -- ---- A context and surfaces.
-if_given : (P : State → Type 0) (b : Bool) (x y : State) → b ≡ false → P y → P (cond b x y)
+pub if_given : (P : State → Type 0) (b : Bool) (x y : State) → b ≡ false → P y → P (cond b x y)
 if_given P true x y e p = absurd (let f : true ≡ false = e in cc)
 if_given P false x y e p = p
 
@@ -77,9 +77,12 @@ allowed : (s : State) (t : ℕ) (c : CallValue) → IsMadeCurrent s t c → is_r
 unfolding egl_refusal
 allowed s t c h e = current_allowed c (current_facts s t c) h.call.kind e h.allowed
 
+pub context_told : (s : State) (t : ℕ) (c : CallValue) → IsMadeCurrent s t c → t < length s.threads → is_release c ≡ false → (record_of (step s t c).state t).context ≡ bound_by (context_handle s c)
+context_told s t c h l e = told (λ r. r.context) s t c (λ r. refl) h ∙ if_given (λ a. (record_of a t).context ≡ bound_by (context_handle s c)) (is_release c) _ _ e (at_set (λ r. r.context) s.threads t _ l)
+
 pub context_is_bound : (s : State) (t : ℕ) (c : CallValue) → IsMadeCurrent s t c → t < length s.threads → is_release c ≡ false → IsBoundBy s (number c 0) (number c 3) a_context (record_of (step s t c).state t).context
 context_is_bound s t c h l e = bound_by_valid s (number c 0) (number c 3) a_context (context_handle s c) _ refl (allowed s t c h e).context
-    (told (λ r. r.context) s t c (λ r. refl) h ∙ if_given (λ a. (record_of a t).context ≡ bound_by (context_handle s c)) (is_release c) _ _ e (at_set (λ r. r.context) s.threads t _ l))
+    (context_told s t c h l e)
 
 -- ---- Surfaces.
 not_release : (d r x : Bool) → (d ≡ false) ⊎ (r ≡ false) → (d && r && x) ≡ false

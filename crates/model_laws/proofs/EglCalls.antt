@@ -4,6 +4,7 @@ use Rattle.model_laws.proofs.Setters.{setter-surface, suits-surface}
 use Rattle.egl_names.specs.declared.codes.TheConstants.{EGL_BUFFER_PRESERVED}
 use Rattle.surface_store.specs.Surfaces.{SurfaceValue}
 use Rattle.std.specs.Option.{option_map, option_and_then}
+use Rattle.std.proofs.lemmas.Option.{none-some}
 use Rattle.std.proofs.lemmas.Bool.{cond_both, eq-eqb, or_parts}
 use Rattle.egl_calls.specs.Calls.{CallValue}
 use Rattle.egl_calls.specs.declared.errors.EglError.{EglError}
@@ -44,7 +45,7 @@ use Rattle.model_laws.proofs.Keeps.{Acts, Blind, acts_cond, acts_of, acts_self, 
 use Rattle.model_laws.proofs.Moves.{Add, Await, Binds, Bind, Flags, Keep, Name, Note, Change}
 use Rattle.model_laws.proofs.Named.{context_free, found_below, goes_valid, group_goes, is_some-bound_by, surface_free}
 use Rattle.model_laws.proofs.NewObjects.{full-blank, leads-new_texture, stored-new_texture, with_own_pixels, without_pixels}
-use Rattle.model_laws.proofs.Places.{new_frozen, new_kind, old_kind}
+use Rattle.model_laws.proofs.Places.{new_frozen, new_kind, new_sides, old_kind}
 
 pub acts-error : (s : State) (t : ℕ) (e : EglError) → Acts quiet t s (λ a. set_error a t e)
 acts-error s t e = by_quiet_moves t s (Note e ∷ []) refl (tt, tt) (λ w. (tt, tt))
@@ -69,7 +70,7 @@ acts-behavior : (s : State) (t : ℕ) (c : CallValue) (h : Option Handle) → Ac
 unfolding change_surface
 acts-behavior s t c None = acts_self t s
 acts-behavior s t c (Some h) = let f : SurfaceValue → SurfaceValue = λ x. record x { preserve = has_code c 3 EGL_BUFFER_PRESERVED } in
-    by_quiet_moves t s (Change h.object (with_surface f) ∷ []) refl (setter-surface f, tt) (λ w. (suits-surface t (shapes s.objects) s h.object f, tt))
+    by_quiet_moves t s (Change h.object (with_surface f) ∷ []) refl (setter-surface f (λ x. refl), tt) (λ w. (suits-surface t (shapes s.objects) s h.object f, tt))
 
 pub acts-attribute : (s : State) (t : ℕ) (c : CallValue) → Acts quiet t s (λ a. set_attribute a c)
 acts-attribute s t c = acts_of quiet t s (λ a. handle_at a c 1 a_surface) (λ h a. with_behavior a c h) (λ w v x ne. refl) (acts-behavior s t c (handle_at s c 1 a_surface))
@@ -87,7 +88,7 @@ acts-pbuffer s t c h r =
     (by_moves t s (Add new ∷ Name (number c 0) a_surface n ∷ []) ((tt, (full-blank (format_of (signed c 1)) _ _ (side_fits (asked_width c)) (side_fits (asked_height c)), tt)), (tt, tt))
     (λ p. let a = (pbuffer_allowed c (pbuffer_facts s c) h r).room in omega (arith, a))
     (λ w. (
-      ((new_kind s.objects new 1 (n + 1) a_storage refl refl, tt), with_own_pixels _ (n + 0) _ (omega arith) (new_frozen s.objects new 1 (n + 0 + 1) (omega arith)), (tt, without_pixels _ (n + 1) _ refl refl, tt)),
+      ((new_kind s.objects new 1 (n + 1) a_storage refl refl, tt), with_own_pixels _ (n + 0) _ (omega arith) (new_frozen s.objects new 1 (n + 0 + 1) (omega arith)) (new_sides s.objects new 1 (n + 0 + 1) (omega arith)) (λ id e. absurd (none-some id e)), (tt, without_pixels _ (n + 1) _ refl refl, tt)),
       λ v. (new_kind s.objects new 0 n a_surface_kind (omega arith) refl, tt),
     )))
 

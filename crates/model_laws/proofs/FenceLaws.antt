@@ -8,7 +8,7 @@ use Rattle.driver_objects.specs.declared.fences.Fence.{Fence}
 use Rattle.driver_objects.specs.declared.kinds.ObjectKind.TheVariants.{Context as a_context}
 use Rattle.driver_objects.specs.declared.objects.Object.{Object}
 use Rattle.driver_objects.specs.declared.objects.Object.TheVariants.{Context}
-use Rattle.egl_model.specs.Flushes.{flushed, flushed_to}
+use Rattle.egl_model.specs.Flushes.{flush_in, flushed, flushed_to}
 use Rattle.model_laws.specs.Kinds.{IsA}
 use Rattle.egl_model.specs.Objects.{as_context, as_fence, change_context, context_in, fence_in, with_context}
 use Rattle.egl_model.specs.State.{State, object_at, has_object}
@@ -35,10 +35,16 @@ pub unsignalled_there : (s : State) (n : ℕ) (x : Fence) → fence_in s.objects
 unsignalled_there s n x e u = is_there n (object_at s x.context) (or_parts x.served (has_flushed n (context_in s.objects x.context)) (sym (told s n x e) ∙ u)).1
 
 -- ---- A flush.
-at_changed : (f : Option Object → Option Object) → f None ≡ None → (os : List (Option Object)) (c : ℕ) → get_or (set os c (f (get_or os c None))) c None ≡ f (get_or os c None)
+pub at_changed : (f : Option Object → Option Object) → f None ≡ None → (os : List (Option Object)) (c : ℕ) → get_or (set os c (f (get_or os c None))) c None ≡ f (get_or os c None)
 at_changed f z [] c = sym z
 at_changed f z (o ∷ os) zero = refl
 at_changed f z (o ∷ os) (suc c) = at_changed f z os c
+
+-- what f tells of an object, where it tells nothing of how far a context is flushed
+pub seen_flushed : {A : Type 0} (f : Option Object → A) → ((k : ℕ) (o : Option Object) → f (with_context (flushed_to k) o) ≡ f o) → (n : Option ℕ) (os : List (Option Object)) (m : ℕ) → f (get_or (flush_in n os) m None) ≡ f (get_or os m None)
+unfolding change_context
+seen_flushed f e None os m = refl
+seen_flushed f e (Some n) os m = same_at_set f os n _ None (e (length os) (get_or os n None)) m
 
 fence-flushed : (k : ℕ) (o : Option Object) → as_fence (with_context (flushed_to k) o) ≡ as_fence o
 fence-flushed k (Some (Context c)) = refl

@@ -16,9 +16,11 @@ use Rattle.egl_model.specs.State.{State, initial, object_at, record_of, has_obje
 use Rattle.egl_model.specs.Objects.{change}
 use Rattle.model_laws.specs.Laws.{HandlesAreNew, IsKnownOrNew, ObjectsAreNew, StayValid}
 use Rattle.model_laws.specs.Shapes.{Shape, shape_in}
+use Rattle.model_laws.specs.Swaps.{forms}
 use Rattle.egl_model.specs.Sweep.{bytes_in, edges_at, live_bytes, swept, sweep}
 use Rattle.model_laws.proofs.Moves.{extent, extent_of, joined, Await, Body, Resize, Add, AllHold, Bind, Change, Flags, Holds, Keep, Move, Name, Note, Post, apply, bytes_made, play}
 use Rattle.model_laws.proofs.Places.{at_old, below, same_at_set}
+use Rattle.model_laws.proofs.WindowForms.{forms-swapped}
 use Rattle.model_laws.proofs.SweepLaws.{left_as_it_was, length-swept, object_at-swept}
 
 pub record Frame (e : Extent) (t : ℕ) (s a : State) : Type 0 where
@@ -30,6 +32,8 @@ pub record Frame (e : Extent) (t : ℕ) (s a : State) : Type 0 where
   pub handles : HandlesAreNew s a
   pub kept : e.drops ≡ false → StayValid s a
   pub objects : ObjectsAreNew s a
+  -- a window keeps its id, and the format and the sides of its front
+  pub windows : forms a.windows ≡ forms s.windows
   pub video : a.video ≡ s.video
 
 -- ---- Handles.
@@ -109,7 +113,7 @@ objects_swept s a b rs e o = record {
 
 -- ---- Frames in a row, and behind a sweep.
 pub frame_self : (t : ℕ) (s : State) → Frame quiet t s s
-frame_self t s = record { flags = λ q. (refl, refl); next = omega arith; others = λ u ne. refl; count = refl; handles = handles_stay s s refl refl; kept = λ q h c. c; objects = objects_same s s refl; video = refl }
+frame_self t s = record { flags = λ q. (refl, refl); next = omega arith; others = λ u ne. refl; count = refl; handles = handles_stay s s refl refl; kept = λ q h c. c; objects = objects_same s s refl; windows = refl; video = refl }
 
 -- a change, and one that goes nowhere further
 pub frame_then : (e : Extent) (t : ℕ) (a b c : State) → Frame e t a b → Frame quiet t b c → Frame e t a c
@@ -121,6 +125,7 @@ frame_then e t a b c f g = record {
   handles = handles_then a b c f.handles g.handles;
   kept = λ q h c. g.kept refl h (f.kept q h c);
   objects = objects_then a b c f.objects g.objects;
+  windows = g.windows ∙ f.windows;
   video = g.video ∙ f.video;
 }
 
@@ -137,6 +142,7 @@ frame_join e f t a b c v w = record {
   handles = handles_then a b c v.handles w.handles;
   kept = λ q h c. let r = neither_flag e.drops f.drops q in w.kept r.1 h (v.kept r.0 h c);
   objects = objects_then a b c v.objects w.objects;
+  windows = w.windows ∙ v.windows;
   video = w.video ∙ v.video;
 }
 
@@ -149,6 +155,7 @@ frame_swept e t s a f = record {
   handles = record { rises = f.handles.rises; each = f.handles.each };
   kept = f.kept;
   objects = objects_swept s a (sweep a) _ refl f.objects;
+  windows = f.windows;
   video = f.video;
 }
 
@@ -162,12 +169,13 @@ frame-change t n f s h = record {
   handles = handles_stay s _ refl refl;
   kept = λ q h c. c;
   objects = objects_stay s (record s { objects = change f n s.objects }) (length-set s.objects n _) (same_at_set shape_in s.objects n (f (get_or s.objects n None)) None (h (get_or s.objects n None)));
+  windows = refl;
   video = refl;
 }
 
 pub frame-apply : (t : ℕ) (m : Move) (s : State) → Holds m → Frame (extent_of m) t s (apply t m s)
-frame-apply t (Post id i) s h = record { flags = λ q. (refl, refl); next = omega arith; others = λ u ne. refl; count = refl; handles = handles_stay s _ refl refl; kept = λ q h c. c; objects = objects_same s _ refl; video = refl }
-frame-apply t (Flags a b) s h = record { flags = λ q. absurd (let f : true ≡ false = q in cc); next = omega arith; others = λ u ne. refl; count = refl; handles = handles_stay s _ refl refl; kept = λ q h c. c; objects = objects_same s _ refl; video = refl }
+frame-apply t (Post id i) s h = record { flags = λ q. (refl, refl); next = omega arith; others = λ u ne. refl; count = refl; handles = handles_stay s _ refl refl; kept = λ q h c. c; objects = objects_same s _ refl; windows = forms-swapped id i s.windows; video = refl }
+frame-apply t (Flags a b) s h = record { flags = λ q. absurd (let f : true ≡ false = q in cc); next = omega arith; others = λ u ne. refl; count = refl; handles = handles_stay s _ refl refl; kept = λ q h c. c; objects = objects_same s _ refl; windows = refl; video = refl }
 frame-apply t (Note e) s h = record {
   flags = λ q. (refl, refl);
   next = omega arith;
@@ -176,6 +184,7 @@ frame-apply t (Note e) s h = record {
   handles = handles_stay s _ refl refl;
   kept = λ q h c. c;
   objects = objects_same s _ refl;
+  windows = refl;
   video = refl;
 }
 frame-apply t (Await x) s h = record {
@@ -186,6 +195,7 @@ frame-apply t (Await x) s h = record {
   handles = handles_stay s _ refl refl;
   kept = λ q h c. c;
   objects = objects_same s _ refl;
+  windows = refl;
   video = refl;
 }
 frame-apply t (Bind c d r) s h = record {
@@ -196,6 +206,7 @@ frame-apply t (Bind c d r) s h = record {
   handles = handles_stay s _ refl refl;
   kept = λ q h c. c;
   objects = objects_same s _ refl;
+  windows = refl;
   video = refl;
 }
 frame-apply t (Change n f) s h = frame-change t n f s (λ o. ap (λ (b : Body). b.shape) (h o))
@@ -212,6 +223,7 @@ frame-apply t (Add os) s h = record {
     each = λ n l none. ap is_some (at_old s.objects os None n l) ∙ none;
     kinds = λ n i _. ap (option_map kind_of) (at_old s.objects os None n (below s.objects n i));
   };
+  windows = refl;
   video = refl;
 }
 frame-apply t (Name d k n) s h = record {
@@ -226,6 +238,7 @@ frame-apply t (Name d k n) s h = record {
   };
   kept = λ q x c. Contains-append_left s.handles _ x c;
   objects = objects_same s _ refl;
+  windows = refl;
   video = refl;
 }
 frame-apply t (Keep p) s h = record {
@@ -236,6 +249,7 @@ frame-apply t (Keep p) s h = record {
   handles = record { rises = omega arith; each = All-filter p (IsKnownOrNew s (apply t (Keep p) s)) s.handles (known s (apply t (Keep p) s)) };
   kept = λ q. absurd (let f : true ≡ false = q in cc);
   objects = objects_same s _ refl;
+  windows = refl;
   video = refl;
 }
 

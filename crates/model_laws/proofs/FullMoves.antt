@@ -5,9 +5,9 @@ use Rattle.std.specs.Option.{option_map_or}
 use Rattle.std.proofs.lemmas.List.Elements.{All-set}
 use Rattle.pixel_rows.specs.Images.{ImageValue}
 use Rattle.surface_store.specs.Windows.{WindowValue, posted}
-use Rattle.surface_store.specs.WindowTables.{HasSides, fits, no_window, place_of, posted_to, swapped_windows, window_at}
+use Rattle.surface_store.specs.WindowTables.{fits, no_window, place_of, posted_to, swapped_windows, window_at}
 use Rattle.surface_store.proofs.WindowLaws.{place_inside}
-use Rattle.model_laws.specs.Full.{Full, IsFull}
+use Rattle.model_laws.specs.Full.{Full, IsFull, IsWindow}
 use Rattle.driver_objects.specs.declared.objects.Object.{Object}
 use Rattle.egl_model.specs.State.{State, object_at}
 use Rattle.egl_model.specs.Sweep.{is_reached, sweep}
@@ -38,24 +38,24 @@ full_append [] ys h a n = full_new ys a n
 full_append (x ∷ xs) ys h a zero = h zero
 full_append (x ∷ xs) ys h a (suc n) = full_append xs ys (λ k. h (suc k)) a n
 
--- a window keeps its sides
-sides_put : (i : ImageValue) (ws : List WindowValue) (o : Option ℕ) → ((k : ℕ) → o ≡ Some k → k < length ws) → All HasSides ws → All HasSides (option_map_or (λ k. set ws k (posted i (window_at ws k))) o ws)
-sides_put i ws None inside a = a
-sides_put i ws (Some k) inside a = let h = a k no_window (inside k refl) in All-set HasSides ws k (posted i (window_at ws k)) (record { wide = h.wide; widest = h.widest; high = h.high; highest = h.highest }) a
+-- a window keeps its sides and its format
+window_put : (i : ImageValue) (ws : List WindowValue) (o : Option ℕ) → ((k : ℕ) → o ≡ Some k → k < length ws) → All IsWindow ws → All IsWindow (option_map_or (λ k. set ws k (posted i (window_at ws k))) o ws)
+window_put i ws None inside a = a
+window_put i ws (Some k) inside a = let h = a k no_window (inside k refl) in All-set IsWindow ws k (posted i (window_at ws k)) (record { sides = record { wide = h.sides.wide; widest = h.sides.widest; high = h.sides.high; highest = h.sides.highest }; format = h.format; owned = h.owned }) a
 
-sides_posted : (id : ℕ) (i : ImageValue) (ws : List WindowValue) → All HasSides ws → All HasSides (posted_to id i ws)
-sides_posted id i ws a = sides_put i ws (place_of id ws) (place_inside id ws) a
+window_posted : (id : ℕ) (i : ImageValue) (ws : List WindowValue) → All IsWindow ws → All IsWindow (posted_to id i ws)
+window_posted id i ws a = window_put i ws (place_of id ws) (place_inside id ws) a
 
-sides_swapped : (id : ℕ) (i : ImageValue) (ws : List WindowValue) → All HasSides ws → All HasSides (swapped_windows id i ws)
-sides_swapped id i ws a = by (fits id i ws)
+window_swapped : (id : ℕ) (i : ImageValue) (ws : List WindowValue) → All IsWindow ws → All IsWindow (swapped_windows id i ws)
+window_swapped id i ws a = by (fits id i ws)
   where
-    by : (b : Bool) → All HasSides (cond b (posted_to id i ws) ws)
-    by true = sides_posted id i ws a
+    by : (b : Bool) → All IsWindow (cond b (posted_to id i ws) ws)
+    by true = window_posted id i ws a
     by false = a
 
 full-apply : (t : ℕ) (m : Move) (s : State) → Sets m → IsFull s → IsFull (apply t m s)
 full-apply t (Flags a b) s h f = record { each = f.each; windows = f.windows }
-full-apply t (Post id i) s h f = record { each = f.each; windows = sides_swapped id i s.windows f.windows }
+full-apply t (Post id i) s h f = record { each = f.each; windows = window_swapped id i s.windows f.windows }
 full-apply t (Note e) s h f = record { each = f.each; windows = f.windows }
 full-apply t (Await x) s h f = record { each = f.each; windows = f.windows }
 full-apply t (Bind c d r) s h f = record { each = f.each; windows = f.windows }

@@ -216,11 +216,13 @@ source_pixels s c k h w = object_pixels s (asked_level c) (source_number s c (ha
 image_of : ℕ → Option Object
 image_of k = Some (Image (record { storage = k }))
 
-stored_image : (s : State) (place k : ℕ) → IsFree (shapes s.objects) k → IsStored (shapes s.objects ++ shapes (image_of k ∷ [])) place (image_of k)
+stored_image : (s : State) (place k : ℕ) → IsFree (shapes s.objects) k → IsStored (shapes s.objects ++ shapes (image_of k ∷ [])) s.windows place (image_of k)
 unfolding image_of
 stored_image s place k f = record {
   own = λ m e. absurd (none-some m e);
   thawed = λ m e. absurd (none-some m e);
+  sides = λ m e. absurd (none-some m e);
+  window = λ id e. absurd (none-some id e);
   pixels = λ m h. inr (subst (IsFree (shapes s.objects ++ shapes (image_of k ∷ []))) (only_one m k h) (free_more s.objects (image_of k) k refl f));
 }
 

@@ -85,6 +85,7 @@ keeps_within e t s a f = record {
     handles = f.frame.handles;
     kept = λ q. f.frame.kept refl;
     objects = f.frame.objects;
+    windows = f.frame.windows;
     video = f.frame.video;
   };
 }

@@ -33,6 +33,7 @@ pub mod Moves
 pub mod Places
 pub mod Slots
 pub mod CurrentMoves
+pub mod WindowForms
 pub mod WholeMoves
 pub mod WholeSweep
 pub mod FrameMoves
@@ -71,3 +72,5 @@ pub mod OwnedPixels
 pub mod RefLaws
 pub mod FenceLaws
 pub mod SyncCalls
+pub mod SwapLaws
+pub mod FirstUse

@@ -1,13 +1,15 @@
 -- A change of a state as a row of moves, and what each move asks.
-use Rattle.std.specs.Prelude.{◌≡◌, ◌≢◌, ℕ, ◌+◌, ◌≤◌, Bool, true, false, ◌||◌, ◌⊎◌, List, [], ◌∷◌, ◌++◌, filter, length, is_some, slice_index_or, Option, None, Some}
+use Rattle.std.specs.Prelude.{◌≡◌, ◌≢◌, ℕ, ℤ, ◌+◌, ◌≤◌, Bool, true, false, ◌||◌, ◌⊎◌, List, [], ◌∷◌, ◌++◌, filter, length, is_some, slice_index_or, Option, None, Some}
 use Rattle.std.specs.Option.{option_and_then, option_map}
 use Rattle.egl_calls.specs.declared.errors.EglError.{EglError}
 use Rattle.driver_objects.specs.declared.kinds.ObjectKind.TheVariants.{Context, Surface, Sync as a_sync}
 use Rattle.context_state.specs.Parts.{PartValue}
 use Rattle.pixel_rows.specs.Images.{ImageValue}
+use Rattle.egl_calls.specs.Ranges.{unsigned}
 use Rattle.surface_store.specs.WindowTables.{swapped_windows}
+use Rattle.surface_store.specs.Windows.{WindowValue}
 use Rattle.driver_objects.specs.declared.objects.Object.{Object}
-use Rattle.model_laws.specs.Slots.{is_frozen, own_of, slot}
+use Rattle.model_laws.specs.Slots.{Sides, is_frozen, own_of, sides_of, slot, window_id_of}
 use Rattle.display_table.specs.declared.handles.Handle.{Handle}
 use Rattle.display_table.specs.declared.handles.HandleKind.{HandleKind}
 use Rattle.egl_model.specs.declared.records.Bound.{Bound}
@@ -21,9 +23,9 @@ use Rattle.egl_model.specs.Parts.{is_place, set_image, set_part}
 use Rattle.egl_model.specs.Currents.{has_context, has_surface, is_bound}
 use Rattle.egl_model.specs.MakeCurrent.{bind}
 use Rattle.model_laws.specs.Kinds.{named_kind}
-use Rattle.model_laws.specs.Shapes.{Goes, HasKind, IsFree, Leads, Shape, frozen_at, pixels_in, shape_in, shapes, slots_in}
+use Rattle.model_laws.specs.Shapes.{Goes, HasKind, IsFree, Leads, Shape, frozen_at, pixels_in, shape_in, shapes, sides_at, slots_in}
 use Rattle.egl_model.specs.Waits.{waiting}
-use Rattle.model_laws.specs.Sound.{IsBoundBelowNext, IsWhole}
+use Rattle.model_laws.specs.Sound.{IsBoundBelowNext, IsWhole, window_sides}
 use Rattle.egl_model.specs.Sweep.{bytes_in, live_bytes}
 
 pub data Move : Type 0 where
@@ -169,16 +171,26 @@ abbrev pub frozen_in : Option Object → Bool
 frozen_in None = false
 frozen_in (Some o) = is_frozen o
 
--- a new object at a place has no storage of a surface, but that a surface's own storage stands right behind it, and isn't frozen
-pub record IsStored (sh : List (Option Shape)) (place : ℕ) (o : Option Object) : Type 0 where
+abbrev pub sides_in : Option Object → Option Sides
+sides_in None = None
+sides_in (Some o) = sides_of o
+
+abbrev pub window_id_in : Option Object → Option ℤ
+window_id_in None = None
+window_id_in (Some o) = window_id_of o
+
+-- a new object at a place has no storage of a surface, but that a surface's own storage stands right behind it, isn't frozen and has its sides; a window's surface has those of the window
+pub record IsStored (sh : List (Option Shape)) (ws : List WindowValue) (place : ℕ) (o : Option Object) : Type 0 where
   pub own : (k : ℕ) → own_in o ≡ Some k → k ≡ place + 1
   pub thawed : (k : ℕ) → own_in o ≡ Some k → frozen_at sh k ≡ false
   pub pixels : (k : ℕ) → is_in k (pixels_in o) ≡ true → (k ≡ place + 1) ⊎ IsFree sh k
+  pub sides : (k : ℕ) → own_in o ≡ Some k → sides_at sh k ≡ sides_in o
+  pub window : (id : ℤ) → window_id_in o ≡ Some id → sides_in o ≡ window_sides (unsigned id) ws
 
 -- new objects, the first of them at base + j
-abbrev pub Stands : List (Option Shape) → ℕ → ℕ → List (Option Object) → Type 0
-Stands sh base j [] = Unit {0}
-Stands sh base j (o ∷ os) = Leads sh (slots_in o) × IsStored sh (base + j) o × Stands sh base (j + 1) os
+abbrev pub Stands : List (Option Shape) → List WindowValue → ℕ → ℕ → List (Option Object) → Type 0
+Stands sh ws base j [] = Unit {0}
+Stands sh ws base j (o ∷ os) = Leads sh (slots_in o) × IsStored sh ws (base + j) o × Stands sh ws base (j + 1) os
 
 abbrev pub shapes_after : List (Option Shape) → Move → List (Option Shape)
 shapes_after sh (Add os) = sh ++ shapes os
@@ -189,7 +201,7 @@ Fits t sh s (Bind c d r) = Binds t sh s c d r
 Fits t sh s (Change n f) = Suits t sh s n f
 Fits t sh s (Resize n f b) = Suits t sh s n f
 Fits t sh s (Await x) = Goes sh a_sync x
-Fits t sh s (Add os) = Stands (sh ++ shapes os) (length s.objects) 0 os
+Fits t sh s (Add os) = Stands (sh ++ shapes os) s.windows (length s.objects) 0 os
 Fits t sh s (Name d k n) = HasKind sh (named_kind k) n
 Fits t sh s m = Unit {0}
 

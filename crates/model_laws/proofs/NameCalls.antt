@@ -15,6 +15,7 @@ use Rattle.egl_model.specs.Bindings.{bound_anew, bound_at, bound_framebuffer_in,
 use Rattle.egl_model.specs.Currents.{current_context}
 use Rattle.egl_model.specs.Names.{generated, group_of, kind_named, names_in, object_named, with_more, with_name_of}
 use Rattle.egl_model.specs.Objects.{as_group, change_context, change_framebuffer, change_group, with_context, with_framebuffer, with_group}
+use Rattle.surface_store.specs.Windows.{WindowValue}
 use Rattle.egl_model.specs.State.{State, object_at}
 use Rattle.egl_model.specs.Sweep.{live_bytes}
 use Rattle.model_laws.specs.Extents.{quiet}
@@ -82,7 +83,7 @@ leads-new sh ElementArrayBuffer = tt
 leads-new sh RenderbufferTarget = (tt, tt)
 leads-new sh FramebufferTarget = (tt, (tt, (tt, tt)))
 
-stored-new : (sh : List (Option Shape)) (place : ℕ) (b : BindTarget) → IsStored sh place (Some (new_object b))
+stored-new : {ws : List WindowValue} (sh : List (Option Shape)) (place : ℕ) (b : BindTarget) → IsStored sh ws place (Some (new_object b))
 stored-new sh place TextureTarget = stored-new_texture sh place
 stored-new sh place ArrayBuffer = without_pixels sh place _ refl refl
 stored-new sh place ElementArrayBuffer = without_pixels sh place _ refl refl

@@ -1,12 +1,12 @@
 -- New objects that have no storage, or a surface's own one.
-use Rattle.std.proofs.Common.{◌≡◌, ℕ, zero, suc, ◌+◌, ◌-◌, ◌*◌, ◌≤◌, false, inl, inr, List, [], ◌∷◌, ◌++◌, refl, sym, ap, ◌∙◌, arith, length, get_or, Option, None, Some}
+use Rattle.std.proofs.Common.{◌≡◌, ℕ, ℤ, zero, suc, ◌+◌, ◌-◌, ◌*◌, ◌≤◌, false, inl, inr, List, [], ◌∷◌, ◌++◌, refl, sym, ap, ◌∙◌, arith, length, get_or, Option, None, Some}
 use Rattle.std.specs.Prelude.{replicate}
 use Rattle.std.proofs.lemmas.Bool.{cases_lt}
 use Rattle.driver_objects.specs.Objects.{filled}
 use Rattle.driver_objects.specs.declared.kinds.ObjectKind.TheVariants.{Storage as a_storage}
 use Rattle.egl_model.specs.Contexts.{new_texture}
-use Rattle.model_laws.specs.Slots.{level_slots}
-use Rattle.model_laws.specs.Sound.{IsWhole}
+use Rattle.model_laws.specs.Slots.{level_slots, sides_of}
+use Rattle.model_laws.specs.Sound.{IsWhole, window_sides}
 use Rattle.egl_model.specs.State.{State}
 use Rattle.driver_objects.specs.declared.surfaces.BackedSurface.{BackedSurface}
 use Rattle.driver_objects.specs.declared.objects.Object.{Object}
@@ -21,31 +21,42 @@ use Rattle.rect_pipeline.specs.Copying.{copied_into}
 use Rattle.egl_calls.specs.Arguments.{signed}
 use Rattle.egl_calls.specs.Calls.{CallValue}
 use Rattle.egl_calls.specs.Ranges.{unsigned}
+use Rattle.surface_store.specs.Windows.{WindowValue}
 use Rattle.texture_objects.specs.Uploads.{uploaded}
 use Rattle.model_laws.proofs.Setters.{length-painted}
 use Rattle.driver_objects.specs.Storages.{copied_image, stored}
 use Rattle.std.proofs.lemmas.List.{length-replicate}
 use Rattle.egl_model.specs.Graph.{is_in}
-use Rattle.model_laws.specs.Shapes.{IsFree, Leads, Shape, frozen_at, own_at, pixels_in, shapes, slots_in}
-use Rattle.model_laws.proofs.Moves.{IsStored, own_in}
+use Rattle.model_laws.specs.Shapes.{IsFree, Leads, Shape, frozen_at, own_at, pixels_in, shapes, sides_at, slots_in}
+use Rattle.model_laws.proofs.Moves.{IsStored, own_in, window_id_in}
 use Rattle.model_laws.proofs.Places.{at_new, at_old, length-shapes, own_at-shapes, shapes-append, within_shapes}
 use Rattle.model_laws.proofs.Slots.{no_edge, only_one, own_is_storage}
 
-pub without_pixels : (sh : List (Option Shape)) (place : ℕ) (o : Option Object) → own_in o ≡ None → pixels_in o ≡ [] → IsStored sh place o
+-- what has no storage of its own is no window's surface
+pub no_window : (o : Option Object) → own_in o ≡ None → (id : ℤ) → window_id_in o ≡ Some id → ⊥
+no_window (Some (Surface x)) a id e = absurd (let f : Some x.storage ≡ None = a in cc)
+no_window o a id e = absurd (let f : None ≡ Some id = e in cc)
+
+pub without_pixels : {ws : List WindowValue} (sh : List (Option Shape)) (place : ℕ) (o : Option Object) → own_in o ≡ None → pixels_in o ≡ [] → IsStored sh ws place o
 without_pixels sh place o a b = record {
   own = λ k e. absurd (none k e);
   thawed = λ k e. absurd (none k e);
   pixels = λ k h. no_edge k (ap (is_in k) (sym b) ∙ h);
+  sides = λ k e. absurd (none k e);
+  window = λ id e. absurd (no_window o a id e);
 }
   where
     none : (k : ℕ) → own_in o ≡ Some k → ⊥
     none k e = absurd (let f : None ≡ Some k = sym a ∙ e in cc)
 
-pub with_own_pixels : (sh : List (Option Shape)) (place : ℕ) (x : BackedSurface) → x.storage ≡ place + 1 → frozen_at sh (place + 1) ≡ false → IsStored sh place (Some (Surface x))
-with_own_pixels sh place x e z = record {
+pub with_own_pixels : {ws : List WindowValue} (sh : List (Option Shape)) (place : ℕ) (x : BackedSurface) → x.storage ≡ place + 1 → frozen_at sh (place + 1) ≡ false →
+    sides_at sh (place + 1) ≡ sides_of (Surface x) → ((id : ℤ) → x.surface.window ≡ Some id → sides_of (Surface x) ≡ window_sides (unsigned id) ws) → IsStored sh ws place (Some (Surface x))
+with_own_pixels sh place x e z si wi = record {
   own = λ k h. same k x.storage h ∙ e;
   thawed = λ k h. ap (frozen_at sh) (same k x.storage h ∙ e) ∙ z;
   pixels = λ k h. inl (sym (only_one k x.storage h) ∙ e);
+  sides = λ k h. ap (sides_at sh) (same k x.storage h ∙ e) ∙ si;
+  window = wi;
 }
   where
     same : (k n : ℕ) → Some n ≡ Some k → k ≡ n
@@ -79,7 +90,7 @@ filled-none (suc n) = filled-none n
 pub leads-new_texture : (sh : List (Option Shape)) → Leads sh (slots_in (Some new_texture))
 leads-new_texture sh = leads-none sh 0 11
 
-pub stored-new_texture : (sh : List (Option Shape)) (place : ℕ) → IsStored sh place (Some new_texture)
+pub stored-new_texture : {ws : List WindowValue} (sh : List (Option Shape)) (place : ℕ) → IsStored sh ws place (Some new_texture)
 stored-new_texture sh place = without_pixels sh place (Some new_texture) refl (filled-none 11)
 
 -- ---- Storages that are no surface's stay so where no surface is added.

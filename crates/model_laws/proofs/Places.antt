@@ -10,8 +10,8 @@ use Rattle.driver_objects.specs.declared.objects.Object.{Object}
 use Rattle.driver_objects.specs.Objects.{kind_of}
 use Rattle.egl_model.specs.declared.records.ThreadRecord.{ThreadRecord}
 use Rattle.egl_model.specs.State.{initial}
-use Rattle.model_laws.specs.Shapes.{HasKind, Shape, frozen_at, kind_at, own_at, shape_in, shapes}
-use Rattle.model_laws.proofs.Moves.{frozen_in, own_in}
+use Rattle.model_laws.specs.Shapes.{HasKind, Shape, frozen_at, kind_at, own_at, shape_in, shapes, sides_at, window_id_at}
+use Rattle.model_laws.proofs.Moves.{frozen_in, own_in, sides_in, window_id_in}
 
 -- what holds of each element, and of the one that is written
 pub each_at_set : {X : Type 0} (P : X → Type 0) (xs : List X) (i : ℕ) (y d : X) → P y → ((k : ℕ) → P (get_or xs k d)) → (k : ℕ) → P (get_or (set xs i y) k d)
@@ -119,6 +119,20 @@ frozen_in_shape (Some o) = refl
 pub frozen_at-shapes : (os : List (Option Object)) (n : ℕ) → frozen_at (shapes os) n ≡ frozen_in (get_or os n None)
 frozen_at-shapes os n = ap (λ (o : Option Shape). option_map_or (λ (x : Shape). x.frozen) o false) (shape_at os n) ∙ frozen_in_shape (get_or os n None)
 
+sides_in_shape : (o : Option Object) → option_and_then (λ (x : Shape). x.sides) (shape_in o) ≡ sides_in o
+sides_in_shape None = refl
+sides_in_shape (Some o) = refl
+
+pub sides_at-shapes : (os : List (Option Object)) (n : ℕ) → sides_at (shapes os) n ≡ sides_in (get_or os n None)
+sides_at-shapes os n = ap (option_and_then (λ (x : Shape). x.sides)) (shape_at os n) ∙ sides_in_shape (get_or os n None)
+
+window_id_in_shape : (o : Option Object) → option_and_then (λ (x : Shape). x.window) (shape_in o) ≡ window_id_in o
+window_id_in_shape None = refl
+window_id_in_shape (Some o) = refl
+
+pub window_id_at-shapes : (os : List (Option Object)) (n : ℕ) → window_id_at (shapes os) n ≡ window_id_in (get_or os n None)
+window_id_at-shapes os n = ap (option_and_then (λ (x : Shape). x.window)) (shape_at os n) ∙ window_id_in_shape (get_or os n None)
+
 pub is_some_of : {X A : Type 0} (f : X → A) (o : Option X) (a : A) → option_map f o ≡ Some a → is_some o ≡ true
 is_some_of f None a h = absurd (let e : None ≡ Some a = h in cc)
 is_some_of f (Some x) a h = refl
@@ -141,3 +155,8 @@ new_kind os new j n k e h = record {
 pub new_frozen : (os new : List (Option Object)) (j n : ℕ) → n ≡ length os + j → frozen_at (shapes os ++ shapes new) n ≡ frozen_in (get_or new j None)
 new_frozen os new j n e =
     ap (λ (sh : List (Option Shape)). frozen_at sh n) (sym (shapes-append os new)) ∙ frozen_at-shapes (os ++ new) n ∙ ap frozen_in (new_at os new None j n e)
+
+-- and have the sides that they say
+pub new_sides : (os new : List (Option Object)) (j n : ℕ) → n ≡ length os + j → sides_at (shapes os ++ shapes new) n ≡ sides_in (get_or new j None)
+new_sides os new j n e =
+    ap (λ (sh : List (Option Shape)). sides_at sh n) (sym (shapes-append os new)) ∙ sides_at-shapes (os ++ new) n ∙ ap sides_in (new_at os new None j n e)

@@ -18,16 +18,17 @@ use Rattle.rect_pipeline.specs.Drawing.{drawn}
 use Rattle.rect_pipeline.specs.Samplers.{SamplerValue}
 use Rattle.driver_objects.specs.Storages.{AreImageOf, IsImageOf, cleared_image, drawn_image, recopied_by, rewritten_image}
 use Rattle.driver_objects.specs.declared.objects.Object.{Object}
+use Rattle.driver_objects.specs.declared.surfaces.BackedSurface.{BackedSurface}
 use Rattle.driver_objects.specs.declared.objects.Object.TheVariants.{Context, Storage, Surface, Sync}
 use Rattle.model_laws.specs.Full.{Full}
 use Rattle.egl_model.specs.Graph.{is_in}
 use Rattle.driver_objects.specs.declared.fences.Fence.{Fence}
 use Rattle.egl_model.specs.Flushes.{flushed_to}
 use Rattle.egl_model.specs.Objects.{with_context, with_fence, with_image, with_part, with_surface}
-use Rattle.model_laws.specs.Shapes.{Leads, Shape, pixels_in, slots_in}
+use Rattle.model_laws.specs.Shapes.{Leads, Shape, pixels_in, shape_of, slots_in}
 use Rattle.egl_model.specs.Currents.{has_context}
 use Rattle.egl_model.specs.State.{State}
-use Rattle.model_laws.proofs.Moves.{Setter, body_in, draws, NoneElse, Suits}
+use Rattle.model_laws.proofs.Moves.{Body, Setter, body_in, draws, NoneElse, Suits}
 
 -- ---- A context's own part.
 pub holds-part : (f : PartValue → PartValue) (o : Option Object) → body_in (with_part f o) ≡ body_in o
@@ -126,12 +127,15 @@ suits-fence t sh s n f = record { leads = leads; pixels = λ o m h. inl (ap (is_
     leads (Some (Sync x)) l = l
     leads o l = l
 
--- ---- A surface but for its storage.
-pub setter-surface : (f : SurfaceValue → SurfaceValue) → Setter (with_surface f)
-setter-surface f = record { body = body; full = full }
+-- ---- A surface but for its storage, its sides and its window.
+abbrev shaped : Shape → Body
+shaped y = record { shape = Some y; bytes = 0 }
+
+pub setter-surface : (f : SurfaceValue → SurfaceValue) → ((x : BackedSurface) → shape_of (Surface (record x { surface = f x.surface })) ≡ shape_of (Surface x)) → Setter (with_surface f)
+setter-surface f same = record { body = body; full = full }
   where
     body : (o : Option Object) → body_in (with_surface f o) ≡ body_in o
-    body (Some (Surface x)) = refl
+    body (Some (Surface x)) = ap shaped (same x)
     body o = refl
 
     full : (o : Option Object) → Full o → Full (with_surface f o)

@@ -1,8 +1,9 @@
 -- What each step keeps, and so each history.
 use Rattle.std.proofs.Common.{◌≡◌, ℕ, true, false, List, [], ◌∷◌, refl, sym, ap, subst, ◌∙◌, arith, get_or, Option, None, Some, is_some}
 use Rattle.display_table.specs.declared.handles.HandleKind.TheVariants.{Context as a_context, Surface as a_surface, Image as an_image, Sync as a_sync}
-use Rattle.std.specs.Prelude.{replicate}
-use Rattle.std.proofs.lemmas.List.Elements.{All-nil}
+use Rattle.std.specs.Prelude.{All, map, replicate}
+use Rattle.std.proofs.lemmas.List.Elements.{All-cons, All-head, All-nil, All-tail}
+use Rattle.std.proofs.lemmas.Option.{none-some}
 use Rattle.egl_calls.specs.Calls.{CallValue}
 use Rattle.egl_calls.specs.declared.entries.Entry.{Entry}
 use Rattle.egl_calls.specs.declared.kinds.Kind.TheVariants.{Egl, Gl}
@@ -18,15 +19,17 @@ use Rattle.context_state.specs.Calls.{apply}
 use Rattle.model_laws.specs.Extents.{SameFlags, egl_extent, extent_of_kind, quiet}
 use Rattle.display_table.specs.declared.handles.Handle.{Handle}
 use Rattle.egl_model.specs.declared.records.ThreadRecord.{ThreadRecord}
-use Rattle.surface_store.specs.Windows.{windows_ok}
+use Rattle.surface_store.specs.Windows.{WindowValue, opened, windows_ok}
+use Rattle.surface_store.specs.WindowTables.{HasSides}
 use Rattle.surface_store.specs.declared.windows.WindowSpec.{WindowSpec}
 use Rattle.egl_model.specs.State.{State, capacity, initial, opening, record_of, set_error, has_object}
-use Rattle.model_laws.specs.Full.{IsFull}
+use Rattle.model_laws.specs.Full.{IsFull, IsWindow}
 use Rattle.model_laws.specs.Kinds.{NamesItsKind}
 use Rattle.model_laws.specs.Laws.{HandlesAreNew, ObjectsAreNew, StayValid}
 use Rattle.egl_model.specs.Links.{IsHeld}
 use Rattle.model_laws.specs.Shapes.{Leads, shapes}
-use Rattle.model_laws.specs.Sound.{IsBelowNext, IsBoundBelowNext, IsSound, IsWhole}
+use Rattle.model_laws.specs.Sound.{IsBelowNext, IsBoundBelowNext, IsSound, IsWhole, SidesAgree}
+use Rattle.model_laws.specs.Swaps.{forms}
 use Rattle.model_laws.specs.Wants.{PixelsFit}
 use Rattle.egl_model.specs.Sweep.{live_bytes, sweep}
 use Rattle.egl_model.specs.Waits.{waiting}
@@ -59,7 +62,7 @@ use Rattle.model_laws.proofs.TextureCalls.{acts-crop, acts-parameter, acts-rewri
 use Rattle.model_laws.proofs.FrameMoves.{frame_self, handles_then, objects_then}
 use Rattle.model_laws.proofs.LinkLaws.{exists_marked}
 use Rattle.model_laws.proofs.LitterLaws.{no_litter-opening, no_litter-step}
-use Rattle.model_laws.proofs.Places.{frozen_at-shapes, initial_at}
+use Rattle.model_laws.proofs.Places.{frozen_at-shapes, initial_at, own_at-shapes, window_id_at-shapes}
 use Rattle.model_laws.proofs.Slots.{no_edge}
 use Rattle.surface_store.proofs.WindowLaws.{opened_sides}
 use Rattle.model_laws.proofs.Ways.{each_way}
@@ -203,6 +206,13 @@ unbound windows ok video t n h = absurd (let e : false ≡ true = sym (initial_a
 undrawn : (windows : List WindowSpec) → windows_ok windows ≡ true → (video t n : ℕ) {A : Type 0} → has_surface n (record_of (opening windows video) t) ≡ true → A
 undrawn windows ok video t n h = absurd (let e : false ≡ true = sym (initial_at (has_surface n) capacity t) ∙ h in cc)
 
+-- no object has sides that could disagree
+pub sides_of_none : (ws : List WindowValue) → SidesAgree (shapes []) ws
+sides_of_none ws = record {
+  storage = λ m n e. absurd (none-some n (sym (own_at-shapes [] m) ∙ e));
+  window = λ m id e. absurd (none-some id (sym (window_id_at-shapes [] m) ∙ e));
+}
+
 pub whole-opening : (windows : List WindowSpec) → windows_ok windows ≡ true → (video : ℕ) → IsWhole (shapes []) (opening windows video)
 whole-opening windows ok video = record {
   kinds = record {
@@ -212,6 +222,7 @@ whole-opening windows ok video = record {
   };
   storages = record { each = λ m n k e h. no_edge k h };
   thawed = record { each = λ m n e. frozen_at-shapes [] n };
+  sides = sides_of_none (opening windows video).windows;
   alone = record { contexts = λ t u n h k. unbound windows ok video t n h; surfaces = λ t u n h k. undrawn windows ok video t n h };
   both = record { draw = at_first (λ (r : ThreadRecord). is_some r.draw ≡ true → is_some r.context ≡ true) (λ r. r) (λ h. h); read = at_first (λ (r : ThreadRecord). is_some r.read ≡ is_some r.draw) (λ r. r) refl };
   numbers = record {
@@ -227,12 +238,16 @@ pixels-opening : (windows : List WindowSpec) → windows_ok windows ≡ true →
 unfolding live_bytes
 pixels-opening windows ok video = omega arith
 
+opened_windows : (ws : List WindowSpec) → All HasSides (map opened ws) → All IsWindow (map opened ws)
+opened_windows [] a = All-nil IsWindow
+opened_windows (x ∷ ws) a = All-cons IsWindow (opened x) (map opened ws) (record { sides = All-head HasSides (opened x) (map opened ws) a; format = refl; owned = refl }) (opened_windows ws (All-tail HasSides (opened x) (map opened ws) a))
+
 pub sound-opening : (windows : List WindowSpec) → windows_ok windows ≡ true → (video : ℕ) → IsSound (opening windows video)
 sound-opening windows ok video = record {
   litter = no_litter-opening windows ok video;
   linked = linked_from (opening windows video) (whole-opening windows ok video);
   whole = whole-opening windows ok video;
-  full = record { each = λ n. tt; windows = opened_sides windows ok };
+  full = record { each = λ n. tt; windows = opened_windows windows (opened_sides windows ok) };
   pixels = pixels-opening windows ok video;
 }
 
@@ -253,3 +268,7 @@ handles-replay s (e ∷ es) = let a = (step s e.thread e.call).state in handles_
 pub objects-replay : (s : State) (es : List Entry) → ObjectsAreNew s (replay_from s es)
 objects-replay s [] = (frame_self 0 s).objects
 objects-replay s (e ∷ es) = let a = (step s e.thread e.call).state in objects_then s a (replay_from a es) (keeps-step s e.thread e.call).frame.objects (objects-replay a es)
+
+pub windows-replay : (s : State) (es : List Entry) → forms (replay_from s es).windows ≡ forms s.windows
+windows-replay s [] = refl
+windows-replay s (e ∷ es) = let a = (step s e.thread e.call).state in windows-replay a es ∙ (keeps-step s e.thread e.call).frame.windows

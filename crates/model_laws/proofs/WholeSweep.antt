@@ -1,5 +1,5 @@
 -- A whole state is linked, and a sweep leaves it whole.
-use Rattle.std.proofs.Common.{◌≡◌, ℕ, zero, suc, ◌+◌, ◌<◌, inl, inr, Bool, true, false, cond, List, [], ◌∷◌, ◌++◌, refl, sym, ap, subst, ◌∙◌, arith, length, map, Option, None, Some, get_or, is_some, append_assoc}
+use Rattle.std.proofs.Common.{◌≡◌, ℕ, ℤ, zero, suc, ◌+◌, ◌<◌, inl, inr, Bool, true, false, cond, List, [], ◌∷◌, ◌++◌, refl, sym, ap, subst, ◌∙◌, arith, length, map, Option, None, Some, get_or, is_some, append_assoc}
 use Rattle.std.specs.Prelude.{All, ◌==◌, option_to_list}
 use Rattle.std.specs.List.{flat_map}
 use Rattle.std.specs.Option.{option_map}
@@ -18,17 +18,18 @@ use Rattle.driver_objects.proofs.SlotLaws.{objects_cons}
 use Rattle.display_table.specs.declared.handles.Handle.{Handle}
 use Rattle.egl_model.specs.declared.records.Bound.{Bound}
 use Rattle.egl_model.specs.declared.records.ThreadRecord.{ThreadRecord}
+use Rattle.egl_calls.specs.Ranges.{unsigned}
 use Rattle.egl_model.specs.Graph.{is_in}
 use Rattle.egl_model.specs.State.{State, initial, object_at, record_of, has_object}
 use Rattle.model_laws.specs.Kinds.{KindsFit, NamesItsKind, named_kind}
 use Rattle.egl_model.specs.Links.{IsLinked, is_root, rank_in, refers}
-use Rattle.model_laws.specs.Shapes.{Goes, HasKind, Leads, Shape, kind_at, own_at, pixels_in, shapes, slots_in}
-use Rattle.model_laws.specs.Sound.{IsWhole, OwnAreThawed, StoragesAreOwn}
+use Rattle.model_laws.specs.Shapes.{Goes, HasKind, Leads, Shape, kind_at, own_at, pixels_in, shapes, sides_at, slots_in, window_id_at}
+use Rattle.model_laws.specs.Sound.{IsWhole, OwnAreThawed, SidesAgree, StoragesAreOwn, window_sides}
 use Rattle.egl_model.specs.Sweep.{bound_object, edges_at, edges_in, held_by, is_reached, roots, roots_of, sweep}
 use Rattle.model_laws.proofs.GraphLaws.{or_first}
 use Rattle.model_laws.proofs.LinkLaws.{reached_on, root_marked, same_object}
-use Rattle.model_laws.proofs.Moves.{frozen_in, own_in}
-use Rattle.model_laws.proofs.Places.{frozen_at-shapes, kind_at-shapes, own_at-shapes}
+use Rattle.model_laws.proofs.Moves.{frozen_in, own_in, sides_in, window_id_in}
+use Rattle.model_laws.proofs.Places.{frozen_at-shapes, kind_at-shapes, own_at-shapes, sides_at-shapes, window_id_at-shapes}
 use Rattle.model_laws.proofs.Slots.{LedTo, in_cases, in_left, in_right, led_object, no_edge, only_one}
 use Rattle.model_laws.proofs.SweepLaws.{object_at-sweep}
 
@@ -112,7 +113,7 @@ there : (o : Option Object) (k : ObjectKind) → option_map kind_of o ≡ Some k
 there None k h = absurd (let e : None ≡ Some k = h in cc)
 there (Some x) k h = refl
 
-exists_at : (s : State) (k : ObjectKind) (n : ℕ) → HasKind (shapes s.objects) k n → has_object s n ≡ true
+pub exists_at : (s : State) (k : ObjectKind) (n : ℕ) → HasKind (shapes s.objects) k n → has_object s n ≡ true
 exists_at s k n h = there (object_at s n) k (sym (kind_at-shapes s.objects n) ∙ h.is)
 
 rank_by_kind : (o : Option Object) (k : ObjectKind) → option_map kind_of o ≡ Some k → rank_in o ≡ rank_of_kind k
@@ -238,6 +239,39 @@ thawed-sweep s o = record {
       frozen_at-shapes (sweep s).objects k ∙ ap frozen_in (object_at-sweep s k) ∙ thawed_kept (is_reached s k) (object_at s k) (sym (frozen_at-shapes s.objects k) ∙ o.each m k before);
 }
 
+-- a surface that is kept keeps its storage, and both have the sides that they had
+kept_where : (b : Bool) (o : Option Object) (k : ℕ) → own_in (cond b o None) ≡ Some k → b ≡ true
+kept_where true o k e = refl
+kept_where false o k e = absurd (let f : None ≡ Some k = e in cc)
+
+own_edge : (o : Option Object) (k : ℕ) → own_in o ≡ Some k → is_in k (edges_in o) ≡ true
+own_edge (Some (Surface x)) k e = or_first (x.storage == k) false (eq-eqb x.storage k (let f : Some x.storage ≡ Some k = e in cc))
+own_edge o k e = absurd (let f : None ≡ Some k = e in cc)
+
+same_sides : (s : State) (n : ℕ) → is_reached s n ≡ true → sides_at (shapes (sweep s).objects) n ≡ sides_at (shapes s.objects) n
+same_sides s n r = sides_at-shapes (sweep s).objects n ∙ ap sides_in (same_object s n r) ∙ sym (sides_at-shapes s.objects n)
+
+storage_sides-sweep : (s : State) → IsWhole (shapes s.objects) s → (m k : ℕ) → own_at (shapes (sweep s).objects) m ≡ Some k → sides_at (shapes (sweep s).objects) k ≡ sides_at (shapes (sweep s).objects) m
+unfolding edges_at
+storage_sides-sweep s w m k e =
+    let f : own_in (cond (is_reached s m) (object_at s m) None) ≡ Some k = ap own_in (sym (object_at-sweep s m)) ∙ sym (own_at-shapes (sweep s).objects m) ∙ e in
+    let before : own_in (object_at s m) ≡ Some k = own_before (is_reached s m) (object_at s m) k f in
+    let r = kept_where (is_reached s m) (object_at s m) k f in
+    same_sides s k (reached_on s (linked_from s w) m k r (own_edge (object_at s m) k before))
+    ∙ w.sides.storage m k (own_at-shapes s.objects m ∙ before) ∙ sym (same_sides s m r)
+
+window_before : (b : Bool) (o : Option Object) (id : ℤ) → window_id_in (cond b o None) ≡ Some id → (b ≡ true) × (window_id_in o ≡ Some id)
+window_before true o id e = (refl, e)
+window_before false o id e = absurd (let f : None ≡ Some id = e in cc)
+
+sides-sweep : (s : State) → IsWhole (shapes s.objects) s → SidesAgree (shapes (sweep s).objects) s.windows
+sides-sweep s w = record {
+  storage = storage_sides-sweep s w;
+  window = λ m id e.
+      let a = window_before (is_reached s m) (object_at s m) id (ap window_id_in (sym (object_at-sweep s m)) ∙ sym (window_id_at-shapes (sweep s).objects m) ∙ e) in
+      same_sides s m a.0 ∙ w.sides.window m id (window_id_at-shapes s.objects m ∙ a.1);
+}
+
 pub whole-sweep : (s : State) → IsWhole (shapes s.objects) s → IsWhole (shapes (sweep s).objects) (sweep s)
 unfolding named_by
 whole-sweep s w = record {
@@ -248,6 +282,7 @@ whole-sweep s w = record {
   };
   storages = own-sweep s w.storages;
   thawed = thawed-sweep s w.thawed;
+  sides = sides-sweep s w;
   alone = record { contexts = w.alone.contexts; surfaces = w.alone.surfaces };
   both = record { draw = w.both.draw; read = w.both.read };
   numbers = record { handles = w.numbers.handles; apart = w.numbers.apart; context = w.numbers.context; draw = w.numbers.draw; read = w.numbers.read };

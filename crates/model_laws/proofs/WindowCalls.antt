@@ -1,8 +1,10 @@
 -- What surfaces of windows and swaps keep, and that they pass what is put for others.
-use Rattle.std.proofs.Common.{◌≡◌, ℕ, ◌+◌, ◌<◌, ◌≤◌, ℤ, Bool, true, false, List, [], ◌∷◌, refl, ap, ◌∙◌, arith, length, ltb, cond, ◌*◌, sym, Option, None, Some}
+use Rattle.std.proofs.Common.{◌≡◌, ℕ, ◌+◌, ◌<◌, ◌≤◌, ℤ, Bool, true, false, List, [], ◌∷◌, refl, ap, ◌∙◌, arith, length, ltb, eqb, cond, ◌*◌, sym, is_some, Option, None, Some}
 use Rattle.std.specs.Prelude.{All}
 use Rattle.std.specs.Option.{option_and_then, option_map, option_map_or}
+use Rattle.std.proofs.lemmas.Bool.{eqb-true}
 use Rattle.std.proofs.lemmas.List.{length-replicate}
+use Rattle.std.proofs.lemmas.List.Quantifiers.{position-Some}
 use Rattle.egl_calls.specs.Ranges.{unsigned}
 use Rattle.egl_calls.specs.Calls.{CallValue}
 use Rattle.egl_calls.specs.declared.kinds.Kind.TheVariants.{Egl}
@@ -13,7 +15,7 @@ use Rattle.pixel_rows.specs.Images.{ImageValue, blank}
 use Rattle.surface_store.proofs.WindowLaws.{place_inside}
 use Rattle.surface_store.specs.Formats.{format_of}
 use Rattle.surface_store.specs.Windows.{WindowValue}
-use Rattle.surface_store.specs.WindowTables.{HasSides, fits, no_window, place_of, spec_of, swapped_windows, window_at}
+use Rattle.surface_store.specs.WindowTables.{fits, no_window, place_of, spec_of, swapped_windows, window_at}
 use Rattle.surface_store.specs.declared.windows.WindowSpec.{WindowSpec}
 use Rattle.pixel_formats.specs.declared.formats.Format.{Format}
 use Rattle.driver_objects.specs.Storages.{IsImageOf, StorageValue, shown_by, swapped_image, swapped_storage}
@@ -28,11 +30,13 @@ use Rattle.egl_model.specs.Arguments.{number}
 use Rattle.egl_model.specs.Currents.{bound_surface, draw_storage, is_bound}
 use Rattle.egl_model.specs.EglFacts.{egl_refusal}
 use Rattle.model_laws.specs.Extents.{making, quiet}
-use Rattle.model_laws.specs.Full.{IsFull}
+use Rattle.model_laws.specs.Full.{IsFull, IsWindow}
 use Rattle.egl_model.specs.Handles.{handle_at, with_handle}
 use Rattle.egl_model.specs.Objects.{as_surface, change_storage, with_image}
 use Rattle.egl_model.specs.Parts.{places, put_own}
 use Rattle.model_laws.specs.Shapes.{shapes}
+use Rattle.model_laws.specs.Slots.{Sides}
+use Rattle.model_laws.specs.Sound.{front_sides, window_sides}
 use Rattle.egl_model.specs.State.{State, record_of}
 use Rattle.egl_model.specs.Surfaces.{surface_facts}
 use Rattle.egl_model.specs.Sweep.{live_bytes}
@@ -41,17 +45,17 @@ use Rattle.model_laws.proofs.Blinds.{blind-length, blind-live_bytes, blind-own_s
 use Rattle.model_laws.proofs.Keeps.{Acts, Blind, acts_of, acts_self, by_full_moves, by_quiet_moves}
 use Rattle.model_laws.proofs.Moves.{Add, Change, Name, Post}
 use Rattle.model_laws.proofs.NewObjects.{full-blank, with_own_pixels, without_pixels}
-use Rattle.model_laws.proofs.Places.{new_frozen, new_kind}
+use Rattle.model_laws.proofs.Places.{new_frozen, new_kind, new_sides}
 use Rattle.model_laws.proofs.Puts.{blind-surface}
 use Rattle.model_laws.proofs.Setters.{KeepsForm, setter-image, suits-image}
 use Rattle.model_laws.proofs.Writes.{IsBlind, blind-written, sum-written}
 
 -- ---- What is seen of windows.
 -- what is named has at most the longest sides
-sides_of : (ws : List WindowValue) (o : Option ℕ) → ((k : ℕ) → o ≡ Some k → k < length ws) → All HasSides ws →
+sides_of : (ws : List WindowValue) (o : Option ℕ) → ((k : ℕ) → o ≡ Some k → k < length ws) → All IsWindow ws →
     let spec = option_map_or spec_of (option_map (window_at ws) o) undeclared in (spec.w ≤ 2048) × (spec.h ≤ 2048)
 sides_of ws None inside a = (omega arith, omega arith)
-sides_of ws (Some k) inside a = let h = a k no_window (inside k refl) in (h.widest, h.highest)
+sides_of ws (Some k) inside a = let h = a k no_window (inside k refl) in (h.sides.widest, h.sides.highest)
 
 named_sides : (s : State) (c : CallValue) → IsFull s → ((named_spec s c).w ≤ 2048) × ((named_spec s c).h ≤ 2048)
 named_sides s c f = sides_of s.windows (place_of (number c 2) s.windows) (place_inside (number c 2) s.windows) f.windows
@@ -86,6 +90,22 @@ blind-draw_surface : (t : ℕ) (s : State) → Blind t s (λ a. bound_surface a 
 blind-draw_surface t s w v x ne = ap (λ (r : ThreadRecord). bound_surface (put_own s v x) r.draw) (blind-record t s w v x ne) ∙ blind-bound t (record_of s t).draw s w v x ne
 
 -- ---- eglCreateWindowSurface.
+abbrev sides_asked : WindowSpec → Option Sides
+sides_asked spec = Some (record { width = spec.w; height = spec.h })
+
+-- the sides of what the call names are those of the window of its id
+shown_at : (n : ℕ) (ws : List WindowValue) (o : Option ℕ) → place_of n ws ≡ o → is_some o ≡ true → (id : ℤ) → let spec = option_map_or spec_of (option_map (window_at ws) o) undeclared in
+    Some spec.id ≡ Some id → sides_asked spec ≡ window_sides (unsigned id) ws
+shown_at n ws None e i id h = absurd (let f : false ≡ true = i in cc)
+shown_at n ws (Some k) e i id h =
+    let is : (window_at ws k).id ≡ id = let f : Some (window_at ws k).id ≡ Some id = h in cc in
+    let same : unsigned id ≡ n = ap unsigned (sym is) ∙ eqb-true (unsigned (window_at ws k).id) n (position-Some (λ (w : WindowValue). eqb (unsigned w.id) n) ws k no_window e).1 in
+    sym (ap (λ m. window_sides m ws) same ∙ ap (λ (p : Option ℕ). option_map front_sides (option_map (window_at ws) p)) e)
+
+spec_is_shown : (s : State) (c : CallValue) → is_some (named_place s c) ≡ true → (id : ℤ) → Some (named_spec s c).id ≡ Some id →
+    sides_asked (named_spec s c) ≡ window_sides (unsigned id) s.windows
+spec_is_shown s c i id h = shown_at (number c 2) s.windows (named_place s c) refl i id h
+
 pub acts-window : (s : State) (t : ℕ) (c : CallValue) → c.kind ≡ Egl CreateWindowSurface → egl_refusal s t CreateWindowSurface c ≡ None → Acts making t s (λ a. created_window a c)
 unfolding egl_refusal live_bytes
 acts-window s t c h r =
@@ -98,7 +118,7 @@ acts-window s t c h r =
     (λ f. let a = named_sides s c f in ((tt, (full-blank (format_of (signed c 1)) spec.w spec.h a.0 a.1, tt)), (tt, tt)))
     (λ p. let a = (window_allowed c (window_facts s c) h r).room in omega (arith, a))
     (λ w. (
-      ((new_kind s.objects new 1 (n + 1) a_storage refl refl, tt), with_own_pixels _ (n + 0) _ (omega arith) (new_frozen s.objects new 1 (n + 0 + 1) (omega arith)), (tt, without_pixels _ (n + 1) _ refl refl, tt)),
+      ((new_kind s.objects new 1 (n + 1) a_storage refl refl, tt), with_own_pixels _ (n + 0) _ (omega arith) (new_frozen s.objects new 1 (n + 0 + 1) (omega arith)) (new_sides s.objects new 1 (n + 0 + 1) (omega arith)) (spec_is_shown s c (window_allowed c (window_facts s c) h r).window), (tt, without_pixels _ (n + 1) _ refl refl, tt)),
       λ v. (new_kind s.objects new 0 n a_surface_kind (omega arith) refl, tt),
     )))
 

@@ -18,4 +18,5 @@ pub mod Frame
 pub mod Refs
 pub mod Deleted
 pub mod Siblings
+pub mod Swaps
 pub mod Statuses

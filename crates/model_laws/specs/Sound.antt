@@ -1,5 +1,9 @@
 -- States that are sound, as each step leaves them.
-use Rattle.std.specs.Prelude.{◌≡◌, ◌≢◌, ℕ, ◌<◌, List, true, false, All, AllPairs, is_some, Option, Some, IfSome}
+use Rattle.std.specs.Prelude.{◌≡◌, ◌≢◌, ℕ, ℤ, ◌<◌, List, true, false, All, AllPairs, is_some, Option, Some, IfSome}
+use Rattle.std.specs.Option.{option_map}
+use Rattle.egl_calls.specs.Ranges.{unsigned}
+use Rattle.surface_store.specs.Windows.{WindowValue}
+use Rattle.surface_store.specs.WindowTables.{window_of}
 use Rattle.egl_model.specs.declared.records.Bound.{Bound}
 use Rattle.egl_model.specs.State.{State, object_at, record_of}
 use Rattle.egl_model.specs.Currents.{has_context, has_surface}
@@ -7,7 +11,8 @@ use Rattle.model_laws.specs.Laws.{HasNoLitter}
 use Rattle.model_laws.specs.Kinds.{KindsFit}
 use Rattle.egl_model.specs.Graph.{is_in}
 use Rattle.egl_model.specs.Links.{IsLinked}
-use Rattle.model_laws.specs.Shapes.{Shape, frozen_at, own_at, pixels_in, shapes}
+use Rattle.model_laws.specs.Shapes.{Shape, frozen_at, own_at, pixels_in, shapes, sides_at, window_id_at}
+use Rattle.model_laws.specs.Slots.{Sides}
 use Rattle.model_laws.specs.Full.{IsFull}
 use Rattle.model_laws.specs.Wants.{PixelsFit}
 
@@ -45,11 +50,24 @@ pub record StoragesAreOwn (sh : List (Option Shape)) (s : State) : Type 0 where
 pub record OwnAreThawed (sh : List (Option Shape)) : Type 0 where
   pub each : (m n : ℕ) → own_at sh m ≡ Some n → frozen_at sh n ≡ false
 
+-- the sides of what a window shows, and of the window of an id, where it is declared
+abbrev pub front_sides : WindowValue → Sides
+front_sides w = record { width = w.front.width; height = w.front.height }
+
+abbrev pub window_sides : ℕ → List WindowValue → Option Sides
+window_sides id ws = option_map front_sides (window_of id ws)
+
+-- a surface has the sides of its storage; that of a window has those of the window, which is declared (sections 3.5.1 and 3.10.1)
+pub record SidesAgree (sh : List (Option Shape)) (ws : List WindowValue) : Type 0 where
+  pub storage : (m n : ℕ) → own_at sh m ≡ Some n → sides_at sh n ≡ sides_at sh m
+  pub window : (m : ℕ) (id : ℤ) → window_id_at sh m ≡ Some id → sides_at sh m ≡ window_sides (unsigned id) ws
+
 -- what each change of a state keeps, seen with the shapes of its objects
 pub record IsWhole (sh : List (Option Shape)) (s : State) : Type 0 where
   pub kinds : KindsFit sh s
   pub storages : StoragesAreOwn sh s
   pub thawed : OwnAreThawed sh
+  pub sides : SidesAgree sh s.windows
   pub alone : IsAlone s
   pub both : HasBothOrNone s
   pub numbers : NumbersAreBelow s

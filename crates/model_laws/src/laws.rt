@@ -40,7 +40,9 @@ ghost use Rattle.egl_image.specs.declared.images.EglImage.{EglImage as AnEglImag
 ghost use Rattle.driver_objects.specs.declared.renderbuffers.BackedRenderbuffer.{BackedRenderbuffer};
 ghost use Rattle.framebuffer_objects.specs.Renderbuffers.{of_kind};
 ghost use Rattle.framebuffer_objects.specs.declared.points.Point.TheVariants.{Color};
-ghost use Rattle.egl_model.specs.Objects.{context_in, fence_in, renderbuffer_in, framebuffer_in, storage_in, texture_in};
+ghost use Rattle.egl_model.specs.MakeCurrent.{draw_handle};
+ghost use Rattle.egl_model.specs.Objects.{context_in, fence_in, renderbuffer_in, framebuffer_in, storage_in, surface_of, texture_in};
+ghost use Rattle.model_laws.specs.Frame.{IsReady};
 ghost use Rattle.egl_model.specs.Names.{group_of, names_in, object_named};
 ghost use Rattle.texture_objects.specs.declared.levels.TheConstants.{LEVELS};
 ghost use Rattle.egl_model.specs.Textures.{level_of, storage_at, target_texture};
@@ -57,6 +59,12 @@ ghost use Rattle.egl_model.specs.EglFacts.{egl_refusal};
 ghost use Rattle.egl_model.specs.GlFacts.{copy_facts, gl_refusal, data_facts, storage_facts};
 ghost use Rattle.egl_model.specs.Step.{bare, done, note_error, step};
 ghost use Rattle.egl_model.specs.Waits.{ended, is_signalled};
+ghost use Rattle.egl_model.specs.Windows.{back_of, front_of};
+ghost use Rattle.egl_names.specs.declared.codes.TheConstants.{EGL_BUFFER_DESTROYED, EGL_BUFFER_PRESERVED};
+ghost use Rattle.driver_objects.specs.declared.surfaces.BackedSurface.{BackedSurface as ASurface};
+ghost use Rattle.pixel_formats.specs.declared.formats.Format.TheVariants.{Rgba8888};
+ghost use Rattle.pixel_rows.specs.Images.{ImageValue as AnImage, blank};
+ghost use Rattle.model_laws.specs.Swaps.{HasSwapBehavior, IsSwap, forms};
 ghost use Rattle.egl_model.specs.History.{replay_from, IsLegalFrom};
 ghost use Rattle.model_laws.specs.Laws.{HasNoLitter, IsAllowedEgl, IsAllowedGl, IsEglCall, IsGlCall, IsRefusedEgl, IsRefusedGl, HandlesAreNew, ObjectsAreNew, StayValid};
 ghost use Rattle.egl_model.specs.Surfaces.{created_pbuffer};
@@ -65,7 +73,7 @@ ghost use Rattle.egl_model.specs.Links.{IsHeld, IsLinked};
 ghost use Rattle.model_laws.specs.Named.{Exists, IsHandled, IsHeldByThread, IsUsed};
 ghost use Rattle.model_laws.specs.Kinds.{IsA, KindsFit};
 ghost use Rattle.model_laws.specs.DisplayCalls.{IsInitialized, IsTerminated};
-ghost use Rattle.model_laws.specs.CurrentCalls.{HasNoneCurrent, IsBoundBy, IsMadeCurrent};
+ghost use Rattle.model_laws.specs.CurrentCalls.{HasNoneCurrent, IsBoundBy, IsGiven, IsMadeCurrent, with_box};
 ghost use Rattle.model_laws.specs.NewHandles.{HasNewHandle, HasNewImage};
 ghost use Rattle.model_laws.specs.Siblings.{LeavesSiblings};
 ghost use Rattle.egl_model.specs.Displays.{is_initialized};
@@ -158,6 +166,23 @@ pub fn own_calls_change_nothing()
     ensures { (s : State) (t : ℕ) (k : OwnKind) (c : CallValue) → c.kind ≡ Own k → k ≢ ReadBuffer → k ≢ WaitEnd → (step s t c).state ≡ s }
 {}
 
+/// An eglSwapBuffers that no rule refuses, of a window's surface, leaves in the window what the back buffer has, on its sides and with 8 bits a component; other windows show what they showed. The back buffer stays as it was where EGL_SWAP_BEHAVIOR is EGL_BUFFER_PRESERVED, and is all 0 where it is EGL_BUFFER_DESTROYED. A pbuffer's swap changes no pixel (sections 3.5.6 and 3.10.1).
+pub fn a_swap_shows_the_back_buffer()
+    ensures there { (s : State) (t : ℕ) (c : CallValue) (x : ASurface) → IsSound s → IsSwap s t c x → is_some (back_of s x) ≡ true }
+    ensures front { (s : State) (t : ℕ) (c : CallValue) (x : ASurface) (id : ℤ) (back : AnImage) → IsSound s → IsSwap s t c x → x.surface.window ≡ Some id → back_of s x ≡ Some back → front_of (unsigned id) (step s t c).state ≡ Some (record back { format = Rgba8888 }) }
+    ensures others { (s : State) (t : ℕ) (c : CallValue) (x : ASurface) (id : ℤ) (other : ℕ) → IsSwap s t c x → x.surface.window ≡ Some id → other ≢ unsigned id → front_of other (step s t c).state ≡ front_of other s }
+    ensures preserved { (s : State) (t : ℕ) (c : CallValue) (x : ASurface) (id : ℤ) (back : AnImage) → IsSound s → IsSwap s t c x → x.surface.window ≡ Some id → back_of s x ≡ Some back → HasSwapBehavior x EGL_BUFFER_PRESERVED → back_of (step s t c).state x ≡ Some back }
+    ensures destroyed { (s : State) (t : ℕ) (c : CallValue) (x : ASurface) (id : ℤ) (back : AnImage) → IsSound s → IsSwap s t c x → x.surface.window ≡ Some id → back_of s x ≡ Some back → HasSwapBehavior x EGL_BUFFER_DESTROYED → back_of (step s t c).state x ≡ Some (blank back.format back.width back.height) }
+    ensures pbuffer { (s : State) (t : ℕ) (c : CallValue) (x : ASurface) → IsSwap s t c x → x.surface.window ≡ None → (step s t c).state.windows ≡ s.windows }
+    ensures pixels { (s : State) (t : ℕ) (c : CallValue) (x : ASurface) → IsSound s → IsSwap s t c x → x.surface.window ≡ None → back_of (step s t c).state x ≡ back_of s x }
+{}
+
+/// Whatever a call does, a window keeps its id, and the format and the sides of what it shows.
+pub fn windows_keep_their_sides()
+    ensures step { (s : State) (t : ℕ) (c : CallValue) → forms (step s t c).state.windows ≡ forms s.windows }
+    ensures history { (windows : List WindowSpec) (video : ℕ) (entries : List Entry) → forms (replay_from (opening windows video) entries).windows ≡ forms (opening windows video).windows }
+{}
+
 /// A fence whose context is gone is signalled, so the context of one that isn't signalled is there; a flush signals the fences that its context has made, and leaves those of other contexts (EGL 1.5, section 3.8.1).
 pub fn a_fence_is_signalled_by_its_context()
     ensures ended { (s : State) (n : ℕ) (x : AFence) → fence_in s.objects n ≡ Some x → has_object s x.context ≡ false → is_signalled s n ≡ true }
@@ -221,6 +246,13 @@ pub fn make_current_binds_what_it_is_given()
     ensures no_read { (s : State) (t : ℕ) (c : CallValue) → IsMadeCurrent s t c → t < length s.threads → is_zero c 2 ≡ true → (record_of (step s t c).state t).read ≡ None }
     ensures handles { (s : State) (t : ℕ) (c : CallValue) → IsMadeCurrent s t c → (step s t c).state.handles ≡ s.handles }
     ensures wait { (s : State) (t : ℕ) (c : CallValue) → IsMadeCurrent s t c → (record_of (step s t c).state t).wait ≡ None }
+{}
+
+/// The first time that a context is made current its viewport and its scissor box become the surface that its thread then draws to, and 0 by 0 where it draws to none; nothing else of what the context keeps changes, and later nothing at all (EGL 1.5, section 3.7.3; OES_surfaceless_context).
+pub fn a_context_takes_the_sides_of_its_first_surface()
+    ensures sides { (s : State) (t : ℕ) (c : CallValue) (context : Handle) (x : ASurface) (p : PartValue) → IsReady s t → IsGiven s t c context → surface_of s (draw_handle s c) ≡ Some x → part_of_context s context.object ≡ Some p → p.was_current ≡ false → part_of_context (step s t c).state context.object ≡ Some (with_box x.surface.width x.surface.height p) }
+    ensures none { (s : State) (t : ℕ) (c : CallValue) (context : Handle) (p : PartValue) → IsReady s t → IsGiven s t c context → draw_handle s c ≡ None → part_of_context s context.object ≡ Some p → p.was_current ≡ false → part_of_context (step s t c).state context.object ≡ Some (with_box 0 0 p) }
+    ensures later { (s : State) (t : ℕ) (c : CallValue) (context : Handle) (p : PartValue) → IsReady s t → IsGiven s t c context → part_of_context s context.object ≡ Some p → p.was_current ≡ true → part_of_context (step s t c).state context.object ≡ Some p }
 {}
 
 /// Where no rule refuses an eglCreateWindowSurface, an eglCreatePbufferSurface, an eglCreateContext, an eglCreateSync or an eglCreateImage, it answers the number of a new handle, which names a new object of its kind, and the next number rises by one (EGL 1.5, sections 3.5.1, 3.5.2, 3.7.1, 3.8.1 and 3.9). It rises at no other call, and at none that isn't done.

@@ -1,8 +1,8 @@
 //! The buffers of a table (OpenGL ES 1.1, section 2.9).
-ghost use Rattle.std.specs.Prelude.{◌≡◌, ◌+◌, ◌≤◌, [], Some, length, option_copied, IfOk, IfSome, OnErr, OnOk};
+ghost use Rattle.std.specs.Prelude.{◌≡◌, ◌+◌, ◌≤◌, [], Some, length, option_copied, IfOk, IfSome};
 ghost use Rattle.std.specs.Option.{option_map_or};
 ghost use Rattle.egl_model.specs.Arguments.{number};
-ghost use Rattle.egl_model.specs.Buffers.{part_in, with_data, with_part_of};
+ghost use Rattle.egl_model.specs.Buffers.{part_in, with_part_of};
 ghost use Rattle.egl_model.specs.Objects.{as_buffer, buffer_in, change_buffer, with_buffer};
 ghost use Rattle.ref_store.specs.Kept.{at, AllIn};
 ghost use Rattle.object_table.specs.Changes.{ChangesOne};
@@ -13,8 +13,8 @@ use crate::stored::Stored;
 use crate::table::ObjectTable;
 use buffer_objects::Buffer;
 use driver_objects::Object;
-use egl_calls::arguments::{number, signed};
-use egl_calls::places::{BUFFER_OFFSET, BUFFER_PART_SIZE, BUFFER_SIZE, BUFFER_USAGE};
+use egl_calls::arguments::number;
+use egl_calls::places::{BUFFER_OFFSET, BUFFER_PART_SIZE};
 use egl_calls::{Bytes, Call, NoMemory};
 use ref_store::Store;
 use std::alloc::Global;
@@ -39,38 +39,22 @@ fn given(call: &Call) -> Option<&Bytes>
     }
 }
 
-fn set_data_in(object: &mut Object, call: &Call) -> Result<(), NoMemory>
-    ensures ok { OnOk result (Some object.new ≡ with_buffer (with_data call.now) (Some object.old)) }
-    ensures err { OnErr result (object.new ≡ object.old) }
+fn put_contents_in(object: &mut Object, contents: Buffer)
+    ensures { Some object.new ≡ with_buffer (λ b. contents) (Some object.old) }
 {
-    match object {
-        Object::Buffer(buffer) => buffer.data(
-            number(call, BUFFER_SIZE),
-            signed(call, BUFFER_USAGE),
-            given(call),
-        ),
-        _ => Ok(()),
+    if let Object::Buffer(buffer) = object {
+        *buffer = contents;
     }
 }
 
-fn set_data_at(store: &mut Store<Stored>, n: u64, call: &Call) -> Result<(), NoMemory>
+fn put_contents_at(store: &mut Store<Stored>, n: u64, contents: Buffer)
     requires { AllIn store.old.nodes }
-    ensures ok { OnOk result (ChangesOne store.old n (with_buffer (with_data call.now)) store.new) }
-    ensures err { OnErr result (ChangesOne store.old n (λ o. o) store.new) }
+    ensures { ChangesOne store.old n (with_buffer (λ b. contents)) store.new }
 {
-    if store.get(n).is_none() {
-        return Ok(());
-    }
-    let mut stored = store.take_node(n);
-    match set_data_in(&mut stored.object, call) {
-        Ok(()) => {
-            store.put_node(n, stored);
-            Ok(())
-        }
-        Err(error) => {
-            store.put_node(n, stored);
-            Err(error)
-        }
+    if store.get(n).is_some() {
+        let mut stored = store.take_node(n);
+        put_contents_in(&mut stored.object, contents);
+        store.put_node(n, stored);
     }
 }
 
@@ -127,12 +111,11 @@ impl ObjectTable {
         buffer_at(&self.store, n)
     }
 
-    /// Gives a buffer the contents and the usage of a glBufferData. Where memory runs out nothing has changed.
-    pub fn set_data(&mut self, n: u64, call: &Call) -> Result<(), NoMemory>
-        ensures ok { OnOk result (self.new ≡ record self.old { objects = change_buffer (with_data call.now) n self.old.objects }) }
-        ensures err { OnErr result (self.new ≡ self.old) }
+    /// Makes a buffer what a glBufferData leaves. It takes no memory.
+    pub fn put_contents(&mut self, n: u64, contents: Buffer)
+        ensures { self.new ≡ record self.old { objects = change_buffer (λ b. contents) n self.old.objects } }
     {
-        set_data_at(&mut self.store, n, call)
+        put_contents_at(&mut self.store, n, contents);
     }
 
     /// Writes the part of a buffer's contents that a glBufferSubData gives. It takes no memory.

@@ -1,16 +1,49 @@
 //! A long run: a trace of 100,000 lines over the calls of displays, configs, pbuffers, contexts that share, threads, names, textures, renderbuffers, framebuffers, images and pixels.
 //!
 //! It prints the sum of the trace and that of its recording, which `bench/long_run_model` works out apart from the driver. Then it holds the recording against the trace.
-use crate::long_lines::trace;
-use crate::playing::words_of;
-use anyhow::{Result, bail};
-use egl_calls::{Bytes, Numbers};
-use egl_cli::plain;
-use egl_flow::{MemorySink, MemorySource};
+use crate::playing::answer;
+use anyhow::{Context, Result};
 use std::alloc::Global;
+use std::sync::Wait;
+use std::thread::Threads;
 
-/// How many bytes the recording may have.
-const ROOM: u64 = 33_554_432;
+/// The number of a turn for which a name between braces stands.
+fn number(name: &str, turn: u64) -> u64 {
+    match name {
+        "red" => 257u64.wrapping_mul(turn) % 65_537,
+        "level" => turn % 11,
+        "config" => turn % 8 + 1,
+        "next" => turn.wrapping_add(1),
+        _ => turn,
+    }
+}
+
+/// Adds lines with the numbers of a turn.
+fn put_turn(alloc: Global, out: &mut String, lines: &str, turn: u64) -> Result<()> {
+    for piece in lines.split('{') {
+        match piece.split_once('}') {
+            Some((name, rest)) => {
+                let number = number(name, turn);
+                out.push_str(&format!(in alloc; "{number}{rest}")?)?;
+            }
+            None => out.push_str(piece)?,
+        }
+    }
+    Ok(())
+}
+
+/// The trace that a file of turns spells, as docs/FORMATS.md says.
+fn trace_of(alloc: Global, text: &str) -> Result<String> {
+    let mut out = String::new(alloc);
+    for part in text.split("turns ").skip(1) {
+        let (count, lines) = part.split_once('\n').context("turns have no lines")?;
+        let lines = lines.strip_suffix("\\\n").unwrap_or(lines);
+        for turn in 0..count.parse::<u64>()? {
+            put_turn(alloc, &mut out, lines, turn)?;
+        }
+    }
+    Ok(out)
+}
 
 /// The sum of Fowler, Noll and Vo, 1a, of 64 bits.
 fn sum_of(bytes: &[u8]) -> u64 {
@@ -21,34 +54,20 @@ fn sum_of(bytes: &[u8]) -> u64 {
     sum
 }
 
-fn report<R: Print>(rt: &R, name: &str, text: &[u8]) -> Result<()> {
-    let (length, sum) = (text.len(), sum_of(text));
-    println!(rt; "{name}: {length} bytes, sum {sum}")?;
-    Ok(())
-}
-
-/// The exit status of a command of one word on an input, and what it wrote.
-fn ran(alloc: Global, word: &str, input: Vec<u8>) -> Result<(u8, MemorySink)> {
-    let words = words_of(alloc, word)?;
-    let mut source = MemorySource::new(Bytes::from_vec(input), Numbers::new(alloc));
-    let Ok(mut sink) = MemorySink::new(alloc, ROOM, Numbers::new(alloc)) else {
-        bail!("no memory for the answer");
-    };
-    let status = plain(alloc, &words, &mut source, &mut sink).number();
-    Ok((status, sink))
-}
-
-/// Plays the trace by turns, and prints the sums, the exit status, and what a check of the recording says.
-pub fn long_run<R: Print + AllocGlobal>(rt: &R) -> Result<()> {
-    let alloc = rt.alloc();
-    let trace = trace(alloc)?;
-    report(rt, "trace", trace.as_bytes())?;
-    let mut input = Vec::from_slice(alloc, trace.as_bytes())?;
-    let (status, recording) = ran(alloc, "serial", trace.into_bytes())?;
+/// Plays the trace of a file by turns, and prints the sums, the exit status, and what a check of the recording says.
+pub fn long_run<R: Print + AllocGlobal + Threads + Wait + Sync>(rt: &R, text: &str) -> Result<()> {
+    let mut input = trace_of(rt.alloc(), text)?.into_bytes();
+    println!(rt; "trace: {} bytes, sum {}", input.len(), sum_of(&input))?;
+    let (status, recording) = answer(rt, "serial", &input)?;
+    let recording = recording.taken();
     println!(rt; "status: {status}")?;
-    report(rt, "recording", recording.taken())?;
-    input.extend_from_slice(recording.taken())?;
-    let (status, verdict) = ran(alloc, "check", input)?;
+    println!(rt;
+        "recording: {} bytes, sum {}",
+        recording.len(),
+        sum_of(recording)
+    )?;
+    input.extend_from_slice(recording)?;
+    let (status, verdict) = answer(rt, "check", &input)?;
     let text = str::from_utf8(verdict.taken())?;
     print!(rt; "check: status {status}, {text}")?;
     Ok(())

@@ -1,33 +1,30 @@
 //! Plays files of worked examples by the program's top call, and compares each answer with the one that is wanted.
 //!
 //! The words are the names of the files, and before them what is done with those behind it:
-//! - `serial` and `play` play the examples by that command. For each that differs it prints where it stands, its
-//!   heading, and the first line that is wanted and found.
+//! - `serial` and `play` play the examples by that command, and `pictures` holds what the traces of scenes draw against
+//!   their pictures. For each that differs it prints where it stands, its heading, and the first line that is wanted and
+//!   found.
 //! - `read` prints each example as it is read.
 //! - `refused` compares why each text of the file is no file of examples.
+//! - `long_run` plays the 100,000 lines of a file of turns, and prints the sum of their recording.
 //!
-//! Two words name no file: `long_run` plays 100,000 lines by turns and prints the sum of their recording, and `stdin`
-//! does what the program does with `serial`. At the end stands how many were played and how many differ. The exit status
-//! is 1 where one differs, or where a file can't be read, isn't of the form of docs/FORMATS.md or has no example; else
-//! it is that of `stdin`, or 0.
+//! The word `stdin` names no file, and does what the program does with `serial`. At the end stands how many were played
+//! and how many differ. The exit status is 1 where one differs, or where a file can't be read, isn't of the form of
+//! docs/FORMATS.md or has no example; else it is that of `stdin`, or 0.
 #![tactic(auto)]
 
 mod drafts;
 mod escapes;
-mod examples;
-mod long_lines;
 mod long_run;
 mod playing;
 mod reading;
-mod refusals;
 
 use anyhow::{Context, Result, ensure};
-use examples::Example;
+use drafts::Example;
+use escapes::push_unescaped;
 use long_run::long_run;
-use playing::{Player, is_as_wanted, play_stdin};
+use playing::{PICTURES, is_as_wanted, play_stdin};
 use reading::examples_of;
-use refusals::refusals_of;
-use std::alloc::Global;
 use std::process::ExitCode;
 use std::rt::Files;
 use std::sync::Wait;
@@ -37,12 +34,14 @@ use std::{env, fs};
 /// What is done with a file.
 #[derive(Clone, Copy, Drop)]
 enum Task {
-    /// Its examples are played.
-    Play(Player),
+    /// Its examples are played by a command.
+    Play(&'static str),
     /// Its examples are printed.
     Read,
     /// Its texts are refused.
     Refuse,
+    /// Its turns are played.
+    LongRun,
 }
 
 /// How many examples were played, and how many of them differ.
@@ -61,59 +60,70 @@ impl Tally {
     }
 }
 
-/// The examples of a file's text, of which there are some.
-fn some_examples(alloc: Global, name: &str, text: &str) -> Result<Vec<Example>> {
-    let examples = examples_of(alloc, text).context(format_args!("{name}"))?;
-    ensure!(!examples.is_empty(), "{name} has no example");
-    Ok(examples)
-}
-
-/// Plays the examples of a file by a command.
-fn play_file<R: Print + AllocGlobal + Threads + Wait + Sync>(
+/// Plays examples by a command.
+fn play_all<R: Print + AllocGlobal + Threads + Wait + Sync>(
     rt: &R,
-    player: Player,
+    player: &str,
     name: &str,
-    text: &str,
+    examples: &[Example],
     tally: &mut Tally,
 ) -> Result<()> {
-    let examples = some_examples(rt.alloc(), name, text)?;
-    for example in &examples {
+    for example in examples {
         tally.count(is_as_wanted(rt, player, name, example)?);
     }
-    let (word, count) = (player.word(), examples.len());
-    println!(rt; "{word} {name}: {count}")?;
+    println!(rt; "{player} {name}: {}", examples.len())?;
     Ok(())
 }
 
-/// Prints the examples of a file.
-fn print_file<R: Print + AllocGlobal>(rt: &R, name: &str, text: &str) -> Result<()> {
-    for example in &some_examples(rt.alloc(), name, text)? {
-        let (heading, line, status) = (example.heading.as_str(), example.line, example.status);
-        println!(rt; "read {name}:{line}: {heading}, status {status}")?;
+/// Prints examples.
+fn print_all<R: Print>(rt: &R, name: &str, examples: &[Example]) -> Result<()> {
+    for example in examples {
+        println!(rt;
+            "read {name}:{}: {}, status {}",
+            example.line,
+            example.heading.as_str(),
+            example.status
+        )?;
         if let Some(command) = &example.command {
             println!(rt; "  command {command:?}")?;
         }
         let input = str::from_utf8(example.input.as_slice())?;
-        println!(rt; "  input {input:?}")?;
-        let output = example.output.as_str();
-        println!(rt; "  output {output:?}")?;
+        println!(rt; "  input {input:?}\n  output {:?}", example.output.as_str())?;
     }
     Ok(())
 }
 
-/// Compares why the texts of a file are refused.
-fn refuse_file<R: Print + AllocGlobal>(
+/// Whether a text is no file of examples for a reason; prints what it is refused for where not.
+fn is_refused<R: Print + AllocGlobal>(
     rt: &R,
     name: &str,
+    reason: &str,
     text: &str,
-    tally: &mut Tally,
-) -> Result<()> {
-    let refusals = refusals_of(rt.alloc(), text).context(format_args!("{name}"))?;
-    ensure!(!refusals.is_empty(), "{name} has no text");
-    for refusal in &refusals {
-        tally.count(refusal.is_as_wanted(rt, name)?);
+) -> Result<bool> {
+    let mut bytes = Vec::new(rt.alloc());
+    push_unescaped(&mut bytes, text)?;
+    let found = match examples_of(rt.alloc(), str::from_utf8(bytes.as_slice())?) {
+        Ok(_) => String::from_str(rt.alloc(), "nothing")?,
+        Err(error) => format!(in rt.alloc(); "{error:#}")?,
+    };
+    let holds = found.as_str() == reason;
+    if !holds {
+        println!(rt; "refused {name}: {text:?}\n  wanted for: {reason}\n  refused for: {found}")?;
     }
-    let count = refusals.len();
+    Ok(holds)
+}
+
+/// Compares why the texts of a file are refused. Before each stands its reason, on a line that begins with `====`.
+fn refuse<R: Print + AllocGlobal>(rt: &R, name: &str, text: &str, tally: &mut Tally) -> Result<()> {
+    let mut count = 0u64;
+    for part in text.split("==== ").skip(1) {
+        let (reason, text) = part
+            .split_once('\n')
+            .context("a reason stands behind no line")?;
+        tally.count(is_refused(rt, name, reason, text)?);
+        count = count.saturating_add(1);
+    }
+    ensure!(count != 0, "{name} has no text");
     println!(rt; "refused {name}: {count}")?;
     Ok(())
 }
@@ -126,9 +136,15 @@ fn do_file<R: Files + Print + AllocGlobal + Threads + Wait + Sync>(
 ) -> Result<()> {
     let text = fs::read_to_string(rt, name).context(format_args!("reading {name}"))?;
     match task {
-        Task::Play(player) => play_file(rt, player, name, text.as_str(), tally),
-        Task::Read => print_file(rt, name, text.as_str()),
-        Task::Refuse => refuse_file(rt, name, text.as_str(), tally),
+        Task::LongRun => return long_run(rt, text.as_str()),
+        Task::Refuse => return refuse(rt, name, text.as_str(), tally),
+        Task::Play(_) | Task::Read => {}
+    }
+    let examples = examples_of(rt.alloc(), text.as_str()).context(format_args!("{name}"))?;
+    ensure!(!examples.is_empty(), "{name} has no example");
+    match task {
+        Task::Play(player) => play_all(rt, player, name, &examples, tally),
+        _ => print_all(rt, name, &examples),
     }
 }
 
@@ -137,15 +153,16 @@ fn main(rt: HostRuntime) -> Result<ExitCode> {
         played: 0,
         differ: 0,
     };
-    let mut task = Task::Play(Player::Serial);
+    let mut task = Task::Play("serial");
     let mut status = 0;
     for word in env::args(&rt)?.skip(1) {
         match word.as_str() {
-            "serial" => task = Task::Play(Player::Serial),
-            "play" => task = Task::Play(Player::Play),
+            "serial" => task = Task::Play("serial"),
+            "play" => task = Task::Play("play"),
+            "pictures" => task = Task::Play(PICTURES),
             "read" => task = Task::Read,
             "refused" => task = Task::Refuse,
-            "long_run" => long_run(&rt)?,
+            "long_run" => task = Task::LongRun,
             "stdin" => status = play_stdin(&rt, rt.stdin(), rt.stdout())?,
             name => do_file(&rt, task, name, &mut tally)?,
         }

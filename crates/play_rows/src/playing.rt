@@ -1,6 +1,6 @@
-//! What the program answers to an example, beside what is wanted.
-use crate::examples::Example;
-use anyhow::{Result, anyhow};
+//! What the program answers to an input, beside what is wanted.
+use crate::drafts::Example;
+use anyhow::{Context, Result, bail, ensure};
 use egl_calls::{Bytes, Numbers, Text};
 use egl_cli::{OpenGate, top};
 use egl_flow::{MemorySink, MemorySource, StdSink, StdSource, Waiting};
@@ -11,29 +11,13 @@ use std::thread::Threads;
 use std::time::Clock;
 
 /// How many bytes an answer may have.
-const ROOM: u64 = 1_048_576;
+const ROOM: u64 = 33_554_432;
 
-/// The command by which examples are played.
-#[derive(Clone, Copy, Drop)]
-pub enum Player {
-    /// By turns.
-    Serial,
-    /// By threads at once.
-    Play,
-}
-
-impl Player {
-    /// The word that names it.
-    pub fn word(self) -> &'static str {
-        match self {
-            Player::Serial => "serial",
-            Player::Play => "play",
-        }
-    }
-}
+/// By this word an example is a scene, whose trace is played by turns.
+pub const PICTURES: &str = "pictures";
 
 /// The words of a command as the program is given them.
-pub fn words_of(alloc: Global, command: &str) -> Result<Vec<Text>> {
+fn words_of(alloc: Global, command: &str) -> Result<Vec<Text>> {
     let mut words = Vec::new(alloc);
     for word in command.split(' ') {
         words.push(Text::from_vec(Vec::from_slice(alloc, word.as_bytes())?))?;
@@ -42,7 +26,7 @@ pub fn words_of(alloc: Global, command: &str) -> Result<Vec<Text>> {
 }
 
 /// The exit status of a command on an input, and what it wrote.
-fn answer<R: AllocGlobal + Threads + Wait + Sync>(
+pub fn answer<R: AllocGlobal + Threads + Wait + Sync>(
     rt: &R,
     command: &str,
     input: &[u8],
@@ -51,9 +35,9 @@ fn answer<R: AllocGlobal + Threads + Wait + Sync>(
     let words = words_of(alloc, command)?;
     let bytes = Bytes::from_vec(Vec::from_slice(alloc, input)?);
     let mut source = MemorySource::new(bytes, Numbers::new(alloc));
-    let mut sink = MemorySink::new(alloc, ROOM, Numbers::new(alloc)).map_err(|_| anyhow!(
-        "no memory for a sink"
-    ))?;
+    let Ok(mut sink) = MemorySink::new(alloc, ROOM, Numbers::new(alloc)) else {
+        bail!("no memory for a sink");
+    };
     let status = top(rt, alloc, &words, &mut source, &mut sink, &OpenGate).number();
     Ok((status, sink))
 }
@@ -64,11 +48,10 @@ pub fn play_stdin<R: Clock + AllocGlobal + Threads + Wait + Sync>(
     input: Stdin,
     output: Stdout,
 ) -> Result<u8> {
-    let alloc = rt.alloc();
-    let words = words_of(alloc, Player::Serial.word())?;
+    let words = words_of(rt.alloc(), "serial")?;
     let mut source = Waiting::new(StdSource::new(input), rt);
     let mut sink = StdSink::new(output);
-    Ok(top(rt, alloc, &words, &mut source, &mut sink, &OpenGate).number())
+    Ok(top(rt, rt.alloc(), &words, &mut source, &mut sink, &OpenGate).number())
 }
 
 /// The first line in which two texts differ, of both. Behind its end a text has empty lines.
@@ -83,27 +66,73 @@ fn first_difference<'a>(wanted: &'a str, found: &'a str) -> (&'a str, &'a str) {
     ("", found.next().unwrap_or(""))
 }
 
+/// What a command writes to an input that it answers with status 0.
+fn written<R: AllocGlobal + Threads + Wait + Sync>(
+    rt: &R,
+    command: &str,
+    input: &[u8],
+) -> Result<MemorySink> {
+    let (status, sink) = answer(rt, command, input)?;
+    ensure!(status == 0, "{command} ends with status {status}");
+    Ok(sink)
+}
+
+/// The digits of what the last entry of a recording has read.
+fn last_bytes(recording: &str) -> Option<&str> {
+    let (entries, _) = recording.split_once("\ncensus ")?;
+    let mut last = None;
+    for word in entries.split(' ') {
+        last = Some(word);
+    }
+    last
+}
+
+/// The digits of the picture that a scene's trace reads at its end, with a line feed.
+fn picture<R: AllocGlobal + Threads + Wait + Sync>(rt: &R, scene: &[u8]) -> Result<String> {
+    let trace = written(rt, "scene", scene)?;
+    let recording = written(rt, "serial", trace.taken())?;
+    let text = str::from_utf8(recording.taken())?;
+    let digits = last_bytes(text).context("a recording without entries")?;
+    Ok(format!(in rt.alloc(); "{digits}\n")?)
+}
+
+/// What is found of an example: a scene's picture, or the exit status of a command and what it wrote.
+fn found<R: AllocGlobal + Threads + Wait + Sync>(
+    rt: &R,
+    player: &str,
+    word: &str,
+    input: &[u8],
+) -> Result<(u8, String)> {
+    if player == PICTURES {
+        return Ok((0, picture(rt, input)?));
+    }
+    let (status, sink) = answer(rt, word, input)?;
+    let text = str::from_utf8(sink.taken())?;
+    Ok((status, String::from_str(rt.alloc(), text)?))
+}
+
 /// Plays an example of a file by its own command, or else by the one that is named, and prints how the answer differs from the one that is wanted.
 pub fn is_as_wanted<R: Print + AllocGlobal + Threads + Wait + Sync>(
     rt: &R,
-    player: Player,
+    player: &str,
     file: &str,
     example: &Example,
 ) -> Result<bool> {
     let word = match &example.command {
         Some(command) => command.as_str(),
-        None => player.word(),
+        None => player,
     };
-    let (status, sink) = answer(rt, word, example.input.as_slice())?;
-    let found = str::from_utf8(sink.taken())?;
+    let (status, text) = found(rt, player, word, example.input.as_slice())?;
+    let found = text.as_str();
     if status == example.status && found == example.output.as_str() {
         return Ok(true);
     }
-    let (line, heading) = (example.line, example.heading.as_str());
-    println!(rt; "{word} {file}:{line}: {heading}")?;
-    let wanted_status = example.status;
-    let (wanted_line, found_line) = first_difference(example.output.as_str(), found);
-    println!(rt; "  wanted, with status {wanted_status}: {wanted_line}")?;
-    println!(rt; "  found, with status {status}: {found_line}")?;
+    let (wanted, found) = first_difference(example.output.as_str(), found);
+    println!(rt;
+        "{word} {file}:{}: {}\n  wanted, with status {}: {wanted}\n  found, with status {status}: {found}",
+        example.line,
+        example.heading.as_str(),
+        example.status
+    )?;
     Ok(false)
 }

@@ -20,7 +20,6 @@ use Rattle.driver_core.specs.declared.machine.Run.{Run}
 use Rattle.shared_driver.specs.declared.tokens.Shared.{Shared}
 use Rattle.shared_driver.specs.declared.tokens.Thread.{Thread}
 use Rattle.shared_driver.specs.Tokens.{Includes, IsOf, Learns, Owns, Token, mine, token_of}
-use Rattle.play_threads.specs.declared.plays.Reached.{Reached}
 use Rattle.play_threads.specs.declared.plays.Reached.TheVariants.{End, Stall, Neither}
 use Rattle.play_threads.specs.declared.workers.Worker.{Worker}
 use Rattle.play_threads.specs.Picks.{has_stalled}

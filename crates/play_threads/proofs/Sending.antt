@@ -13,6 +13,7 @@ use Rattle.surface_store.specs.contracts.windows.WindowSpec as window
 use Rattle.trace_reader.specs.contracts.traces.Reference as reference
 use Rattle.trace_reader.specs.contracts.traces.Line as line
 use Rattle.trace_reader.specs.contracts.traces.Trace as trace
+use Rattle.trace_session.specs.contracts.chains.Chains as chains
 use Rattle.atomic_table.proofs.shared.Seat.TheSendSync as seat
 use Rattle.shared_driver.specs.contracts.tokens.Thread as thread
 use Rattle.shared_driver.proofs.Sending.{bytes_send, bytes_sync, core_send, entry_send, part_send}
@@ -50,7 +51,11 @@ window_sync = search (sendable, crosses) depth 60 fits 20000
 pub trace_sync : IsSync trace.the_row
 trace_sync = let a = line_sync in let b = window_sync in search (sendable, crosses) depth 60 fits 20000
 
--- so may the count of those that have begun
+-- so may what was found of its lines
+pub chains_sync : IsSync chains.the_row
+chains_sync = search (sendable, crosses) depth 60 fits 20000
+
+-- and the count of those that have begun
 pub start_sync : IsSync start.the_row
 start_sync = search (sendable, crosses) depth 60 fits 20000
 

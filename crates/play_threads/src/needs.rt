@@ -2,28 +2,16 @@
 ghost use Rattle.std.specs.Prelude.{◌<◌, length};
 
 use egl_calls::places::POSTED;
-use egl_calls::{Kind, NoMemory, OwnKind, unsigned};
+use egl_calls::{Kind, OwnKind, unsigned};
 use shared_driver::Wanted;
-use std::alloc::Global;
 use trace_reader::{Line, Trace};
-use trace_session::Session;
+use trace_session::{Chains, Session};
 
-/// A trace, and for each of its variables the place of the line that assigns it.
-#[derive(Drop)]
+/// A trace, and what was found of its lines.
+#[derive(Clone, Copy, Drop)]
 pub(crate) struct Needs<'a> {
-    trace: &'a Trace,
-    assigning: Vec<usize>,
-}
-
-// The places of the lines that assign a variable. Variables are numbered in the order of these lines.
-fn assigning_places(alloc: Global, lines: &[Line]) -> Result<Vec<usize>, NoMemory> {
-    let mut places = Vec::new(alloc);
-    'each: for place in 0..lines.len() {
-        if lines[place].assigns.is_some() && places.push(place).is_err() {
-            return Err(NoMemory);
-        }
-    }
-    Ok(places)
+    pub(crate) trace: &'a Trace,
+    pub(crate) chains: &'a Chains,
 }
 
 // The half of some lines that has the line of a number, where one of them has it.
@@ -49,16 +37,9 @@ fn line_with(lines: &[Line], number: u64) -> Option<&Line> {
 }
 
 impl<'a> Needs<'a> {
-    pub(crate) fn new(alloc: Global, trace: &'a Trace) -> Result<Needs<'a>, NoMemory> {
-        Ok(Needs {
-            trace,
-            assigning: assigning_places(alloc, trace.lines())?,
-        })
-    }
-
     // The number of the line that assigns a variable, where its thread hasn't come past that line.
     fn open_line(&self, session: &Session, variable: u32) -> Option<u64> {
-        let place = *self.assigning.get(variable as usize)?;
+        let place = *self.chains.assigning.as_slice().get(variable as usize)?;
         let line = self.trace.line(place as u64)?;
         if line.thread >= session.threads() {
             return None;

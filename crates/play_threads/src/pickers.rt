@@ -1,11 +1,12 @@
 //! What a worker picks, by what it knows of the journal.
-ghost use Rattle.std.specs.Prelude.{◌≡◌, ◌<◌, ◌≤◌, ◌+◌, ◌-◌, ◌^◌, ◌||◌, ◌∷◌, ◌++◌, [], true, false, length, slice_get, Some, IfOk, IfSome, OnOk, List};
+ghost use Rattle.std.specs.Prelude.{◌≡◌, ◌<◌, ◌+◌, ◌-◌, ◌^◌, ◌||◌, ◌∷◌, ◌++◌, [], length, slice_get, Some, IfOk, IfSome, OnOk, List};
 ghost use Rattle.egl_calls.specs.Journals.{is_halt};
 ghost use Rattle.egl_calls.specs.declared.entries.Entry.{Entry as AnEntry};
 ghost use Rattle.trace_reader.specs.declared.traces.Line.{Line as ALine};
 ghost use Rattle.trace_model.specs.Turns.{next_line};
 ghost use Rattle.trace_model.specs.Serial.{next_call};
 ghost use Rattle.trace_session.specs.Answers.{IsLone};
+ghost use Rattle.trace_session.specs.Chains.{AreChains};
 ghost use Rattle.trace_session.specs.Facts.{HasFacts};
 ghost use Rattle.trace_session.specs.Sessions.{Knows};
 ghost use Rattle.shared_driver.specs.Cores.{entry, of_number};
@@ -17,7 +18,7 @@ use egl_calls::{Entry, Journal, NoMemory, Outcome, Reply};
 use shared_driver::{Pick, Picker, Wanted};
 use std::alloc::Global;
 use trace_reader::{Line, Trace};
-use trace_session::Session;
+use trace_session::{Chains, Session};
 
 /// Picks the next call of one thread of a trace. In its look it learns the entries of other threads that were added since the last one; its own it is told when they are answered.
 #[derive(Drop)]
@@ -43,20 +44,25 @@ pub(crate) fn has_stalled(session: &Session, driver: &Driver) -> bool
 
 impl<'a> LinePicker<'a> {
     /// A picker for a thread, that has learnt nothing.
-    pub fn new(alloc: Global, trace: &'a Trace, thread: u32) -> Result<LinePicker<'a>, NoMemory>
+    pub fn new(
+        alloc: Global,
+        trace: &'a Trace,
+        chains: &'a Chains,
+        thread: u32,
+    ) -> Result<LinePicker<'a>, NoMemory>
+        requires { AreChains trace.now chains.now }
         ensures trace { IfOk result (λ p. p.session.trace ≡ trace.now) }
         ensures thread { IfOk result (λ p. p.thread ≡ thread) }
         ensures learnt { IfOk result (λ p. (es : List AnEntry) → HasLearnt p [] es) }
     {
-        let needs = Needs::new(alloc, trace)?;
         Ok(LinePicker {
             alloc,
             thread,
-            session: Session::new(alloc, trace)?,
+            session: Session::new(alloc, trace, chains)?,
             learnt: 0,
             halted: false,
             waits: false,
-            needs,
+            needs: Needs { trace, chains },
         })
     }
 

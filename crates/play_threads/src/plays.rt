@@ -4,6 +4,7 @@ ghost use Rattle.egl_model.specs.History.{IsLegalFrom, replay_from};
 ghost use Rattle.trace_reader.specs.Traces.{TraceValue};
 ghost use Rattle.trace_model.specs.Follows.{Follows};
 ghost use Rattle.trace_model.specs.Stalled.{IsComplete};
+ghost use Rattle.trace_session.specs.Chains.{AreChains};
 ghost use Rattle.shared_driver.specs.Tokens.{IsOf, opening_of, token_of};
 ghost use Rattle.play_threads.specs.Plays.{IsRunOf, IsStalledRunOf, OwnersPlay, reached_by};
 
@@ -17,7 +18,7 @@ use std::alloc::Global;
 use std::sync::Wait;
 use std::thread::Threads;
 use trace_reader::Trace;
-use trace_session::{RunError, Session, run_serial};
+use trace_session::{Chains, RunError, Session, run_serial};
 
 /// How far a run came.
 #[derive(Drop)]
@@ -50,14 +51,18 @@ fn run<R: Threads + Wait + Sync, G: Gate + Sync>(
     rt: &R,
     alloc: Global,
     trace: &Trace,
+    chains: &Chains,
     gate: &G,
 ) -> Result<Run, NoMemory>
+    requires { AreChains trace.now chains.now }
     ensures { IfOk result (IsRunOf trace.now) }
 {
     // That a trace's windows and limit of bytes are within bounds stands on `lines`.
     trace.lines();
     let Opened { shared, thread } = Shared::open(alloc, trace.windows(), trace.video())?;
-    let Gathered { thread, wanted } = play_together(rt, alloc, trace, gate, &shared, thread);
+    let Gathered { thread, wanted } = play_together(
+        rt, alloc, trace, chains, gate, &shared, thread,
+    );
     let Closed { driver, journal } = close(rt, shared, thread);
     if wanted {
         return Err(NoMemory);
@@ -66,10 +71,11 @@ fn run<R: Threads + Wait + Sync, G: Gate + Sync>(
 }
 
 // How far a run came.
-fn how_far(alloc: Global, trace: &Trace, run: &Run) -> Result<Reached, NoMemory>
+fn how_far(alloc: Global, trace: &Trace, chains: &Chains, run: &Run) -> Result<Reached, NoMemory>
+    requires { AreChains trace.now chains.now }
     ensures { IfOk result (λ r. r ≡ reached_by trace.now run.now) }
 {
-    let session = Session::behind(alloc, trace, &run.journal)?;
+    let session = Session::behind(alloc, trace, chains, &run.journal)?;
     if session.is_complete() {
         return Ok(Reached::End);
     }
@@ -94,10 +100,13 @@ pub fn play<R: Threads + Wait + Sync, G: Gate + Sync>(
 {
     // That a trace's lines are in order stands on `lines`.
     trace.lines();
-    let Ok(run) = run(rt, alloc, trace, gate) else {
+    let Ok(chains) = Chains::new(alloc, trace) else {
         return Err(RunError::NoMemory);
     };
-    match how_far(alloc, trace, &run) {
+    let Ok(run) = run(rt, alloc, trace, &chains, gate) else {
+        return Err(RunError::NoMemory);
+    };
+    match how_far(alloc, trace, &chains, &run) {
         Ok(Reached::End) => Ok(run),
         Ok(Reached::Stall) => Err(RunError::Stalled(run)),
         Ok(Reached::Neither) => run_serial(alloc, trace),

@@ -3,6 +3,7 @@ ghost use Rattle.std.specs.Prelude.{◌≡◌, ◌<◌, [], false, OnOk, OnErr};
 ghost use Rattle.egl_model.specs.State.{opening};
 ghost use Rattle.trace_model.specs.Follows.{PlaysAs};
 ghost use Rattle.trace_model.specs.Serial.{state_behind};
+ghost use Rattle.trace_session.specs.Chains.{AreChains};
 ghost use Rattle.shared_driver.specs.Tokens.{IsOf, IsSame, has_given_up, mine, opening_of, token_of};
 ghost use Rattle.play_threads.specs.Picks.{IsOver};
 ghost use Rattle.play_threads.specs.Work.{GaveUp, PlayLone};
@@ -17,6 +18,7 @@ use shared_driver::{
 use std::alloc::Global;
 use std::sync::Wait;
 use trace_reader::Trace;
+use trace_session::Chains;
 
 // Plays the lines of a thread until nothing is left, or memory runs out.
 fn play_lines<R: Wait, G: Gate>(
@@ -25,9 +27,11 @@ fn play_lines<R: Wait, G: Gate>(
     rt: &R,
     alloc: Global,
     trace: &Trace,
+    chains: &Chains,
     gate: &G,
 ) -> Result<(), NoMemory>
     requires owns { IsOf shared.now thread.old }
+    requires chains { AreChains trace.now chains.now }
     requires opening { opening_of shared.now ≡ opening trace.now.windows trace.now.video }
     requires number { (token_of thread.old).number < trace.now.threads }
     requires mine { mine (token_of thread.old) ≡ [] }
@@ -43,7 +47,7 @@ fn play_lines<R: Wait, G: Gate>(
     trace.lines();
     a_token_keeps_its_own_calls(thread);
     let number = thread.number();
-    let mut picker = LinePicker::new(alloc, trace, number)?;
+    let mut picker = LinePicker::new(alloc, trace, chains, number)?;
     let mut told = None;
     'turns: for _ in rt.forever() {
         play_lone(thread, alloc, gate, &mut picker, &mut told)?;
@@ -61,7 +65,7 @@ fn play_lines<R: Wait, G: Gate>(
     unreachable!()
 }
 
-/// Plays the lines of one thread of a trace with a token: the trace's thread is that of the token's number. A line that the thread's private part answers, and that waits for nobody, takes no turn; each other one is played in a turn of its own, once what it waits for is there. Where nothing can be played it sleeps between turns, and may never return.
+/// Plays the lines of one thread of a trace with a token: the trace's thread is that of the token's number. All threads of a trace may share its chains. A line that the thread's private part answers, and that waits for nobody, takes no turn; each other one is played in a turn of its own, once what it waits for is there. Where nothing can be played it sleeps between turns, and may never return.
 ///
 /// It ends where the thread is at its end, or the run has stalled, or another thread gave up. Where memory runs out, it gives up.
 pub fn work<R: Wait, G: Gate>(
@@ -70,9 +74,11 @@ pub fn work<R: Wait, G: Gate>(
     rt: &R,
     alloc: Global,
     trace: &Trace,
+    chains: &Chains,
     gate: &G,
 ) -> Result<(), NoMemory>
     requires owns { IsOf shared.now thread.old }
+    requires chains { AreChains trace.now chains.now }
     requires opening { opening_of shared.now ≡ opening trace.now.windows trace.now.video }
     requires number { (token_of thread.old).number < trace.now.threads }
     requires mine { mine (token_of thread.old) ≡ [] }
@@ -85,7 +91,7 @@ pub fn work<R: Wait, G: Gate>(
 {
     // That a trace's lines are in order stands on `lines`.
     trace.lines();
-    match play_lines(shared, thread, rt, alloc, trace, gate) {
+    match play_lines(shared, thread, rt, alloc, trace, chains, gate) {
         Ok(()) => Ok(()),
         Err(error) => {
             shared.halt(thread, rt, alloc);

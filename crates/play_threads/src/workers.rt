@@ -1,6 +1,7 @@
 //! The workers of a run, each with a token.
 ghost use Rattle.std.specs.Prelude.{◌≡◌, ◌<◌, ◌+◌, ◌-◌, [], true, false, All, vec_len, vec_capacity};
 ghost use Rattle.egl_model.specs.State.{opening};
+ghost use Rattle.trace_session.specs.Chains.{AreChains};
 ghost use Rattle.shared_driver.specs.Tokens.{IsOf, mine, opening_of, token_of};
 ghost use Rattle.play_threads.specs.Plays.{IsReady, IsThrough, OwnersPlay};
 
@@ -13,6 +14,7 @@ use std::sync::Wait;
 use std::thread;
 use std::thread::Threads;
 use trace_reader::Trace;
+use trace_session::Chains;
 
 /// A token for a thread of the trace, and whether memory was wanted for its work.
 pub(crate) struct Worker {
@@ -73,6 +75,7 @@ fn run<R: Wait, G: Gate>(
     rt: &R,
     alloc: Global,
     trace: &Trace,
+    chains: &Chains,
     gate: &G,
     shared: &Shared,
     start: &Start,
@@ -80,11 +83,12 @@ fn run<R: Wait, G: Gate>(
     worker: &mut Worker,
 )
     requires ready { IsReady trace.now shared.now worker.old }
+    requires chains { AreChains trace.now chains.now }
     requires opening { opening_of shared.now ≡ opening trace.now.windows trace.now.video }
     ensures { IsThrough trace.now shared.now worker.new }
 {
     if start.count_in(rt, workers) && !worker.wanted {
-        let worked = work(shared, &mut worker.thread, rt, alloc, trace, gate);
+        let worked = work(shared, &mut worker.thread, rt, alloc, trace, chains, gate);
         worker.wanted = worked.is_err();
     }
 }
@@ -94,12 +98,14 @@ fn run_all<R: Threads + Wait + Sync, G: Gate + Sync>(
     rt: &R,
     alloc: Global,
     trace: &Trace,
+    chains: &Chains,
     gate: &G,
     shared: &Shared,
     workers: &mut Vec<Worker>,
     hired: bool,
 )
     requires ready { All (IsReady trace.now shared.now) workers.old.items }
+    requires chains { AreChains trace.now chains.now }
     requires opening { opening_of shared.now ≡ opening trace.now.windows trace.now.video }
     ensures through { All (IsThrough trace.now shared.now) workers.new.items }
     ensures long { vec_len workers.new ≡ vec_len workers.old }
@@ -114,9 +120,21 @@ fn run_all<R: Threads + Wait + Sync, G: Gate + Sync>(
         workers.as_mut_slice(),
         count,
         &|_, w: &mut Worker|
-            requires { IsReady trace.now shared.now w.now × (opening_of shared.now ≡ opening trace.now.windows trace.now.video) }
+            requires { IsReady trace.now shared.now w.now × AreChains trace.now chains.now × (opening_of shared.now ≡ opening trace.now.windows trace.now.video) }
             ensures { IsThrough trace.entry.now shared.entry.now w.exit.now }
-        { run(rt, alloc, trace, gate, shared, &start, count as u64, w) },
+        {
+            run(
+                rt,
+                alloc,
+                trace,
+                chains,
+                gate,
+                shared,
+                &start,
+                count as u64,
+                w,
+            )
+        },
     );
 }
 
@@ -154,11 +172,13 @@ pub(crate) fn play_together<R: Threads + Wait + Sync, G: Gate + Sync>(
     rt: &R,
     alloc: Global,
     trace: &Trace,
+    chains: &Chains,
     gate: &G,
     shared: &Shared,
     mut first: Thread,
 ) -> Gathered
     requires owns { IsOf shared.now first }
+    requires chains { AreChains trace.now chains.now }
     requires opening { opening_of shared.now ≡ opening trace.now.windows trace.now.video }
     requires mine { mine (token_of first) ≡ [] }
     requires ended { (token_of first).ended ≡ [] }
@@ -174,7 +194,7 @@ pub(crate) fn play_together<R: Threads + Wait + Sync, G: Gate + Sync>(
     };
     let hired = hire(rt, shared, &mut first, &mut workers, trace);
     workers.push_reserved(worker_with(first, trace.threads(), !hired));
-    run_all(rt, alloc, trace, gate, shared, &mut workers, hired);
+    run_all(rt, alloc, trace, chains, gate, shared, &mut workers, hired);
     match workers.pop() {
         Some(last) => gather(rt, shared, last, workers, trace),
         None => unreachable!(),

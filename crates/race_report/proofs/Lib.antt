@@ -1,4 +1,5 @@
 pub mod ClockLaws
+pub mod AccessLaws
 pub mod RaceLaws
 pub mod OneList
 pub mod EventLaws

@@ -16,10 +16,10 @@ use Rattle.race_report.specs.Events.{event_of, events_in, events_of}
 use Rattle.race_report.specs.Words.{UsesAnswer, LeadsIn}
 
 -- ---- Lists.
-contains_none : {X : Type 0} (x : X) → Contains {X = X} [] x → ⊥
+pub contains_none : {X : Type 0} (x : X) → Contains {X = X} [] x → ⊥
 contains_none x h = let w = h.1 in absurd (omega (arith, w))
 
-contains_cases : {X : Type 0} (y : X) (ys : List X) (x : X) → Contains (y ∷ ys) x → (y ≡ x) ⊎ Contains ys x
+pub contains_cases : {X : Type 0} (y : X) (ys : List X) (x : X) → Contains (y ∷ ys) x → (y ≡ x) ⊎ Contains ys x
 contains_cases {X} y ys x h = elim (Contains-append_cases (y ∷ []) ys x h) [
   | inl one ↦ (elim (Contains-push_cases {X = X} [] y x one) [ inl none ↦ absurd (contains_none x none) | inr e ↦ inl e ])
   | inr more ↦ inr more

@@ -1,7 +1,9 @@
 pub mod Order
 pub mod Conflicts
 pub mod Clocks
+pub mod Accesses
 pub mod Races
+pub mod Found
 pub mod Leading
 pub mod Events
 pub mod Words

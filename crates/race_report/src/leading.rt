@@ -78,7 +78,7 @@ fn variable_place(lines: &[Line], entries: &[Entry], variable: u32) -> Option<u6
     answer_place(entries, line)
 }
 
-/// The places of the answers of the first variables, as many as there are lines.
+/// The places of the answers of the first variables, up to one that no line assigns.
 pub fn places_of(
     alloc: Global,
     lines: &[Line],
@@ -88,7 +88,7 @@ pub fn places_of(
 {
     let mut places = List::new(alloc);
     'each: for variable in 0..lines.len() {
-        if variable > 65_535 {
+        if variable > 65_535 || assigning(lines, variable as u32).is_none() {
             return Ok(places);
         }
         places.push(variable_place(lines, entries, variable as u32))?;

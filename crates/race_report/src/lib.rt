@@ -3,6 +3,7 @@
 //! Its tests are in `reports.rt`.
 #![tactic(auto)]
 
+mod accesses;
 mod clocks;
 mod events;
 mod journals;

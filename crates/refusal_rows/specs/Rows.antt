@@ -1,5 +1,5 @@
 -- Rows of a table of refusals.
-use Rattle.std.specs.Prelude.{◌≡◌, ◌⊎◌, Bool, true, false, List, [], ◌∷◌, if◌then◌else◌}
+use Rattle.std.specs.Prelude.{ℕ, zero, suc, ◌≡◌, ◌⊎◌, Bool, true, false, List, [], ◌∷◌, if◌then◌else◌}
 use Rattle.std.specs.declared.option.Option.{Option}
 use Rattle.std.specs.declared.option.Option.TheVariants.{None, Some}
 
@@ -16,6 +16,12 @@ b ⇒ e = (b, e)
 abbrev pub first_error : {E : Type 0} → List (Row E) → Option E
 first_error [] = None
 first_error (r ∷ rs) = if r.0 then Some r.1 else first_error rs
+
+-- the error of each row that holds at the row's place, and None at each other place below a number
+abbrev pub held : {E : Type 0} → ℕ → List (Row E) → List (Option E)
+held zero rs = []
+held (suc n) [] = None ∷ held n []
+held (suc n) (r ∷ rs) = (if r.0 then Some r.1 else None) ∷ held n rs
 
 -- no row holds
 abbrev pub AllOff : {E : Type 0} → List (Row E) → Type 0

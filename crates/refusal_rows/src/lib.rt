@@ -5,4 +5,4 @@
 
 mod rows;
 
-pub use rows::first_error;
+pub use rows::{Holding, MOST_ROWS, Verdict};

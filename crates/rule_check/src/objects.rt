@@ -1,15 +1,10 @@
-//! Storages of each format, and objects of each kind.
-ghost use Rattle.std.specs.Prelude.{◌≡◌};
-ghost use Rattle.egl_calls.specs.declared.kinds.Kind.TheVariants.{Gl};
-ghost use Rattle.egl_calls.specs.declared.kinds.GlKind.TheVariants.{ClearColorx};
-
+//! Objects of each kind: their bytes and references, and what they have in their slots.
 use buffer_objects::Buffer;
 use context_state::{Bindings, ContextPart};
 use driver_objects::{
     BackedRenderbuffer, BackedSurface, BackedTexture, BindTarget, BoundObjects, Context, Object,
     ObjectKind, Storage, buffer_target,
 };
-use egl_calls::{Call, GlKind, Kind, Numbers};
 use egl_image::EglImage;
 use egl_names::codes::{
     GL_ARRAY_BUFFER, GL_ARRAY_BUFFER_BINDING, GL_ELEMENT_ARRAY_BUFFER,
@@ -18,93 +13,12 @@ use egl_names::codes::{
 };
 use framebuffer_objects::{Framebuffer, Point, Renderbuffer};
 use pixel_formats::Format;
-use pixel_rows::{Image, Rect};
+use pixel_rows::Image;
 use share_group::{Group, NameKind};
 use std::alloc::Global;
 use std::process::Abort;
 use surface_store::Surface;
 use texture_objects::{LEVELS, Texture};
-
-/// A format, the bytes of three columns and five rows, and what the last pixel of red 1, green 0, blue 0.5 and alpha 1 reads as in GL_RGBA and bytes.
-static FORMATS: [(Format, u64, [u8; 4]); 8] = [
-    (Format::Rgb565, 30, [255, 0, 132, 255]),
-    (Format::Rgb888, 45, [255, 0, 128, 255]),
-    (Format::Rgba8888, 60, [255, 0, 128, 255]),
-    (Format::Rgba4444, 30, [255, 0, 136, 255]),
-    (Format::Rgba5551, 30, [255, 0, 132, 255]),
-    (Format::A8, 15, [0, 0, 0, 255]),
-    (Format::L8, 15, [255, 255, 255, 255]),
-    (Format::La88, 30, [255, 255, 255, 255]),
-];
-
-/// The last pixel, and one to the right of it.
-const LAST: Rect = Rect {
-    x: 2,
-    y: 4,
-    w: 2,
-    h: 1,
-};
-
-fn storage(rt: &impl Abort, alloc: Global, format: Format) -> Storage {
-    Storage::new(Image::new(alloc, format, 3, 5).expect(rt, "memory is ample"))
-}
-
-/// A call that sets the clear colour to red 1, green 0, blue 0.5 and alpha 1.
-fn clear_color(alloc: Global) -> Call
-    ensures { result.kind ≡ Gl ClearColorx }
-{
-    Call {
-        kind: Kind::Gl(GlKind::ClearColorx),
-        args: [65_536, 0, 32_768, 65_536, 0, 0, 0, 0],
-        list: Numbers::new(alloc),
-        bytes: None,
-    }
-}
-
-fn cleared(rt: &impl Abort, alloc: Global, format: Format) -> Storage {
-    let mut part = ContextPart::new();
-    part.apply(alloc, &clear_color(alloc));
-    let mut storage = storage(rt, alloc, format);
-    storage.clear(&part).expect(rt, "memory is ample");
-    storage
-}
-
-#[test]
-fn storages_are_counted(rt: HostRuntime) {
-    for (format, bytes, _) in &FORMATS {
-        assert_eq!(rt;
-            storage(&rt, rt.alloc(), *format).bytes(),
-            *bytes,
-            "{format:?}"
-        );
-    }
-}
-
-#[test]
-fn storages_are_cleared_and_read(rt: HostRuntime) {
-    for (format, bytes, last) in &FORMATS {
-        let storage = cleared(&rt, rt.alloc(), *format);
-        let row = storage
-            .read(rt.alloc(), LAST, Format::Rgba8888, 4)
-            .expect(&rt, "memory is ample");
-        let [r, g, b, a] = *last;
-        assert_eq!(rt;
-            row.as_slice(),
-            [r, g, b, a, 0, 0, 0, 0].as_slice(),
-            "{format:?}"
-        );
-        assert_eq!(rt; storage.bytes(), *bytes, "{format:?}");
-    }
-}
-
-#[test]
-fn a_row_is_read_in_another_format_and_padded(rt: HostRuntime) {
-    let storage = cleared(&rt, rt.alloc(), Format::Rgba8888);
-    let short = storage
-        .read(rt.alloc(), LAST, Format::Rgb565, 8)
-        .expect(&rt, "memory is ample");
-    assert_eq!(rt; short.as_slice(), [16, 248, 0, 0, 0, 0, 0, 0].as_slice());
-}
 
 fn context(bound: BoundObjects) -> Object {
     Object::Context(Context {
@@ -125,16 +39,22 @@ fn context(bound: BoundObjects) -> Object {
     })
 }
 
-/// What a context has bound that has bound a texture, or also a framebuffer.
-fn bound(texture: Option<u64>, framebuffer: Option<u64>) -> BoundObjects {
-    BoundObjects {
-        texture,
-        array_buffer: None,
-        element_array_buffer: None,
-        renderbuffer: None,
-        framebuffer,
-    }
-}
+/// A texture and a framebuffer.
+const SOME_BOUND: BoundObjects = BoundObjects {
+    texture: Some(4),
+    array_buffer: None,
+    element_array_buffer: None,
+    renderbuffer: None,
+    framebuffer: Some(2),
+};
+
+const ALL_BOUND: BoundObjects = BoundObjects {
+    texture: Some(1),
+    array_buffer: Some(2),
+    element_array_buffer: Some(3),
+    renderbuffer: Some(4),
+    framebuffer: Some(5),
+};
 
 /// A texture with a storage at its level 1 and one at its last.
 fn texture() -> Object {
@@ -169,137 +89,17 @@ fn surface(rt: &impl Abort, alloc: Global) -> Object {
     })
 }
 
-fn references(rt: &impl Abort, alloc: Global, object: &Object) -> Vec<u64> {
-    let mut found = Vec::new(alloc);
-    for k in 0..object.edge_count() {
-        found.push(object.edge(k)).expect(rt, "memory is ample");
-    }
-    found
-}
-
-/// An object is of a kind, with so many bytes and these references.
-fn expect_object(
-    rt: &impl Abort,
-    alloc: Global,
-    object: Object,
-    expected: (ObjectKind, u64),
-    edges: &[u64],
-) {
-    assert_eq!(rt; (object.kind(), object.bytes()), expected);
-    assert_eq!(rt; references(rt, alloc, &object).as_slice(), edges);
-}
-
-#[test]
-fn contexts_and_surfaces_have_references(rt: HostRuntime) {
-    let alloc = rt.alloc();
-    for (has, edges) in [
-        (bound(None, None), [7, 8].as_slice()),
-        (bound(Some(4), None), &[7, 8, 4]),
-        (bound(Some(4), Some(2)), &[7, 8, 4, 2]),
-    ] {
-        expect_object(&rt, alloc, context(has), (ObjectKind::Context, 0), edges);
-    }
-    expect_object(
-        &rt,
-        alloc,
-        surface(&rt, alloc),
-        (ObjectKind::Surface, 0),
-        &[9],
-    );
-}
-
-#[test]
-fn groups_and_textures_have_those_that_are_set(rt: HostRuntime) {
-    let alloc = rt.alloc();
-    let plain = Object::Group(Group::new(alloc));
-    expect_object(&rt, alloc, plain, (ObjectKind::Group, 0), &[]);
-    let named = group(&rt, alloc);
-    expect_object(&rt, alloc, named, (ObjectKind::Group, 0), &[8]);
-    expect_object(&rt, alloc, texture(), (ObjectKind::Texture, 0), &[5, 6]);
-}
-
-#[test]
-fn a_buffer_has_its_bytes_and_no_reference(rt: HostRuntime) {
-    let alloc = rt.alloc();
+fn buffer(rt: &impl Abort, alloc: Global) -> Object {
     let mut buffer = Buffer::new(alloc);
-    buffer.data(7, 0, None).expect(&rt, "memory is ample");
-    expect_object(
-        &rt,
-        alloc,
-        Object::Buffer(buffer),
-        (ObjectKind::Buffer, 7),
-        &[],
-    );
+    buffer.data(7, 0, None).expect(rt, "memory is ample");
+    Object::Buffer(buffer)
 }
 
-#[test]
-fn a_renderbuffer_has_its_pixels_where_it_has_any(rt: HostRuntime) {
-    let alloc = rt.alloc();
-    for (storage, edges) in [(None, [].as_slice()), (Some(9), [9].as_slice())] {
-        let renderbuffer = BackedRenderbuffer {
-            renderbuffer: Renderbuffer::new(),
-            storage,
-        };
-        expect_object(
-            &rt,
-            alloc,
-            Object::Renderbuffer(renderbuffer),
-            (ObjectKind::Renderbuffer, 0),
-            edges,
-        );
-    }
-}
-
-#[test]
-fn each_target_has_its_slot_and_its_names(rt: HostRuntime) {
-    let bound = BoundObjects {
-        texture: Some(1),
-        array_buffer: Some(2),
-        element_array_buffer: Some(3),
-        renderbuffer: Some(4),
-        framebuffer: Some(5),
-    };
-    for (target, slot, binding, names, object) in [
-        (
-            BindTarget::Texture,
-            2,
-            GL_TEXTURE_BINDING_2D,
-            NameKind::Texture,
-            1,
-        ),
-        (
-            buffer_target(GL_ARRAY_BUFFER),
-            3,
-            GL_ARRAY_BUFFER_BINDING,
-            NameKind::Buffer,
-            2,
-        ),
-        (
-            buffer_target(GL_ELEMENT_ARRAY_BUFFER),
-            4,
-            GL_ELEMENT_ARRAY_BUFFER_BINDING,
-            NameKind::Buffer,
-            3,
-        ),
-        (
-            BindTarget::Renderbuffer,
-            5,
-            GL_RENDERBUFFER_BINDING_OES,
-            NameKind::Renderbuffer,
-            4,
-        ),
-        (
-            BindTarget::Framebuffer,
-            6,
-            GL_FRAMEBUFFER_BINDING_OES,
-            NameKind::Framebuffer,
-            5,
-        ),
-    ] {
-        assert_eq!(rt; (target.slot(), target.binding()), (slot, binding));
-        assert_eq!(rt; target.names(), names);
-        assert_eq!(rt; target.bound(&bound), Some(object));
-    }
+fn renderbuffer(storage: Option<u64>) -> Object {
+    Object::Renderbuffer(BackedRenderbuffer {
+        renderbuffer: Renderbuffer::new(),
+        storage,
+    })
 }
 
 /// A framebuffer with a texture as colour, and a renderbuffer as stencil.
@@ -310,22 +110,86 @@ fn framebuffer() -> Framebuffer {
     framebuffer
 }
 
-#[test]
-fn a_framebuffer_has_what_is_attached(rt: HostRuntime) {
-    let alloc = rt.alloc();
-    for (framebuffer, edges) in [
-        (Framebuffer::new(), [].as_slice()),
-        (framebuffer(), &[8, 9]),
-    ] {
-        let object = Object::Framebuffer(framebuffer);
-        expect_object(&rt, alloc, object, (ObjectKind::Framebuffer, 0), edges);
+fn storage(rt: &impl Abort, alloc: Global) -> Object {
+    let image = Image::new(alloc, Format::Rgba8888, 3, 5);
+    Object::Storage(Storage::new(image.expect(rt, "memory is ample")))
+}
+
+/// An object has these references.
+fn expect_edges(rt: &impl Abort, object: &Object, edges: &[u64]) {
+    assert!(rt; object.edge_count() as usize == edges.len());
+    for k in 0..object.edge_count() {
+        assert!(rt; object.edge(k) == edges[k as usize], "{k}");
     }
 }
 
+/// An object is of a kind, with so many bytes and these references.
+fn expect(rt: &impl Abort, object: Object, kind: ObjectKind, bytes: u64, edges: &[u64]) {
+    assert!(rt; object.kind() == kind && object.bytes() == bytes);
+    expect_edges(rt, &object, edges);
+}
+
 #[test]
-fn an_image_has_its_pixels(rt: HostRuntime) {
+fn contexts_have_what_is_bound(rt: HostRuntime) {
+    let (some, all) = (context(SOME_BOUND), context(ALL_BOUND));
+    expect(&rt, some, ObjectKind::Context, 0, &[7, 8, 4, 2]);
+    expect(&rt, all, ObjectKind::Context, 0, &[7, 8, 1, 2, 3, 4, 5]);
+}
+
+#[test]
+fn objects_with_names_have_what_is_set(rt: HostRuntime) {
+    let alloc = rt.alloc();
+    expect(&rt, group(&rt, alloc), ObjectKind::Group, 0, &[8]);
+    expect(&rt, texture(), ObjectKind::Texture, 0, &[5, 6]);
+    expect(&rt, buffer(&rt, alloc), ObjectKind::Buffer, 7, &[]);
+    expect(&rt, renderbuffer(None), ObjectKind::Renderbuffer, 0, &[]);
+    expect(
+        &rt,
+        renderbuffer(Some(9)),
+        ObjectKind::Renderbuffer,
+        0,
+        &[9],
+    );
+    let framebuffer = Object::Framebuffer(framebuffer());
+    expect(&rt, framebuffer, ObjectKind::Framebuffer, 0, &[8, 9]);
+}
+
+#[test]
+fn surfaces_and_images_have_their_pixels(rt: HostRuntime) {
+    let alloc = rt.alloc();
     let image = Object::Image(EglImage { storage: 9 });
-    expect_object(&rt, rt.alloc(), image, (ObjectKind::Image, 0), &[9]);
+    expect(&rt, surface(&rt, alloc), ObjectKind::Surface, 0, &[9]);
+    expect(&rt, image, ObjectKind::Image, 0, &[9]);
+    expect(&rt, storage(&rt, alloc), ObjectKind::Storage, 60, &[]);
+}
+
+/// A target has its slot, its binding and its object.
+fn expect_target(rt: &impl Abort, target: BindTarget, slot: u64, binding: u64, object: u64) {
+    assert!(rt; target.slot() == slot && target.binding() == binding);
+    assert!(rt; target.bound(&ALL_BOUND) == Some(object));
+}
+
+#[test]
+fn each_target_has_its_slot_and_its_object(rt: HostRuntime) {
+    let array = buffer_target(GL_ARRAY_BUFFER);
+    let elements = buffer_target(GL_ELEMENT_ARRAY_BUFFER);
+    expect_target(&rt, BindTarget::Texture, 2, GL_TEXTURE_BINDING_2D, 1);
+    expect_target(&rt, array, 3, GL_ARRAY_BUFFER_BINDING, 2);
+    expect_target(&rt, elements, 4, GL_ELEMENT_ARRAY_BUFFER_BINDING, 3);
+    expect_target(
+        &rt,
+        BindTarget::Renderbuffer,
+        5,
+        GL_RENDERBUFFER_BINDING_OES,
+        4,
+    );
+    expect_target(
+        &rt,
+        BindTarget::Framebuffer,
+        6,
+        GL_FRAMEBUFFER_BINDING_OES,
+        5,
+    );
 }
 
 /// A slot of a framebuffer, what is attached there, and all that is attached once another object is, or nothing.
@@ -338,7 +202,6 @@ static SLOTS: [(u64, Option<u64>, &[u64], &[u64]); 3] = [
 /// Sets a slot of a framebuffer, which answers what it had and leaves these references.
 fn expect_linked(
     rt: &impl Abort,
-    alloc: Global,
     slot: u64,
     target: Option<u64>,
     former: Option<u64>,
@@ -347,21 +210,14 @@ fn expect_linked(
     assert!(rt; slot < 3);
     let mut object = Object::Framebuffer(framebuffer());
     let had = object.link(slot, target).expect(rt, "no memory is wanted");
-    assert_eq!(rt; had, former);
-    assert_eq!(rt; references(rt, alloc, &object).as_slice(), edges);
+    assert!(rt; had == former, "{slot}");
+    expect_edges(rt, &object, edges);
 }
 
 #[test]
 fn a_slot_of_a_framebuffer_is_a_point(rt: HostRuntime) {
     for (slot, former, linked, cleared) in &SLOTS {
-        expect_linked(&rt, rt.alloc(), *slot, Some(5), *former, linked);
-        expect_linked(&rt, rt.alloc(), *slot, None, *former, cleared);
+        expect_linked(&rt, *slot, Some(5), *former, linked);
+        expect_linked(&rt, *slot, None, *former, cleared);
     }
-}
-
-#[test]
-fn storages_have_none(rt: HostRuntime) {
-    let alloc = rt.alloc();
-    let storage = Object::Storage(storage(&rt, alloc, Format::Rgba8888));
-    expect_object(&rt, alloc, storage, (ObjectKind::Storage, 60), &[]);
 }

@@ -12,7 +12,7 @@ use std::thread;
 use std::thread::Threads;
 
 /// How many frames a small queue holds.
-const FEW: u32 = 2;
+pub const FEW: u32 = 2;
 
 /// The most frames that a queue holds.
 const MOST: u32 = 1_024;
@@ -20,8 +20,8 @@ const MOST: u32 = 1_024;
 /// How many frames are made.
 const FRAMES: u8 = 40;
 
-// Puts a frame, as soon as there is a place for it.
-fn put<R: Wait>(rt: &R, frames: &Frames, end: &mut PutEnd, frame: Frame)
+/// Puts a frame, as soon as there is a place for it.
+pub fn put<R: Wait>(rt: &R, frames: &Frames, end: &mut PutEnd, frame: Frame)
     requires { IsPutEnd frames.now end.old }
     ensures { IsPutEnd frames.now end.new }
 {
@@ -36,8 +36,8 @@ fn put<R: Wait>(rt: &R, frames: &Frames, end: &mut PutEnd, frame: Frame)
     unreachable!()
 }
 
-// Takes a frame, as soon as there is one.
-fn take<R: Wait>(rt: &R, frames: &Frames, end: &mut TakeEnd) -> Frame
+/// Takes a frame, as soon as there is one.
+pub fn take<R: Wait>(rt: &R, frames: &Frames, end: &mut TakeEnd) -> Frame
     requires { IsTakeEnd frames.now end.old }
     ensures { IsTakeEnd frames.now end.new }
 {

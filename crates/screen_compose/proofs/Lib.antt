@@ -5,3 +5,4 @@ pub mod ShownLaws
 pub mod QueueLaws
 pub mod Blending
 pub mod SnapshotLaws
+pub mod Sending

@@ -7,7 +7,7 @@ use Rattle.std.proofs.lemmas.List.{append-nil, get_or-set_other, get_or-set_same
 use Rattle.std.proofs.lemmas.List.Elements.{All-append}
 use Rattle.std.proofs.Math.Seq.{get_or-append_seam}
 use Rattle.std.specs.declared.snapshot.Snapshot.{Snapshot}
-use Rattle.surface_store.specs.WindowTables.{HasSides}
+use Rattle.model_laws.specs.Full.{IsWindow}
 use Rattle.egl_calls.specs.Journals.{are_halted}
 use Rattle.egl_calls.specs.declared.entries.Entry.{Entry}
 use Rattle.model_laws.specs.Frame.{AreOf}
@@ -101,7 +101,7 @@ room_given false places len r h = omega (arith, h)
 -- ---- What the new token holds.
 pub record IsNewcomer (v : View Core Entry) (number : ℕ) (p : Private) (tail : List Entry) : Type 0 where
   pub numbered : number ≡ v.number
-  pub sides : All HasSides (start_in v.first).windows
+  pub sides : All IsWindow (start_in v.first).windows
   pub legal : IsLegalAt (start_in v.first) (v.seen ++ tail)
   pub local : are_local (replay_from (start_in v.first) v.seen) number tail ≡ true
   pub part : p ≡ part_after (start_in v.first) number (v.seen ++ tail)
@@ -129,7 +129,7 @@ new_token f t u z y v number p tail b is turn same new made part none =
     All-append (λ (e : Entry). e.thread < z.driver.made) z.journal.entries u.tail.items b.below (below_of u.number z.driver.made u.tail.items inside (of_thread _ u.number u.tail.items b.turn.local)) in
     record {
       numbered = made ∙ sym n;
-      sides = subst (λ (s : State). All HasSides s.windows) (sym first) b.sides;
+      sides = subst (λ (s : State). All IsWindow s.windows) (sym first) b.sides;
       legal = subst (λ (q : State × List Entry). IsLegalAt q.0 q.1) (λ j. (sym first j, sym all j)) (legal_at o (y.journal.entries ++ []) turn.legal);
       local = ap (λ l. are_local (replay_from (start_in v.first) v.seen) number l) none;
       part = part ∙ ap (λ (q : State × List Entry). part_after q.0 number q.1) (λ j. (sym first j, sym (all ∙ append-nil y.journal.entries ∙ same) j));

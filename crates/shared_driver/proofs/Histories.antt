@@ -4,7 +4,7 @@ use Rattle.std.specs.Prelude.{All}
 use Rattle.std.proofs.lemmas.Bool.{and_parts, eqb-true, eq-eqb}
 use Rattle.std.proofs.lemmas.List.{append_assoc, length-replicate}
 use Rattle.surface_store.specs.Windows.{WindowValue}
-use Rattle.surface_store.specs.WindowTables.{HasSides}
+use Rattle.model_laws.specs.Full.{IsWindow}
 use Rattle.egl_calls.specs.Calls.{ReplyValue}
 use Rattle.egl_calls.specs.declared.entries.Entry.{Entry}
 use Rattle.egl_model.specs.State.{State, capacity, initial, opening}
@@ -19,7 +19,7 @@ use Rattle.egl_model.specs.Parts.{Private, part_of}
 use Rattle.model_laws.proofs.Framing.{has_frame, ready-step}
 use Rattle.model_laws.proofs.HistoryLaws.{IsLegalFrom-append, replay_from-append}
 use Rattle.model_laws.proofs.LateEntry.{late_entry, late_local}
-use Rattle.model_laws.proofs.StepKeeps.{sound-opening}
+use Rattle.model_laws.proofs.StepKeeps.{sides_of_none, sound-opening}
 use Rattle.model_laws.proofs.WholeSweep.{linked_from}
 use Rattle.driver_core.specs.Machine.{outs}
 use Rattle.driver_core.specs.Parts.{FitsThread}
@@ -132,7 +132,7 @@ stays_out o n away es tail r l out =
     ap (hide (outs away)) (replay_from-append o es tail) ∙ tail_stays b n away tail (ready_replay o n es r) out (of_thread b n tail l) (each_local b n tail l)
 
 -- ---- The state that a history starts at.
-pub sound_at : (ws : List WindowValue) (video : ℕ) → All HasSides ws → IsSound (record (opening [] video) { windows = ws })
+pub sound_at : (ws : List WindowValue) (video : ℕ) → All IsWindow ws → IsSound (record (opening [] video) { windows = ws })
 sound_at ws video sides =
     let k = sound-opening [] refl video in
     let s : State = record (opening [] video) { windows = ws } in
@@ -141,12 +141,13 @@ sound_at ws video sides =
       kinds = record { handles = k.whole.kinds.handles; threads = k.whole.kinds.threads; objects = k.whole.kinds.objects };
       storages = record { each = k.whole.storages.each };
       thawed = k.whole.thawed;
+      sides = sides_of_none ws;
       alone = record { contexts = k.whole.alone.contexts; surfaces = k.whole.alone.surfaces };
       both = record { draw = k.whole.both.draw; read = k.whole.both.read };
       numbers = record { handles = k.whole.numbers.handles; apart = k.whole.numbers.apart; context = k.whole.numbers.context; draw = k.whole.numbers.draw; read = k.whole.numbers.read };
     } in
     record { litter = record { each = k.litter.each }; linked = linked_from s w; whole = w; full = record { each = λ n. tt; windows = sides }; pixels = k.pixels }
 
-pub ready_at : (ws : List WindowValue) (video n : ℕ) → All HasSides ws → n < 65536 → IsReady (record (opening [] video) { windows = ws }) n
+pub ready_at : (ws : List WindowValue) (video n : ℕ) → All IsWindow ws → n < 65536 → IsReady (record (opening [] video) { windows = ws }) n
 unfolding capacity
 ready_at ws video n sides h = record { sound = sound_at ws video sides; thread = let e = length-replicate capacity initial in omega (arith, e, h) }

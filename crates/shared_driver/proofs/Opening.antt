@@ -6,7 +6,7 @@ use Rattle.std.proofs.lemmas.Bool.{cases_eq, cases_lt}
 use Rattle.std.proofs.lemmas.List.{get_or_past, get_or-set_other}
 use Rattle.std.proofs.lemmas.List.Elements.{All-append}
 use Rattle.std.specs.declared.snapshot.Snapshot.{Snapshot}
-use Rattle.surface_store.specs.WindowTables.{HasSides}
+use Rattle.model_laws.specs.Full.{IsWindow}
 use Rattle.surface_store.specs.Windows.{windows_ok}
 use Rattle.surface_store.specs.declared.windows.WindowSpec.{WindowSpec}
 use Rattle.egl_calls.specs.declared.entries.Entry.{Entry}
@@ -69,7 +69,7 @@ begins x y windows video d j r driver away same kept =
 pub record IsFirst (v : View Core Entry) (p : Private) (tail : List Entry) : Type 0 where
   pub numbered : 0 ≡ v.number
   pub few : 0 < 65536
-  pub sides : All HasSides (start_in v.first).windows
+  pub sides : All IsWindow (start_in v.first).windows
   pub legal : IsLegalAt (start_in v.first) (v.seen ++ tail)
   pub local : are_local (replay_from (start_in v.first) v.seen) 0 tail ≡ true
   pub part : p ≡ part_after (start_in v.first) 0 (v.seen ++ tail)
@@ -78,12 +78,12 @@ pub record IsFirst (v : View Core Entry) (p : Private) (tail : List Entry) : Typ
   pub halts : false ≡ has_halted v.number (v.seen ++ tail)
   pub counted : false ≡ true → v.counts.live ≡ 1
 
-first_at : (f : Snapshot Core) (s : State) (p : Private) → start_in (Some f) ≡ s → All HasSides s.windows → p ≡ part_of s 0 → f.value.rooms.items ≡ 258 ∷ [] → IsFirst (newcomer meaning f) p []
+first_at : (f : Snapshot Core) (s : State) (p : Private) → start_in (Some f) ≡ s → All IsWindow s.windows → p ≡ part_of s 0 → f.value.rooms.items ≡ 258 ∷ [] → IsFirst (newcomer meaning f) p []
 unfolding has_halted
 first_at f s p e sides part rooms = record {
   numbered = refl;
   few = omega arith;
-  sides = subst (λ (q : State). All HasSides q.windows) (sym e) sides;
+  sides = subst (λ (q : State). All IsWindow q.windows) (sym e) sides;
   legal = refl;
   local = refl;
   part = part ∙ ap (λ (q : State). part_of q 0) (sym e);

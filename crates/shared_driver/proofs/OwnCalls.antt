@@ -4,7 +4,7 @@ use Rattle.std.specs.Prelude.{All, nat_lt}
 use Rattle.std.specs.Prelude as std
 use Rattle.std.proofs.lemmas.List.{append_assoc, length-append}
 use Rattle.std.specs.declared.snapshot.Snapshot.{Snapshot}
-use Rattle.surface_store.specs.WindowTables.{HasSides}
+use Rattle.model_laws.specs.Full.{IsWindow}
 use Rattle.egl_calls.specs.Journals.{is_halt_kind}
 use Rattle.egl_calls.specs.declared.entries.Entry.{Entry}
 use Rattle.egl_calls.specs.declared.kinds.Kind.{Kind}
@@ -21,7 +21,7 @@ use Rattle.shared_driver.specs.Cores.{IsLegalAt, are_local, has_halted, of_numbe
 use Rattle.shared_driver.proofs.Histories.{legal_at, legal_from, legal_more, local_more, ready_at, replay_more}
 use Rattle.shared_driver.proofs.Owned.{all_own, halted_more, of_number-append, or_false}
 
-pub ready_start : (first : std.Option (Snapshot Core)) (n : ℕ) → All HasSides (start_in first).windows → n < 65536 → IsReady (start_in first) n
+pub ready_start : (first : std.Option (Snapshot Core)) (n : ℕ) → All IsWindow (start_in first).windows → n < 65536 → IsReady (start_in first) n
 ready_start None n s h = ready_at [] 0 n s h
 ready_start (Some f) n s h = ready_at f.value.driver.state.windows f.value.driver.state.video n s h
 

@@ -1,10 +1,11 @@
 -- How a turn begins and ends.
 use Rattle.std.proofs.Common.{◌≡◌, ℕ, ◌+◌, ◌-◌, ◌≤◌, ◌<◌, ◌||◌, Bool, true, false, List, [], ◌∷◌, ◌++◌, arith, refl, sym, ap, ◌∙◌, subst, length, get_or, set, Some, None}
-use Rattle.std.specs.Prelude.{All, Contains, slice_index, ◌⊎◌}
+use Rattle.std.specs.Option.{option_and_then}
+use Rattle.std.specs.Prelude.{All, Contains, IfSome, slice_index, ◌⊎◌}
 use Rattle.std.specs.Prelude as std
 use Rattle.std.proofs.lemmas.List.{append-nil, append_assoc, get_or-set_other, get_or-set_same, length-set}
 use Rattle.std.specs.declared.snapshot.Snapshot.{Snapshot}
-use Rattle.surface_store.specs.WindowTables.{HasSides}
+use Rattle.model_laws.specs.Full.{IsWindow}
 use Rattle.egl_calls.specs.declared.entries.Entry.{Entry}
 use Rattle.egl_calls.specs.Calls.{CallValue, ReplyValue}
 use Rattle.model_laws.specs.Frame.{AreOf, IsReady}
@@ -14,6 +15,8 @@ use Rattle.egl_model.specs.Parts.{Private, part_of}
 use Rattle.egl_model.specs.State.{State}
 use Rattle.egl_model.specs.Step.{step}
 use Rattle.driver_core.specs.Machine.{Machine, outs}
+use Rattle.thread_part.specs.Uploads.{upload_of}
+use Rattle.thread_part.specs.declared.uploads.Upload.{Upload}
 use Rattle.turn_lock.specs.Meaning.{StandsFor}
 use Rattle.turn_lock.specs.Moves.{joined_of, joining, went}
 use Rattle.turn_lock.specs.Passes.{HasCome, IsFree, view_of}
@@ -27,10 +30,11 @@ use Rattle.shared_driver.specs.declared.tokens.Holding.{Holding}
 use Rattle.shared_driver.specs.Cores.{IsLegalAt, are_local, entry, meaning, origin, owed, part_after, room_for, start_in}
 use Rattle.shared_driver.specs.Tokens.{Goes, Includes, Learns, Token, mine}
 use Rattle.shared_driver.specs.Turns.{Begun, Ends, Holds, IsTurn, Retires}
-use Rattle.shared_driver.proofs.Histories.{IsLate, legal_at, legal_from, of_thread, ready_at}
+use Rattle.driver_core.proofs.AwayLaws.{part-hide}
+use Rattle.shared_driver.proofs.Histories.{IsLate, legal_at, legal_from, of_thread, ready_at, ready_replay}
 use Rattle.shared_driver.proofs.Owned.{mine_goes, mine_learns, own_each, own_one, own_then}
 use Rattle.shared_driver.proofs.Rooms.{is_out, room_itself, set_twice}
-use Rattle.shared_driver.proofs.Standing.{IsCore, core_same, found_late, lent_core, stands_of, turn_begun, turn_ended, turn_left, turn_more, turn_same}
+use Rattle.shared_driver.proofs.Standing.{IsCore, core_same, found_late, has_part, lent_core, stands_of, turn_begun, turn_ended, turn_left, turn_more, turn_same}
 
 -- ---- A turn begins.
 -- what a thread holds, in the lock that it came from
@@ -44,7 +48,7 @@ pub known : (f : Snapshot Core) (t : Holding) → Holds t → (view_of t.pass).f
 known f t h is =
     let o : start_in (view_of t.pass).first ≡ origin f.value = ap start_in is in
     record {
-      ready = ready_at f.value.driver.state.windows f.value.driver.state.video t.number (subst (λ (s : State). All HasSides s.windows) o h.sides) h.few;
+      ready = ready_at f.value.driver.state.windows f.value.driver.state.video t.number (subst (λ (s : State). All IsWindow s.windows) o h.sides) h.few;
       legal = subst (λ (s : State). IsLegalFrom s ((view_of t.pass).seen ++ t.tail.items)) o (legal_from (start_in (view_of t.pass).first) ((view_of t.pass).seen ++ t.tail.items) h.legal);
       local = subst (λ (s : State). are_local (replay_from s (view_of t.pass).seen) t.number t.tail.items ≡ true) o h.local;
       part = h.part ∙ ap (λ (s : State). Some (part_after s t.number ((view_of t.pass).seen ++ t.tail.items))) o;
@@ -82,6 +86,13 @@ start f t x z p h is found lent some =
           (ap (some_of p) (sym some ∙ k.part)) inside room;
     }
 
+-- the part that a turn of the thread finds in the driver is that of the state after the journal and the thread's own calls
+part_in_turn : (f x : Core) (n : ℕ) (own : List Entry) → IsTurn f x n own → part_of x.driver.state n ≡ part_of (replay_from (origin f) (x.journal.entries ++ own)) n
+part_in_turn f x n own k =
+    let es = x.journal.entries ++ own in
+    let r = ready_replay (origin f) n es k.ready in
+    ap (λ (s : State). part_of s n) k.driver ∙ part-hide (replay_from (origin f) es) n x.driver.away r.sound r.thread (has_part f x n own k)
+
 -- once its part was put back
 pub begun : (f : Snapshot Core) (t u : Holding) (x z y : Core) (p : Private) → Holds t → (view_of t.pass).first ≡ Some f → Finds meaning f.value (view_of t.pass) x → z ≡ x → t.part ≡ Some p → HasCome meaning (view_of t.pass) x (view_of u.pass)
     → u.number ≡ t.number → u.tail ≡ t.tail → (y.driver.state ≡ hide (outs y.driver.away) (replay_from (origin f.value) (z.journal.entries ++ t.tail.items))) → (y.driver.made ≡ z.driver.made) × (y.driver.away ≡ set z.driver.away t.number false)
@@ -94,18 +105,23 @@ begun f t u x z y p h is found lent some view number tail driver away kept =
     let rooms : x.rooms.items ≡ y.rooms.items = ap (λ (q : Core). q.rooms.items) (sym lent) ∙ ap (λ q. q.items) (sym kept.2) in
     let made : x.driver.made ≡ y.driver.made = ap (λ (q : Core). q.driver.made) (sym lent) ∙ sym away.0 in
     let live : x.live ≡ y.live = ap (λ (q : Core). q.live) (sym lent) ∙ sym kept.1 in
+    let turn = subst (λ (q : ℕ × List Entry). IsTurn f.value y q.0 q.1) (λ j. (sym number j, (sym tail j).items)) (turn_begun f.value z y t.number t.tail.items p s.ready s.core s.late s.inside s.counted driver away kept) in
     let own : slice_index y.rooms.items u.number ≡ slice_index v.rooms v.number = ap (λ (l : List ℕ). slice_index l u.number) (sym rooms) ∙ ap (λ m. slice_index x.rooms.items m) (number ∙ h.numbered) ∙ found.own_room in
     record {
       same_number = number;
       same_tail = tail;
       numbered = number ∙ h.numbered ∙ ap (λ (q : View Core Entry). q.number) (sym view);
       few = subst (λ m. m < 65536) (sym number) h.few;
-      sides = subst (λ (q : State). All HasSides q.windows) (ap start_in is) h.sides;
+      sides = subst (λ (q : State). All IsWindow q.windows) (ap start_in is) h.sides;
       between = found.history.0;
       others = found.history.2;
       entries = sym es ∙ found.history.1;
       view = view ∙ (λ j. record v { in_turn = true; seen = es j; counts = record { made = made j; live = live j }; rooms = rooms j; joined = None; ticket = w.ticket });
-      turn = subst (λ (q : ℕ × List Entry). IsTurn f.value y q.0 q.1) (λ j. (sym number j, (sym tail j).items)) (turn_begun f.value z y t.number t.tail.items p s.ready s.core s.late s.inside s.counted driver away kept);
+      turn = turn;
+      part = some
+          ∙ ap (λ (q : Private). Some q) (s.late.part
+          ∙ (λ j. part_of (replay_from (origin f.value) ((sym kept.0 j).entries ++ (sym tail j).items)) (sym number j))
+          ∙ sym (part_in_turn f.value y u.number u.tail.items turn));
       own_room = own;
       room = subst (λ (q : List Entry × ℕ). length q.0 < q.1) (λ j. ((sym tail j).items, sym own j)) h.room;
       ended_rooms = λ n i. ap (λ (l : List ℕ). slice_index l n) (sym rooms) ∙ found.ended_rooms n i;
@@ -115,6 +131,11 @@ begun f t u x z y p h is found lent some view number tail driver away kept =
       some_live = subst (λ m. 1 ≤ m) live found.some_live;
       live_few = subst (λ (q : ℕ × ℕ). q.0 ≤ q.1) (λ j. (live j, made j)) found.live_few;
     }
+
+-- what a call gives, told by the part that was held, is what it gives in the turn
+pub upload_found : (f : Core) (t u : Holding) (x : Core) (c : CallValue) (o : std.Option Upload) → Begun f t u x → IfSome o (λ v. option_and_then (λ p. upload_of p c) t.part ≡ Some v) → IfSome o (λ v. upload_of (part_of x.driver.state u.number) c ≡ Some v)
+upload_found f t u x c None b h = tt
+upload_found f t u x c (Some v) b h = ap (λ (q : std.Option Private). option_and_then (λ p. upload_of p c) q) (sym b.part) ∙ h
 
 -- the value was lent
 pub lent_begun : (f : Core) (t u : Holding) (x z : Core) → z ≡ x → Begun f t u x → Begun f t u z
@@ -152,7 +173,7 @@ held_again f u w y z k is free view kept part same =
       free = free;
       numbered = kept.0 ∙ sym number;
       few = subst (λ m. m < 65536) (sym kept.0) k.few;
-      sides = subst (λ (s : State). All HasSides s.windows) (sym first) k.sides;
+      sides = subst (λ (s : State). All IsWindow s.windows) (sym first) k.sides;
       legal = subst (λ (q : State × List Entry × List Entry). IsLegalAt q.0 (q.1 ++ q.2)) (λ j. (sym first j, sym seen j, sym tail j)) (legal_at o (y.journal.entries ++ u.tail.items) k.turn.legal);
       local = subst (λ (q : State × List Entry × ℕ × List Entry). are_local (replay_from q.0 q.1) q.2 q.3 ≡ true) (λ j. (sym first j, sym seen j, sym kept.0 j, sym tail j)) k.turn.local;
       part = part ∙ ap (λ (q : State × ℕ × List Entry × List Entry). Some (part_after q.0 q.1 (q.2 ++ q.3))) (λ j. (sym first j, sym kept.0 j, sym seen j, sym tail j));
@@ -378,7 +399,7 @@ pub some_tail : (a : Bool) (places len r : ℕ) → room_for a + places + len �
 some_tail true places len r h = omega (arith, h)
 some_tail false places len r h = omega (arith, h)
 
-pub held : (h : Holding) → IsFree h.pass → h.number ≡ (view_of h.pass).number → h.number < 65536 → All HasSides (start_in (view_of h.pass).first).windows → IsLegalAt (start_in (view_of h.pass).first) ((view_of h.pass).seen ++ h.tail.items)
+pub held : (h : Holding) → IsFree h.pass → h.number ≡ (view_of h.pass).number → h.number < 65536 → All IsWindow (start_in (view_of h.pass).first).windows → IsLegalAt (start_in (view_of h.pass).first) ((view_of h.pass).seen ++ h.tail.items)
     → are_local (replay_from (start_in (view_of h.pass).first) (view_of h.pass).seen) h.number h.tail.items ≡ true → h.part ≡ Some (part_after (start_in (view_of h.pass).first) h.number ((view_of h.pass).seen ++ h.tail.items))
     → length h.tail.items < slice_index (view_of h.pass).rooms (view_of h.pass).number → Holds h
 held h free numbered few sides legal local part room = record { free = free; numbered = numbered; few = few; sides = sides; legal = legal; local = local; part = part; room = room }
@@ -409,7 +430,7 @@ idle_holds f t q x z h is found lent free number seen rooms first =
       free = free;
       numbered = h.numbered ∙ sym number;
       few = h.few;
-      sides = subst (λ (r : State). All HasSides r.windows) (ap start_in (sym first)) h.sides;
+      sides = subst (λ (r : State). All IsWindow r.windows) (ap start_in (sym first)) h.sides;
       legal = subst (λ (r : State × List Entry). IsLegalAt r.0 (r.1 ++ t.tail.items)) (λ j. (sym from j, sym seen j)) (legal_at o (z.journal.entries ++ t.tail.items) s.late.legal);
       local = subst (λ (r : State × List Entry). are_local (replay_from r.0 r.1) t.number t.tail.items ≡ true) (λ j. (sym from j, sym seen j)) s.late.local;
       part = k.part ∙ ap (λ (p : Private). Some p) s.late.part ∙ ap (λ (r : State × List Entry). Some (part_after r.0 t.number (r.1 ++ t.tail.items))) (λ j. (sym from j, sym seen j));

@@ -1,10 +1,11 @@
 -- What a thread holds between its turns, and what stands in a turn.
 use Rattle.std.specs.Prelude.{◌≡◌, ◌≢◌, ℕ, ◌<◌, ◌≤◌, true, false, List, ◌++◌, All, Contains, length, slice_index, slice_set, Option, None, Some}
-use Rattle.surface_store.specs.WindowTables.{HasSides}
+use Rattle.model_laws.specs.Full.{IsWindow}
 use Rattle.egl_calls.specs.declared.entries.Entry.{Entry}
 use Rattle.model_laws.specs.Frame.{IsReady}
 use Rattle.model_laws.specs.Hidden.{hide}
 use Rattle.egl_model.specs.History.{IsLegalFrom, replay_from}
+use Rattle.egl_model.specs.Parts.{part_of}
 use Rattle.egl_model.specs.State.{State}
 use Rattle.driver_core.specs.LateDraws.{drawn_late}
 use Rattle.driver_core.specs.Machine.{outs}
@@ -21,8 +22,8 @@ pub record Holds (h : Holding) : Type 0 where
   pub free : IsFree h.pass
   pub numbered : h.number ≡ (view_of h.pass).number
   pub few : h.number < 65536
-  -- the windows that the history starts with have sides from 1 to 2,048
-  pub sides : All HasSides (start_in (view_of h.pass).first).windows
+  -- the windows that the history starts with have sides from 1 to 2,048, and 8 bits a component
+  pub sides : All IsWindow (start_in (view_of h.pass).first).windows
   pub legal : IsLegalAt (start_in (view_of h.pass).first) ((view_of h.pass).seen ++ h.tail.items)
   pub local : are_local (replay_from (start_in (view_of h.pass).first) (view_of h.pass).seen) h.number h.tail.items ≡ true
   pub part : h.part ≡ Some (part_after (start_in (view_of h.pass).first) h.number ((view_of h.pass).seen ++ h.tail.items))
@@ -47,13 +48,15 @@ pub record Begun (first : Core) (t u : Holding) (x : Core) : Type 0 where
   pub same_tail : u.tail ≡ t.tail
   pub numbered : u.number ≡ (view_of u.pass).number
   pub few : u.number < 65536
-  pub sides : All HasSides (origin first).windows
+  pub sides : All IsWindow (origin first).windows
   -- the journal is what the pass had seen, and then entries of others
   pub between : List Entry
   pub others : AreOthers meaning (view_of t.pass) between
   pub entries : x.journal.entries ≡ (view_of t.pass).seen ++ between
   pub view : HasCome meaning (view_of t.pass) x (view_of u.pass)
   pub turn : IsTurn first x u.number u.tail.items
+  -- the part that was held is the thread's, which is in now
+  pub part : t.part ≡ Some (part_of x.driver.state u.number)
   -- the thread's room is as it left it, and those of the tokens that ended in its own are 0
   pub own_room : slice_index x.rooms.items u.number ≡ slice_index (view_of t.pass).rooms (view_of t.pass).number
   pub room : length u.tail.items < slice_index x.rooms.items u.number
@@ -69,7 +72,7 @@ pub record Ends (first : Core) (u : Holding) (y : Core) : Type 0 where
   pub turn : IsTurn first y u.number u.tail.items
   pub numbered : u.number ≡ (view_of u.pass).number
   pub few : u.number < 65536
-  pub sides : All HasSides (origin first).windows
+  pub sides : All IsWindow (origin first).windows
   -- the journal is what the pass has seen, and then entries of its own
   pub more : List Entry
   pub entries : y.journal.entries ≡ (view_of u.pass).seen ++ more

@@ -17,6 +17,7 @@ use crate::newcomers::own_calls;
 use crate::news::News;
 use crate::picks::{Picked, PickedCall, Picker, has_stopped, is_halt};
 use crate::tokens::{Closed, Holding, Opened, Shared, Thread};
+use crate::uploads::upload_of;
 use egl_calls::{Call, EglKind, GlKind, Kind, NoMemory, OwnKind, Reply};
 use std::alloc::Global;
 use std::sync::Wait;
@@ -89,7 +90,7 @@ impl Shared {
         })
     }
 
-    // The turn in which a call is played that gives the token's places back, and the draw that it may leave. Where it begins a wait, the token's room then has a place for the end.
+    // What a call gives, made before its turn, the turn in which it is played and gives the token's places back, and the draw that it may leave. Where it begins a wait, the token's room then has a place for the end.
     fn begin<R: Wait>(
         &self,
         thread: &mut Thread,
@@ -112,6 +113,7 @@ impl Shared {
     {
         let halts = is_halt(call.kind);
         let back = PLACES - thread.places;
+        let upload = upload_of(&thread.hold, alloc, &call);
         let mut held = self.begin_turn(&mut thread.hold, rt);
         let core = held.value();
         let from = core.journal.len();
@@ -120,6 +122,7 @@ impl Shared {
             thread.hold.number,
             mark,
             call,
+            upload,
             &mut thread.hold.tail,
             back,
         ) {
@@ -170,7 +173,7 @@ impl Shared {
 
     /// Plays a call, and answers its reply. Its entry stands after all that the token saw, and after what others added meanwhile. A client wait that blocks waits here, and answers what its end does; it sleeps between the turns of others, and may never return.
     ///
-    /// The token's own calls enter the history directly before it. A draw to the thread's own surface is made once the turn is over, so that others go on meanwhile. Where memory runs out nothing is added. The end of a wait takes no memory, and neither does a call that destroys, releases, flushes or halts while the token has a free place: it then uses one. Each other call gives all of the token's places back.
+    /// The token's own calls enter the history directly before it. What it gives a texture or a buffer is made before its turn, where the thread's part tells that, and a draw to the thread's own surface once the turn is over, so that others go on meanwhile. Where memory runs out nothing is added. The end of a wait takes no memory, and neither does a call that destroys, releases, flushes or halts while the token has a free place: it then uses one. Each other call gives all of the token's places back.
     pub fn call<R: Wait>(
         &self,
         thread: &mut Thread,

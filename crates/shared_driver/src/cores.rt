@@ -1,5 +1,5 @@
 //! The value under the lock.
-ghost use Rattle.std.specs.Prelude.{◌≡◌, ◌<◌, ◌≤◌, ◌+◌, ◌-◌, [], ◌∷◌, ◌++◌, true, false, length, IfOk, IfSome, IfNone, OnSome, OnOk, OnErr, IsOk, slice_index, slice_index_or, slice_set};
+ghost use Rattle.std.specs.Prelude.{◌≡◌, ◌<◌, ◌≤◌, ◌+◌, ◌-◌, [], ◌∷◌, ◌++◌, true, false, length, Some, IfOk, IfSome, IfNone, OnSome, OnOk, OnErr, IsOk, slice_index, slice_index_or, slice_set};
 ghost use Rattle.std.specs.VecDeque.{deque_capacity};
 ghost use Rattle.surface_store.specs.Windows.{windows_ok};
 ghost use Rattle.model_laws.specs.Frame.{IsReady};
@@ -13,6 +13,7 @@ ghost use Rattle.driver_core.specs.Machine.{outs};
 ghost use Rattle.driver_core.specs.LateDraws.{IsLeft};
 ghost use Rattle.driver_core.specs.Memory.{takes_no_memory};
 ghost use Rattle.driver_core.specs.Parts.{FitsThread};
+ghost use Rattle.thread_part.specs.Uploads.{upload_of};
 ghost use Rattle.shared_driver.specs.Cores.{entry, halt_call, is_waiting, owed, own_call, place_for, wait_end_call, wait_ended};
 
 use driver_core::{Drawing, Driver, LateDraw};
@@ -25,7 +26,7 @@ use std::collections::VecDeque;
 use std::marker::Brand;
 use std::sync::ledger::{Blank, Ledger};
 use surface_store::WindowSpec;
-use thread_part::ThreadPart;
+use thread_part::{ThreadPart, Upload};
 use turn_lock::Replays;
 
 /// A driver with its journal. What each live token may still add without memory stands in its room, which is one more than that. The private part of a live token's thread is out of the driver.
@@ -111,14 +112,73 @@ fn stepped(
     uncounted::<Brand>(driver, alloc, thread, call, Blank::new(1))
 }
 
-/// The same of any call, but a draw to the thread's own surface is left to be made.
+// The same with what the call gives.
+fn uncounted_with_upload<L: Ledger>(
+    driver: &mut Driver,
+    alloc: Global,
+    thread: u32,
+    call: &Call,
+    upload: Upload,
+    blank: Blank,
+) -> Result<ReplyPair, NoMemory>
+    requires made { thread < driver.old.made }
+    requires upload { upload_of (part_of driver.old.state thread) call.now ≡ Some upload }
+    requires name { blank.name ≡ L.name }
+    requires parts { blank.parts ≡ L.parts }
+    requires some { 0 < blank.parts }
+    ensures reply { IfOk result (λ r. r.reply ≡ (step driver.old.state thread call.now).reply) }
+    ensures state { OnOk result (driver.new ≡ record driver.old { state = (step driver.old.state thread call.now).state }) }
+    ensures err { OnErr result (driver.new ≡ driver.old) }
+{
+    driver.step_with_upload(alloc, thread, call, upload, &mut Steps::<L>::open(blank))
+}
+
+fn stepped_with_upload(
+    driver: &mut Driver,
+    alloc: Global,
+    thread: u32,
+    call: &Call,
+    upload: Upload,
+) -> Result<ReplyPair, NoMemory>
+    requires made { thread < driver.old.made }
+    requires upload { upload_of (part_of driver.old.state thread) call.now ≡ Some upload }
+    ensures reply { IfOk result (λ r. r.reply ≡ (step driver.old.state thread call.now).reply) }
+    ensures state { OnOk result (driver.new ≡ record driver.old { state = (step driver.old.state thread call.now).state }) }
+    ensures err { OnErr result (driver.new ≡ driver.old) }
+{
+    uncounted_with_upload::<Brand>(driver, alloc, thread, call, upload, Blank::new(1))
+}
+
+// The same with what the call gives, if that was made before.
+fn stepped_by(
+    driver: &mut Driver,
+    alloc: Global,
+    thread: u32,
+    call: &Call,
+    upload: Option<Upload>,
+) -> Result<ReplyPair, NoMemory>
+    requires made { thread < driver.old.made }
+    requires upload { IfSome upload (λ u. upload_of (part_of driver.old.state thread) call.now ≡ Some u) }
+    ensures reply { IfOk result (λ r. r.reply ≡ (step driver.old.state thread call.now).reply) }
+    ensures state { OnOk result (driver.new ≡ record driver.old { state = (step driver.old.state thread call.now).state }) }
+    ensures err { OnErr result (driver.new ≡ driver.old) }
+{
+    match upload {
+        Some(upload) => stepped_with_upload(driver, alloc, thread, call, upload),
+        None => stepped(driver, alloc, thread, call),
+    }
+}
+
+/// The same of any call, with what it gives, if that was made before. A draw to the thread's own surface is left to be made.
 fn stepped_late(
     driver: &mut Driver,
     alloc: Global,
     thread: u32,
     call: &Call,
+    upload: Option<Upload>,
 ) -> Result<LateDraw, NoMemory>
     requires made { thread < driver.old.made }
+    requires upload { IfSome upload (λ u. upload_of (part_of driver.old.state thread) call.now ≡ Some u) }
     ensures reply { IfOk result (λ d. d.reply ≡ (step driver.old.state thread call.now).reply) }
     ensures left { IfOk result (λ d. IsLeft driver.old thread call.now d.drawing driver.new) }
     ensures err { OnErr result (driver.new ≡ driver.old) }
@@ -126,7 +186,7 @@ fn stepped_late(
     if driver.is_late(thread, call) {
         return driver.step_late_draw(alloc, thread, call);
     }
-    let ReplyPair { reply, copy } = stepped(driver, alloc, thread, call)?;
+    let ReplyPair { reply, copy } = stepped_by(driver, alloc, thread, call, upload)?;
     Ok(LateDraw {
         reply,
         copy,
@@ -273,16 +333,18 @@ impl Core {
         move_entries(&mut self.journal, tail);
     }
 
-    /// Plays a call, and adds the token's own calls and its entry. A draw to the thread's own surface is left to be made. Its room then grows by so many places; the journal has room for these and for the entry.
+    /// Plays a call, with what it gives if that was made before, and adds the token's own calls and its entry. A draw to the thread's own surface is left to be made. Its room then grows by so many places; the journal has room for these and for the entry.
     pub fn play(
         &mut self,
         alloc: Global,
         number: u32,
         mark: u64,
         call: Call,
+        upload: Option<Upload>,
         tail: &mut VecDeque<Entry>,
         more: u64,
     ) -> Result<Played, NoMemory>
+        requires upload { IfSome upload (λ u. upload_of (part_of self.old.driver.state number) call ≡ Some u) }
         requires number { (number < self.old.driver.made) × (number < length self.old.rooms.items) }
         requires room { length tail.old.items < slice_index self.old.rooms.items number }
         requires owed { self.old.promised ≡ owed self.old.rooms.items }
@@ -304,7 +366,7 @@ impl Core {
             reply,
             copy,
             drawing,
-        } = stepped_late(&mut self.driver, alloc, number, &call)?;
+        } = stepped_late(&mut self.driver, alloc, number, &call, upload)?;
         self.hand_in(number, tail);
         self.journal.push(Entry {
             thread: number,
@@ -316,16 +378,18 @@ impl Core {
         Ok(Played { reply, drawing })
     }
 
-    /// Plays a call that gives places back, and adds the token's own calls and its entry. Where the call begins a wait, the token's room has a place more then, for the end of the wait. Where memory runs out nothing has changed.
+    /// Plays a call that gives places back, with what it gives if that was made before, and adds the token's own calls and its entry. Where the call begins a wait, the token's room has a place more then, for the end of the wait. Where memory runs out nothing has changed.
     pub fn begin(
         &mut self,
         alloc: Global,
         number: u32,
         mark: u64,
         call: Call,
+        upload: Option<Upload>,
         tail: &mut VecDeque<Entry>,
         back: u64,
     ) -> Result<Played, NoMemory>
+        requires upload { IfSome upload (λ u. upload_of (part_of self.old.driver.state number) call ≡ Some u) }
         requires number { (number < self.old.driver.made) × (number < length self.old.rooms.items) }
         requires room { length tail.old.items < slice_index self.old.rooms.items number }
         requires back { back ≤ 256 }
@@ -343,7 +407,7 @@ impl Core {
         ensures live { self.new.live ≡ self.old.live }
     {
         self.make_room(back + 2)?;
-        let played = self.play(alloc, number, mark, call, tail, back)?;
+        let played = self.play(alloc, number, mark, call, upload, tail, back)?;
         let place = place_for(is_waiting(played.reply.outcome));
         self.promise(number, place);
         Ok(played)

@@ -15,6 +15,7 @@ mod sleepers;
 mod threads;
 mod tokens;
 mod turns;
+mod uploads;
 mod waits;
 
 pub use laws::{a_token_keeps_its_own_calls, what_a_token_has_seen_is_legal};

@@ -100,7 +100,9 @@ impl Core {
         match picker.pick(&self.journal, &self.driver)? {
             Pick::Call(mark, call) => {
                 let halts = is_halt(call.kind);
-                let Played { reply, drawing } = self.play(alloc, number, mark, call, tail, back)?;
+                let Played { reply, drawing } = self.play(
+                    alloc, number, mark, call, None, tail, back,
+                )?;
                 Ok(PickedCall {
                     picked: Picked::Replied(reply),
                     halts,

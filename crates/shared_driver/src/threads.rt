@@ -1,6 +1,7 @@
 //! Tokens in many threads.
-ghost use Rattle.std.specs.Prelude.{All, ◌<◌};
-ghost use Rattle.shared_driver.specs.Tokens.{IsOf};
+ghost use Rattle.std.specs.Prelude.{All, ◌<◌, ℕ, [], length, slice_index_or};
+ghost use Rattle.shared_driver.specs.declared.tokens.Thread.{Thread as AThread};
+ghost use Rattle.shared_driver.specs.Tokens.{Goes, IsOf, token_of};
 
 use crate::tokens::{Shared, Thread};
 use std::sync::Wait;
@@ -21,7 +22,8 @@ pub fn finish_all<R: Threads + Wait + Sync>(
 )
     requires owns { All (λ t. IsOf shared.now t) threads.old }
     requires most { 0 < most }
-    ensures { All (λ t. IsOf shared.now t) threads.new }
+    ensures owns { All (λ t. IsOf shared.now t) threads.new }
+    ensures seen { (k : ℕ) (d : AThread) → k < length threads.old → Goes (token_of (slice_index_or threads.old k d)) [] (token_of (slice_index_or threads.new k d)) }
 {
     needs_send(shared);
     thread::for_each_mut(
@@ -30,7 +32,8 @@ pub fn finish_all<R: Threads + Wait + Sync>(
         most,
         &|_, t: &mut Thread|
             requires { IsOf shared.now t.now }
-            ensures { IsOf shared.entry.now t.exit.now }
+            ensures owns { IsOf shared.entry.now t.exit.now }
+            ensures seen { Goes (token_of t.entry.now) [] (token_of t.exit.now) }
         { shared.finish(t, rt) },
     );
 }

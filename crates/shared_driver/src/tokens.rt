@@ -1,7 +1,7 @@
 //! Tokens, and what they are tokens of.
 ghost use Rattle.std.specs.Prelude.{◌≡◌, ◌<◌, ◌≤◌, ◌+◌, ◌++◌, true, Some, All, length, slice_index};
 ghost use Rattle.std.specs.VecDeque.{deque_capacity};
-ghost use Rattle.surface_store.specs.WindowTables.{HasSides};
+ghost use Rattle.model_laws.specs.Full.{IsWindow};
 ghost use Rattle.egl_model.specs.History.{replay_from};
 ghost use Rattle.turn_lock.specs.Passes.{view_of, IsFree};
 ghost use Rattle.shared_driver.specs.Cores.{IsLegalAt, are_local, has_halted, part_after, room_for, start_in};
@@ -44,7 +44,7 @@ pub struct Thread {
     ghost free: { IsFree hold.pass },
     ghost numbered: { hold.number ≡ (view_of hold.pass).number },
     ghost few: { hold.number < 65536 },
-    ghost sides: { All HasSides (start_in (view_of hold.pass).first).windows },
+    ghost sides: { All IsWindow (start_in (view_of hold.pass).first).windows },
     ghost legal: { IsLegalAt (start_in (view_of hold.pass).first) ((view_of hold.pass).seen ++ hold.tail.items) },
     ghost local: { are_local (replay_from (start_in (view_of hold.pass).first) (view_of hold.pass).seen) hold.number hold.tail.items ≡ true },
     ghost part: { hold.part ≡ Some (part_after (start_in (view_of hold.pass).first) hold.number ((view_of hold.pass).seen ++ hold.tail.items)) },

@@ -1,2 +1,1 @@
 pub mod TwoSlotLaws
-pub mod HeldLaws

@@ -1,15 +1,9 @@
-//! A store of counted nodes, and a driver's table of objects over it. All of it is tests: they stand here, so that neither crate is proved again for them.
+//! A store of counted nodes, over pieces of three kinds. All of it is tests: they stand here, so that the store isn't proved again for them.
 #![tactic(auto)]
 
 #[cfg(test)]
 mod calls;
 #[cfg(test)]
-mod objects;
-#[cfg(test)]
 mod pieces;
 #[cfg(test)]
 mod stores;
-#[cfg(test)]
-mod tables;
-#[cfg(test)]
-mod turns;

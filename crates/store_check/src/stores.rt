@@ -4,8 +4,7 @@ ghost use Rattle.ref_store.specs.Kept.{AllIn};
 
 use crate::calls::{census, hold, link, put_frame, put_storage, put_texture, release};
 use crate::pieces::{Fullness, Piece};
-use ref_store::{NoMemory, Steps, Store};
-use std::alloc::Global;
+use ref_store::{Steps, Store};
 use std::marker::Brand;
 use std::process::Abort;
 use std::sync::ledger::{Blank, Ledger};
@@ -33,38 +32,20 @@ enum Move {
     Shown(u64, bool),
 }
 
-fn expect_linked<L: Ledger>(
+/// Sets a slot of a piece to a target, for which it has memory or not.
+fn expect_link<L: Ledger>(
     rt: &impl Abort,
     store: &mut Store<Piece>,
-    id: u64,
-    slot: u64,
-    target: Option<u64>,
+    edge: (u64, u64, Option<u64>),
+    has_memory: bool,
     steps: &mut Steps<L>,
 )
     requires { AllIn store.old.nodes }
     ensures { AllIn store.new.nodes }
 {
-    assert!(rt; link(rt, store, id, slot, target, steps).is_ok());
-}
-
-fn expect_refused<L: Ledger>(
-    rt: &impl Abort,
-    store: &mut Store<Piece>,
-    id: u64,
-    slot: u64,
-    target: Option<u64>,
-    steps: &mut Steps<L>,
-)
-    requires { AllIn store.old.nodes }
-    ensures { AllIn store.new.nodes }
-{
-    assert_eq!(rt; link(rt, store, id, slot, target, steps), Err(NoMemory));
-}
-
-fn expect_shown(rt: &impl Abort, store: &Store<Piece>, id: u64, shown: bool, k: usize)
-    requires { AllIn store.now.nodes }
-{
-    assert_eq!(rt; store.get(id).is_some(), shown, "row {k}");
+    let (id, slot, target) = edge;
+    let linked = link(rt, store, id, slot, target, steps);
+    assert!(rt; linked.is_ok() == has_memory);
 }
 
 fn play_one<L: Ledger>(
@@ -83,11 +64,11 @@ fn play_one<L: Ledger>(
         Move::Storage(id, bytes) => put_storage(rt, store, id, bytes),
         Move::Hold(id) => hold(rt, store, id),
         Move::Release(id) => release(rt, store, id, steps),
-        Move::Link(id, slot, target) => expect_linked(rt, store, id, slot, target, steps),
-        Move::Refused(id, slot, target) => expect_refused(rt, store, id, slot, target, steps),
-        Move::Census(counts) => assert_eq!(rt; census(store), counts, "row {k}"),
-        Move::References(id, count) => assert_eq!(rt; store.count(id), count, "row {k}"),
-        Move::Shown(id, shown) => expect_shown(rt, store, id, shown, k),
+        Move::Link(id, slot, target) => expect_link(rt, store, (id, slot, target), true, steps),
+        Move::Refused(id, slot, target) => expect_link(rt, store, (id, slot, target), false, steps),
+        Move::Census(counts) => assert!(rt; census(store) == counts, "row {k}"),
+        Move::References(id, count) => assert!(rt; store.count(id) == count, "row {k}"),
+        Move::Shown(id, shown) => assert!(rt; store.get(id).is_some() == shown, "row {k}"),
     }
 }
 
@@ -211,9 +192,9 @@ fn link_often<R: Abort + AllocGlobal, L: Ledger>(rt: &R, blank: Blank)
     put_texture(rt, &mut store, 0, None, Fullness::Roomy);
     'links: for id in 1..101 {
         put_storage(rt, &mut store, id, 1);
-        expect_linked(rt, &mut store, 0, 0, Some(id), &mut steps);
+        expect_link(rt, &mut store, (0, 0, Some(id)), true, &mut steps);
     }
-    assert_eq!(rt; census(&store), [0, 1, 1, 1]);
+    assert!(rt; census(&store) == [0, 1, 1, 1]);
 }
 
 #[test]
@@ -221,23 +202,14 @@ fn ample_memory_serves_a_hundred_links(rt: HostRuntime) {
     link_often::<_, Brand>(&rt, Blank::new(1));
 }
 
-fn held_storage(rt: &impl Abort, alloc: Global) -> Store<Piece>
-    ensures { AllIn result.nodes }
-{
-    let mut store = Store::new(alloc);
-    put_storage(rt, &mut store, 0, 4);
-    hold(rt, &mut store, 0);
-    store
-}
-
 #[test]
 fn a_node_that_is_out_is_not_shown(rt: HostRuntime) {
-    let mut store = held_storage(&rt, rt.alloc());
-    assert!(&rt; store.get(0).is_some());
+    let mut store = Store::new(rt.alloc());
+    put_storage(&rt, &mut store, 0, 4);
+    hold(&rt, &mut store, 0);
+    assert!(rt; store.get(0).is_some());
     let piece = store.take_node(0);
-    assert!(&rt; store.get(0).is_none());
-    assert_eq!(&rt; store.count(0), 1);
+    assert!(rt; store.get(0).is_none() && store.count(0) == 1);
     store.put_node(0, piece);
-    assert!(&rt; store.get(0).is_some());
-    assert_eq!(&rt; census(&store), [0, 0, 1, 4]);
+    assert!(rt; store.get(0).is_some() && census(&store) == [0, 0, 1, 4]);
 }

@@ -1,4 +1,4 @@
-//! Values by number, handles, names of a group and fences, from their making to their end. All of it is tests: they stand here, so that the tables' own crates aren't proved again for each of them.
+//! What no trace can show of values under numbers, handles, names and fences: numbers past those of a trace, and the order in which a display's handles go. All of it is tests: they stand here, so that those crates aren't proved again for each of them.
 #![tactic(auto)]
 
 #[cfg(test)]

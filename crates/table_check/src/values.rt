@@ -3,7 +3,7 @@
 ghost use Rattle.std.specs.Prelude.{◌≡◌, IsTrue, None};
 ghost use Rattle.numbered.specs.Lists.{at};
 
-use numbered::{NoRoom, Numbered};
+use numbered::Numbered;
 use std::alloc::Global;
 use std::process::Abort;
 
@@ -61,33 +61,16 @@ fn each_number_has_its_own_value(rt: HostRuntime) {
         (4, Some(5)),
     ];
     for (number, value) in expected {
-        assert_eq!(&rt; value_of(&values, number), value, "at {number}");
+        assert!(rt; value_of(&values, number) == value, "{number}");
     }
 }
 
 #[test]
-fn a_number_without_a_value_has_none_to_write(rt: HostRuntime) {
-    let mut values = filled(&rt, rt.alloc());
-    assert!(&rt; values.get_mut(1).is_none());
-}
-
-#[test]
-fn a_value_goes_once(rt: HostRuntime) {
-    let mut values = filled(&rt, rt.alloc());
-    for expected in [Some(1), None] {
-        assert_eq!(&rt; values.remove(0), expected);
-    }
-    for (number, value) in [(3, Some(30)), (0, None), (40_000, Some(4)), (4, Some(5))] {
-        assert_eq!(&rt; value_of(&values, number), value, "at {number}");
-    }
-}
-
-#[test]
-fn all_values_go(rt: HostRuntime) {
+fn each_value_goes_once(rt: HostRuntime) {
     let mut values = filled(&rt, rt.alloc());
     for (number, value) in &VALUES {
-        assert_eq!(&rt; values.remove(*number), Some(*value));
-        assert_eq!(&rt; value_of(&values, *number), None);
+        assert!(rt; values.remove(*number) == Some(*value), "{number}");
+        assert!(rt; values.remove(*number).is_none(), "{number}");
     }
 }
 
@@ -96,12 +79,12 @@ fn ample_memory_serves_a_thousand_values_one_after_another(rt: HostRuntime) {
     let mut values = Numbered::new(rt.alloc());
     for number in 0..1_000 {
         put(&rt, &mut values, number, 9);
-        assert_eq!(&rt; values.remove(number), Some(9));
+        assert!(rt; values.remove(number) == Some(9));
     }
 }
 
 #[test]
 fn there_is_no_room_for_more_than_the_most(rt: HostRuntime) {
     let mut values = filled(&rt, rt.alloc());
-    assert_eq!(&rt; values.reserve(4_294_967_296), Err(NoRoom));
+    assert!(rt; values.reserve(4_294_967_296).is_err());
 }

@@ -1,6 +1,6 @@
 //! The memory that images take.
 
-use crate::memory::peak;
+use crate::memory::{PEAK, kilobytes};
 use crate::pixels::work::SIDE;
 use anyhow::Result;
 use pixel_formats::Format;
@@ -31,7 +31,11 @@ pub fn measure<R: Files + Print + AllocGlobal>(rt: &R) -> Result<()> {
                 images.push(image)?;
             }
         }
-        println!(rt; "{f:?}: {} images, {} kB at most", images.len(), peak(rt)?)?;
+        println!(rt;
+            "{f:?}: {} images, {} kB at most",
+            images.len(),
+            kilobytes(rt, PEAK)?
+        )?;
     }
     Ok(())
 }

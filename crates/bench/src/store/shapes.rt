@@ -15,29 +15,22 @@ const MOST_EDGES: usize = 1_000_000;
 const MOST_NODES: u64 = 1_000_000_000_000;
 
 /// How the nodes hang together. One root holds them all.
-#[derive(Clone, Copy)]
-pub enum Shape {
-    /// Chains through the ranks 3 to 0, under a root of rank 4.
-    Chain,
-    /// Nodes of rank 0 under a root of rank 1.
-    Fan,
+#[derive(Clone, Copy, Drop)]
+pub struct Shape {
+    pub name: &'static str,
+    /// The rank of the root. Under it chains go through the ranks down to 0.
+    depth: u32,
 }
 
-impl Shape {
-    pub fn name(self) -> &'static str {
-        match self {
-            Shape::Chain => "chain",
-            Shape::Fan => "fan",
-        }
-    }
+pub const CHAINS: Shape = Shape {
+    name: "chain",
+    depth: 4,
+};
 
-    fn depth(self) -> u32 {
-        match self {
-            Shape::Chain => 4,
-            Shape::Fan => 1,
-        }
-    }
-}
+pub const FAN: Shape = Shape {
+    name: "fan",
+    depth: 1,
+};
 
 // Whether the node may be added.
 fn stands_below(store: &Store<Branch>, node: &Branch) -> bool
@@ -121,7 +114,7 @@ pub fn build(alloc: Global, store: &mut Store<Branch>, shape: Shape, nodes: u32)
     requires { AllIn store.old.nodes }
     ensures { AllIn store.new.nodes }
 {
-    let depth = shape.depth();
+    let depth = shape.depth;
     let mut next = 0;
     let mut tops = Vec::new(alloc);
     'chains: for _ in 0..nodes.saturating_sub(1) / depth.max(1) {

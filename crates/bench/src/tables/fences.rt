@@ -1,43 +1,44 @@
 //! Fences of as many contexts.
-
-use crate::tables::timing::{tables_of, time, time_each};
-use anyhow::{Result, bail};
-use egl_calls::NoMemory;
+use crate::tables::phases::{Phase, Table};
 use fence_sync::Fences;
-use std::rt::Clock;
-use std::time::Duration;
+use std::alloc::Global;
 
-fn create_in(fences: &mut Fences, n: u32) -> Result<()> {
+fn create(fences: &mut Fences, n: u32) -> bool {
     'fences: for k in 0..n {
-        match fences.create(u64::from(k)) {
-            Ok(_) => {}
-            Err(NoMemory) => bail!("no memory for a fence"),
+        if fences.create(u64::from(k)).is_err() {
+            return false;
         }
     }
-    Ok(())
+    true
 }
 
 // Flushes each context, beside all the fences of the others.
-fn flush_in(fences: &mut Fences, n: u32) -> Result<()> {
+fn flush(fences: &mut Fences, n: u32) -> bool {
     'contexts: for k in 0..n {
         fences.flush_context(u64::from(k));
         if !fences.is_signalled(u64::from(k)) {
-            bail!("fence {k} isn't signalled");
+            return false;
         }
     }
-    Ok(())
+    true
 }
 
-pub fn create<R: Clock + AllocGlobal>(rt: &R, n: u32) -> Result<Duration> {
-    let mut tables = Vec::new(rt.alloc());
-    'tables: for _ in 0..tables_of(n) {
-        tables.push(Fences::new(rt.alloc()))?;
+impl Table for Fences {
+    fn empty(alloc: Global) -> Self {
+        Fences::new(alloc)
     }
-    time_each(rt, &mut tables, n, create_in)
-}
 
-pub fn flush<R: Clock + AllocGlobal>(rt: &R, n: u32) -> Result<Duration> {
-    let mut fences = Fences::new(rt.alloc());
-    create_in(&mut fences, n)?;
-    time(rt, &mut fences, n, flush_in)
+    fn prepare(&mut self, phase: Phase, n: u32) -> bool {
+        match phase {
+            Phase::Create => true,
+            _ => create(self, n),
+        }
+    }
+
+    fn work(&mut self, phase: Phase, n: u32) -> bool {
+        match phase {
+            Phase::Create => create(self, n),
+            _ => flush(self, n),
+        }
+    }
 }

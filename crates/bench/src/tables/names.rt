@@ -1,113 +1,91 @@
 //! Names of textures.
-
-use crate::tables::timing::{tables_of, time, time_each};
-use anyhow::{Result, bail};
-use egl_calls::NoMemory;
+use crate::tables::phases::{Phase, Table};
 use share_group::{Group, NameKind};
-use std::rt::Clock;
-use std::time::Duration;
+use std::alloc::Global;
 
 // What one call generates.
 const BATCH: u32 = 250;
 
-fn generate_in(group: &mut Group, n: u32) -> Result<()> {
+fn generate(group: &mut Group, n: u32) -> bool {
     'calls: for _ in 0..n / BATCH {
-        match group.generate(NameKind::Texture, BATCH) {
-            Ok(_) => {}
-            Err(NoMemory) => bail!("no memory for names"),
+        if group.generate(NameKind::Texture, BATCH).is_err() {
+            return false;
         }
     }
-    Ok(())
+    true
 }
 
-fn bind_in(group: &mut Group, n: u32) -> Result<()> {
+fn bind(group: &mut Group, n: u32) -> bool {
     'names: for name in 1..=n {
         if name > 0 && group.object(NameKind::Texture, name).is_none() {
-            match group.bind_name(NameKind::Texture, name, u64::from(name)) {
-                Ok(()) => {}
-                Err(NoMemory) => bail!("no memory for an object"),
+            if group
+                .bind_name(NameKind::Texture, name, u64::from(name))
+                .is_err()
+            {
+                return false;
             }
         }
     }
-    Ok(())
+    true
 }
 
-fn look_up_in(group: &mut Group, n: u32) -> Result<()> {
+fn look_up(group: &Group, n: u32) -> bool {
     let mut found = 0u32;
     'names: for name in 1..=n {
         if group.is_name(NameKind::Texture, name) {
             found = found.wrapping_add(1);
         }
     }
-    if found != n {
-        bail!("{found} of {n} names were found");
-    }
-    Ok(())
+    found == n
 }
 
 // Frees the lowest name, and generates it again.
-fn lowest_again_in(group: &mut Group, n: u32) -> Result<()> {
+fn lowest_again(group: &mut Group, n: u32) -> bool {
     'times: for _ in 0..n {
         let _object = group.delete(NameKind::Texture, 1);
-        match group.generate(NameKind::Texture, 1) {
-            Ok(_) => {}
-            Err(NoMemory) => bail!("no memory for a name"),
+        if group.generate(NameKind::Texture, 1).is_err() {
+            return false;
         }
     }
-    Ok(())
+    true
 }
 
-fn edges_of(group: &mut Group, n: u32) -> Result<()> {
+fn read_edges(group: &Group, n: u32) -> bool {
     let count = group.edge_count();
     let mut sum = 0u64;
     'edges: for k in 0..count {
         sum = sum.wrapping_add(group.edge(k));
     }
-    if count != n || sum == 0 {
-        bail!("{count} objects of {n}");
-    }
-    Ok(())
+    count == n && sum != 0
 }
 
-fn free_in(group: &mut Group, n: u32) -> Result<()> {
+fn free(group: &mut Group, n: u32) -> bool {
     'names: for name in 1..=n {
         let _object = group.delete(NameKind::Texture, name);
     }
-    Ok(())
+    true
 }
 
-fn generated<R: AllocGlobal>(rt: &R, n: u32) -> Result<Group> {
-    let mut group = Group::new(rt.alloc());
-    generate_in(&mut group, n)?;
-    Ok(group)
-}
-
-fn bound<R: AllocGlobal>(rt: &R, n: u32) -> Result<Group> {
-    let mut group = Group::new(rt.alloc());
-    bind_in(&mut group, n)?;
-    Ok(group)
-}
-
-pub fn generate<R: Clock + AllocGlobal>(rt: &R, n: u32) -> Result<Duration> {
-    let mut groups = Vec::new(rt.alloc());
-    'groups: for _ in 0..tables_of(n) {
-        groups.push(Group::new(rt.alloc()))?;
+impl Table for Group {
+    fn empty(alloc: Global) -> Self {
+        Group::new(alloc)
     }
-    time_each(rt, &mut groups, n, generate_in)
-}
 
-pub fn look_up<R: Clock + AllocGlobal>(rt: &R, n: u32) -> Result<Duration> {
-    time(rt, &mut bound(rt, n)?, n, look_up_in)
-}
+    fn prepare(&mut self, phase: Phase, n: u32) -> bool {
+        match phase {
+            Phase::LookUp | Phase::Edges => bind(self, n),
+            Phase::LowestAgain | Phase::Free => generate(self, n),
+            _ => true,
+        }
+    }
 
-pub fn lowest_again<R: Clock + AllocGlobal>(rt: &R, n: u32) -> Result<Duration> {
-    time(rt, &mut generated(rt, n)?, n, lowest_again_in)
-}
-
-pub fn edges<R: Clock + AllocGlobal>(rt: &R, n: u32) -> Result<Duration> {
-    time(rt, &mut bound(rt, n)?, n, edges_of)
-}
-
-pub fn free<R: Clock + AllocGlobal>(rt: &R, n: u32) -> Result<Duration> {
-    time(rt, &mut generated(rt, n)?, n, free_in)
+    fn work(&mut self, phase: Phase, n: u32) -> bool {
+        match phase {
+            Phase::Generate => generate(self, n),
+            Phase::LookUp => look_up(self, n),
+            Phase::LowestAgain => lowest_again(self, n),
+            Phase::Edges => read_edges(self, n),
+            _ => free(self, n),
+        }
+    }
 }

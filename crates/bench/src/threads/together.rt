@@ -1,10 +1,12 @@
 //! Calls of threads that share a driver, each with a token.
-ghost use Rattle.std.specs.Prelude.{◌+◌, ◌<◌, ◌≤◌, All, vec_len, vec_capacity};
+ghost use Rattle.std.specs.Prelude.{◌≡◌, ◌+◌, ◌<◌, ◌≤◌, All, vec_len, vec_capacity, false};
+ghost use Rattle.egl_model.specs.Waits.{is_wait_end};
 ghost use Rattle.shared_driver.specs.Tokens.{IsOf};
 
-use crate::calls::PIXEL_BYTES;
-use crate::threads::sorts::{BEFORE, Sort, Way, before};
+use crate::calls::{PIXEL_BYTES, lines_of};
+use crate::threads::sorts::{Sort, Way, before};
 use anyhow::{Result, bail};
+use egl_calls::{Call, Kind, OwnKind};
 use shared_driver::{Closed, Opened, Shared, Thread};
 use std::alloc::Global;
 use std::rt::Clock;
@@ -12,48 +14,73 @@ use std::sync::Wait;
 use std::thread;
 use std::thread::Threads;
 use std::time::{Duration, Instant};
+use trace_reader::Trace;
 
-/// What each thread does: so many calls of a sort.
-#[derive(Clone, Copy, Drop)]
-pub struct Work {
-    pub sort: Sort,
-    pub way: Way,
-    pub count: u32,
+fn is_wait_end(kind: Kind) -> bool
+    ensures { result ≡ is_wait_end kind }
+{
+    matches!(kind, Kind::Own(OwnKind::WaitEnd))
 }
 
-// One call. Where it finds no memory it has no entry, which shows in the end.
-fn call<R: Wait>(rt: &R, alloc: Global, shared: &Shared, token: &mut Thread, work: Work, mark: u64)
+// A call of a trace, made anew. Where it finds no memory it has no entry, which shows in the end.
+fn call<R: Wait>(
+    rt: &R,
+    alloc: Global,
+    shared: &Shared,
+    token: &mut Thread,
+    way: Way,
+    mark: u64,
+    call: &Call,
+)
     requires { IsOf shared.now token.old }
     ensures { IsOf shared.now token.new }
 {
-    let call = work.sort.call(alloc, mark);
-    let by_part = matches!(work.way, Way::Part);
-    if by_part && token.is_local(&call) {
-        let _ = token.local(alloc, mark, call);
+    let Ok(call) = call.copy(alloc) else {
         return;
-    }
-    let _ = shared.call(token, rt, alloc, mark, call);
-}
-
-// The calls of one thread.
-fn calls<R: Wait>(rt: &R, alloc: Global, shared: &Shared, token: &mut Thread, work: Work)
-    requires { IsOf shared.now token.old }
-    ensures { IsOf shared.now token.new }
-{
-    'calls: for mark in 0..u64::from(work.count) {
-        call(rt, alloc, shared, token, work, mark);
+    };
+    if way == Way::Part && token.is_local(&call) {
+        let _ = token.local(alloc, mark, call);
+    } else if !is_wait_end(call.kind) {
+        let _ = shared.call(token, rt, alloc, mark, call);
     }
 }
 
-// Makes a surface and a context current to a token's thread.
-fn prepare<R: Wait>(rt: &R, alloc: Global, shared: &Shared, token: &mut Thread, place: u16)
+// So many calls of one thread, the lines of a trace by turns.
+fn calls<R: Wait>(
+    rt: &R,
+    alloc: Global,
+    shared: &Shared,
+    token: &mut Thread,
+    way: Way,
+    lines: &Trace,
+    count: u64,
+)
     requires { IsOf shared.now token.old }
     ensures { IsOf shared.now token.new }
 {
-    'steps: for step in 0..BEFORE {
-        if let Ok(call) = before(alloc, place, step) {
-            let _ = shared.call(token, rt, alloc, 0, call);
+    let of = (lines.lines().len() as u64).max(1);
+    'calls: for mark in 0..count {
+        if let Some(line) = lines.line(mark % of) {
+            call(rt, alloc, shared, token, way, mark, &line.call);
         }
+    }
+}
+
+// The same, of lines that are still to be read.
+fn calls_of<R: Wait>(
+    rt: &R,
+    alloc: Global,
+    shared: &Shared,
+    token: &mut Thread,
+    way: Way,
+    text: &str,
+    count: u32,
+)
+    requires { IsOf shared.now token.old }
+    ensures { IsOf shared.now token.new }
+{
+    if let Ok(lines) = lines_of(alloc, text) {
+        calls(rt, alloc, shared, token, way, &lines, u64::from(count));
     }
 }
 
@@ -65,6 +92,7 @@ fn attach<R: Wait>(
     first: &mut Thread,
     tokens: &mut Vec<Thread>,
     threads: u16,
+    sort: &Sort,
 )
     requires owns { IsOf shared.now first.old }
     requires tokens { All (λ t. IsOf shared.now t) tokens.old.items }
@@ -73,10 +101,21 @@ fn attach<R: Wait>(
     ensures tokens { All (λ t. IsOf shared.now t) tokens.new.items }
 {
     'attaching: for place in 0..threads {
+        let Ok(lines) = before(alloc, sort, place) else {
+            break 'attaching;
+        };
         let Ok(mut token) = shared.attach(first, rt) else {
             break 'attaching;
         };
-        prepare(rt, alloc, shared, &mut token, place);
+        calls(
+            rt,
+            alloc,
+            shared,
+            &mut token,
+            Way::Turn,
+            &lines,
+            sort.before,
+        );
         tokens.push_reserved(token);
     }
 }
@@ -112,7 +151,9 @@ fn time_threads<R: Clock + Threads + Wait + Sync>(
     shared: &Shared,
     first: &mut Thread,
     threads: u16,
-    work: Work,
+    sort: &Sort,
+    way: Way,
+    count: u32,
 ) -> Result<Duration>
     requires owns { IsOf shared.now first.old }
     requires threads { 0 < threads }
@@ -121,7 +162,8 @@ fn time_threads<R: Clock + Threads + Wait + Sync>(
     let Ok(mut tokens) = Vec::with_capacity(alloc, usize::from(threads)) else {
         bail!("no memory for tokens");
     };
-    attach(rt, alloc, shared, first, &mut tokens, threads);
+    attach(rt, alloc, shared, first, &mut tokens, threads, sort);
+    let text = sort.calls;
     let start = Instant::now(rt);
     thread::for_each_mut(
         rt,
@@ -130,7 +172,7 @@ fn time_threads<R: Clock + Threads + Wait + Sync>(
         &|_, token: &mut Thread|
             requires { IsOf shared.now token.now }
             ensures { IsOf shared.entry.now token.exit.now }
-        { calls(rt, alloc, shared, token, work) },
+        { calls_of(rt, alloc, shared, token, way, text, count) },
     );
     let end = Instant::now(rt);
     join_all(rt, shared, first, tokens);
@@ -141,7 +183,9 @@ fn time_threads<R: Clock + Threads + Wait + Sync>(
 pub fn run<R: Clock + AllocGlobal + Threads + Wait + Sync>(
     rt: &R,
     threads: u16,
-    work: Work,
+    sort: &Sort,
+    way: Way,
+    count: u32,
 ) -> Result<Duration>
     requires { 0 < threads }
 {
@@ -155,9 +199,10 @@ pub fn run<R: Clock + AllocGlobal + Threads + Wait + Sync>(
     else {
         bail!("no memory for a driver");
     };
-    let took = time_threads(rt, alloc, &shared, &mut first, threads, work);
+    let took = time_threads(rt, alloc, &shared, &mut first, threads, sort, way, count);
     let made = closed(rt, shared, first);
-    if made != u64::from(threads) * (u64::from(BEFORE) + u64::from(work.count)) {
+    let each = sort.before.saturating_add(u64::from(count));
+    if made != u64::from(threads).saturating_mul(each) {
         bail!("no memory for a call");
     }
     took

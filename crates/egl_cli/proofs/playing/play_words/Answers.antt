@@ -11,7 +11,7 @@ use Rattle.egl_cli.proofs.playing.play_words.Goals as goal
 pub returns-in-Ok-clause-says : goal.returns-in-Ok-clause-says
 returns-in-Ok-clause-says g c =
     let read = c.in-Ok.ensures.trace in
-    says_play _ _ _ _ _ _ c.args.summary c.in-Ok.trace c.tell_play.result read.1.0 read.1.1 read.1.2 c.tell_play.ensures.wrote
+    says_play _ _ _ _ _ _ c.args.summary c.in-Ok.trace c.tell_play.result read.1.0 read.1.1 read.1.2 c.tell_play.ensures.trace c.tell_play.ensures.wrote
 
 pub returns-in-Err-clause-says : goal.returns-in-Err-clause-says
 returns-in-Err-clause-says g c =

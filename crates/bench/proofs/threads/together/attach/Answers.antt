@@ -7,7 +7,7 @@ use Rattle.bench.proofs.threads.together.attach.Goals as goal
 pub attaching-preserved : goal.attaching-preserved
 attaching-preserved g c =
     let owned : Thread → Type 0 = λ t. IsOf c.args.shared.now t in (
-      c.in-Ok.ensures.owns.0,
-      All-same owned _ _ c.push_reserved.ensures.items (All-append owned c.attaching.tokens.items (c.prepare.new.token ∷ []) c.attaching.invariant.1 (All-cons owned c.prepare.new.token [] c.prepare.ensures (All-nil owned))),
+      c.in-Ok-attach.ensures.owns.0,
+      All-same owned _ _ c.push_reserved.ensures.items (All-append owned c.attaching.tokens.items (c.calls.new.token ∷ []) c.attaching.invariant.1 (All-cons owned c.calls.new.token [] c.calls.ensures (All-nil owned))),
       search rules,
     )

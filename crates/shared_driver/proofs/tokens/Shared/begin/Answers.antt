@@ -7,8 +7,18 @@ use Rattle.turn_lock.specs.Passes.{first_of, view_of}
 use Rattle.shared_driver.specs.Cores.{entry, is_waiting, place_for, room_for}
 use Rattle.shared_driver.proofs.Owned.{halted_more, halted_same, or_false}
 use Rattle.shared_driver.proofs.LateTurns.{adds_with}
-use Rattle.shared_driver.proofs.Turning.{adds_goes, adds_mine, after, enough_back, keeps_ends, keeps_learns, keeps_mine, kept_rooms, lent_begun, many_kept, many_now, room_back, room_found, room_kept, room_now}
+use Rattle.shared_driver.proofs.Turning.{adds_goes, adds_mine, after, enough_back, keeps_ends, keeps_learns, keeps_mine, kept_rooms, lent_begun, many_kept, many_now, room_back, room_found, room_kept, room_now, upload_found}
 use Rattle.shared_driver.proofs.tokens.Shared.begin.Goals as goal
+
+pub begin-requires-clause-upload : goal.begin-requires-clause-upload
+begin-requires-clause-upload g c =
+    let t = c.args.thread.now in
+    let h = t.hold in
+    let f = (first_of c.args.self.now.turns).value in
+    let u = c.begin_turn-held.new.hold in
+    let z = c.value-core.result.now in
+    let b = lent_begun f h u c.begin_turn-held.result.value z c.value-core.ensures.value c.begin_turn-held.ensures.begun in
+    upload_found f h u z c.args.call c.upload_of-upload.result b c.upload_of-upload.ensures
 
 pub end_turn_with-requires-clause-ends : goal.end_turn_with-requires-clause-ends
 end_turn_with-requires-clause-ends g c =

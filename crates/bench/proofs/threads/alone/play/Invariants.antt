@@ -1,5 +1,0 @@
-use Rattle.std.proofs.Common.{◌≡◌}
-use Rattle.bench.proofs.threads.alone.play.Given as goal
-
-abbrev pub invariant-calls : goal.invariant-calls
-invariant-calls l = l.driver.made ≡ l.fn.driver.made

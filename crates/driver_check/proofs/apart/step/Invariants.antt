@@ -1,4 +1,0 @@
-use Rattle.driver_check.proofs.apart.step.Given as goal
-
-abbrev pub ghosts-uncounted : goal.ghosts-uncounted
-ghosts-uncounted a = record { name = a.blank.name; parts = a.blank.parts }

@@ -1,5 +1,0 @@
-use Rattle.std.proofs.Common.{◌<◌}
-use Rattle.driver_check.proofs.calls.expect_calls.Given as goal
-
-abbrev pub invariant-each : goal.invariant-each
-invariant-each g l = 0 < l.driver.made

@@ -1,0 +1,17 @@
+-- What is told of one row more.
+use Rattle.std.proofs.Common.{arith, ◌≡◌, ◌<◌, ◌+◌, ℕ, zero, suc, Bool, true, false, cond, List, [], ◌∷◌, length, take, Option, None, Some, slice_index_or, slice_set, refl, sym, ap, ◌∙◌}
+use Rattle.refusal_rows.specs.Rows.{Row, held}
+
+-- the row that is read holds
+pub held_on : {E : Type 0} (n : ℕ) (rs : List (Row E)) (i : ℕ) (r : Row E) → i < n → i < length rs → r ≡ slice_index_or rs i r → r.0 ≡ true → slice_set (held n (take i rs)) i (Some r.1) ≡ held n (take (suc i) rs)
+held_on zero rs i r a b e t = absurd (omega (arith, a))
+held_on (suc n) [] i r a b e t = absurd (omega (arith, b))
+held_on {E = E} (suc n) (x ∷ rs) zero r a b e t = ap (λ y. cond y (Some r.1) None ∷ held n []) (sym t) ∙ ap (λ (y : Row E). cond y.0 (Some y.1) None ∷ held n []) e
+held_on (suc n) (x ∷ rs) (suc i) r a b e t = ap (λ ys. cond x.0 (Some x.1) None ∷ ys) (held_on n rs i r (omega (arith, a)) (omega (arith, b)) e t)
+
+-- it doesn't hold
+pub held_off : {E : Type 0} (n : ℕ) (rs : List (Row E)) (i : ℕ) (r : Row E) → i < n → i < length rs → r ≡ slice_index_or rs i r → r.0 ≡ false → held n (take i rs) ≡ held n (take (suc i) rs)
+held_off zero rs i r a b e t = absurd (omega (arith, a))
+held_off (suc n) [] i r a b e t = absurd (omega (arith, b))
+held_off {E = E} (suc n) (x ∷ rs) zero r a b e t = ap (λ y. cond y (Some r.1) None ∷ held n []) (sym t) ∙ ap (λ (y : Row E). cond y.0 (Some y.1) None ∷ held n []) e
+held_off (suc n) (x ∷ rs) (suc i) r a b e t = ap (λ ys. cond x.0 (Some x.1) None ∷ ys) (held_off n rs i r (omega (arith, a)) (omega (arith, b)) e t)

@@ -1,0 +1,5 @@
+pub mod PowerLaws
+pub mod TexelLaws
+pub mod ItemLaws
+pub mod DefectLaws
+pub mod SceneLaws

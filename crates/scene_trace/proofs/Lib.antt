@@ -1,0 +1,6 @@
+pub mod Spaced
+pub mod NumbersRead
+pub mod ArgumentsRead
+pub mod CallsRead
+pub mod LinesRead
+pub mod SceneRead

@@ -1,0 +1,10 @@
+//! Scenes as traces: the calls that draw a scene, as the lines of a trace.
+//!
+//! Its tests are in `play_rows`.
+#![tactic(auto)]
+
+mod forms;
+mod lines;
+mod writing;
+
+pub use writing::{scene_text, text_is_read};
