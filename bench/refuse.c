@@ -1,7 +1,8 @@
 /* Refuses what a program that it is loaded before asks of the system: memory, threads, reads or writes.
 
    REFUSE names what is refused: memory, thread, read or write. REFUSED lists the numbers of the requests that are refused, counted
-   from 1 and parted by commas; behind the last one a + refuses all from it on. REFUSE_COUNT is a file of four numbers of 64 bits,
+   from 1 and parted by commas; behind the last one a + refuses all from it on. Where it is the word reads, all memory is refused
+   behind each read of an odd number, until the next read. REFUSE_COUNT is a file of four numbers of 64 bits,
    in which the requests of memory, threads, reads and writes are counted. */
 #define _GNU_SOURCE
 #include <dlfcn.h>
@@ -29,6 +30,7 @@ static int what = KINDS;
 static long refused[MOST];
 static int refusals;
 static bool all_from_last;
+static bool between_reads;
 static int (*create)(pthread_t *, const pthread_attr_t *, void *(*)(void *), void *);
 static ssize_t (*take)(int, void *, size_t);
 static ssize_t (*give)(int, const void *, size_t);
@@ -49,7 +51,8 @@ __attribute__((constructor)) static void begin(void)
         close(file);
     }
     const char *numbers = getenv("REFUSED"), *name = getenv("REFUSE");
-    while (numbers != NULL && *numbers != '\0' && refusals < MOST) {
+    between_reads = numbers != NULL && strcmp(numbers, "reads") == 0;
+    while (numbers != NULL && !between_reads && *numbers != '\0' && refusals < MOST) {
         char *end;
         refused[refusals++] = strtol(numbers, &end, 10);
         all_from_last = *end == '+';
@@ -66,6 +69,8 @@ static bool is_refused(int kind)
     long number = atomic_fetch_add(&asked[kind], 1) + 1;
     if (kind != what)
         return false;
+    if (between_reads)
+        return atomic_load(&asked[READ]) % 2 == 1;
     for (int k = 0; k < refusals; k++)
         if (number == refused[k])
             return true;

@@ -1,11 +1,12 @@
 //! Measures what the driver stands on or will stand on, and calls made through the library.
 //!
-//! The first word is the part that is measured: `store`, `tables`, `pbuffers`, `pixels`, `windows`, `screens` or `threads`. Alone it does a little
+//! The first word is the part that is measured: `store`, `tables`, `pbuffers`, `pixels`, `windows`, `screens` or `threads`; or `exhausted`, which measures nothing. Alone it does a little
 //! of it, and prints what is the same on every run; with no word each part does so. The words behind it are those of
 //! `USAGE`: with them the part does all, and prints what that took.
 #![tactic(auto)]
 
 mod calls;
+mod exhausted;
 mod extents;
 mod memory;
 mod pbuffers;
@@ -24,10 +25,17 @@ use std::sync::Wait;
 use std::thread::Threads;
 
 const USAGE: &str =
-    "usage: bench [store [time] | tables [passing | NAME SIZE] | pbuffers [measure] | pixels [measure] | windows [measure] | screens [measure] | threads [time]]";
+    "usage: bench [store [time] | tables [passing | NAME SIZE] | pbuffers [measure] | pixels [measure] | windows [measure] | screens [measure] | threads [time] | exhausted]";
 
-const PARTS: [&str; 7] = [
-    "store", "tables", "pbuffers", "pixels", "windows", "screens", "threads",
+const PARTS: [&str; 8] = [
+    "store",
+    "tables",
+    "pbuffers",
+    "pixels",
+    "windows",
+    "screens",
+    "threads",
+    "exhausted",
 ];
 
 /// Does a part.
@@ -44,6 +52,7 @@ fn part<R: Clock + Files + Print + AllocGlobal + Threads + Wait + Sync>(
         "windows" => windows::run(rt, extent),
         "screens" => screens::run(rt, extent),
         "threads" => threads::run(rt, extent),
+        "exhausted" => exhausted::run(rt),
         _ => bail!("{USAGE}"),
     }
 }

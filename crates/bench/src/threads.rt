@@ -13,6 +13,7 @@ use std::rt::Clock;
 use std::sync::Wait;
 use std::thread::Threads;
 use std::time::Duration;
+pub use together::closed;
 
 /// How many threads share a driver; 0 is a driver that nobody shares.
 const TOKENS: [u16; 5] = [0, 1, 2, 4, 16];

@@ -27,7 +27,7 @@ pub fn opened<R: Abort>(rt: &R, alloc: Global, video: u64) -> Opened
 }
 
 /// What a thread's private part may answer.
-static OWN: [&str; 13] = [
+static OWN: [&str; 21] = [
     "eglGetError",
     "eglBindAPI 1",
     "eglQueryAPI",
@@ -40,11 +40,19 @@ static OWN: [&str; 13] = [
     "glReadPixels 0 0 {16} {16} GL_RGBA GL_UNSIGNED_BYTE",
     "glPixelStorei GL_PACK_ALIGNMENT {5}",
     "glGetIntegerv GL_TEXTURE_BINDING_2D 0",
+    "glDisable GL_SCISSOR_TEST",
+    "glScissor {8} {8} {16} {16}",
+    "glViewport 0 0 {16} {16}",
+    "glColor4x 65536 {64} {64} {16}",
+    "glColorMask 1 1 1 {2}",
+    "glClearDepthx {64}",
+    "glClearStencil {64}",
+    "glTexEnvx GL_TEXTURE_ENV GL_TEXTURE_ENV_MODE GL_REPLACE",
     "eglGetDisplay 0",
 ];
 
 /// Calls of each kind but the end of a wait, on what the thread made last, on few names, so that threads meet at them, and with small sides. A display is terminated seldom, so that objects live for a while.
-static ANY: [&str; 80] = [
+static ANY: [&str; 89] = [
     "eglGetDisplay 0",
     "eglGetError",
     "eglInitialize 1",
@@ -95,7 +103,16 @@ static ANY: [&str; 80] = [
     "glCopyTexImage2D GL_TEXTURE_2D 0 GL_RGBA 0 0 {5} {5} 0",
     "glCopyTexSubImage2D GL_TEXTURE_2D 0 0 0 0 0 {5} {5}",
     "glEnable GL_TEXTURE_2D",
+    "glDisable GL_SCISSOR_TEST",
+    "glScissor {8} {8} {16} {16}",
+    "glViewport 0 0 {16} {16}",
+    "glColor4x 65536 {64} {64} {16}",
+    "glColorMask 1 1 1 {2}",
+    "glClearDepthx {64}",
+    "glClearStencil {64}",
+    "glTexEnvx GL_TEXTURE_ENV GL_TEXTURE_ENV_MODE GL_REPLACE",
     "glDrawTexiOES {8} {8} 0 {16} {16}",
+    "glDrawTexxOES {64} {64} 0 65536 65536",
     "glGenBuffers {16}",
     "glDeleteBuffers [{8},{8},0,0]",
     "glIsBuffer {8}",
@@ -156,9 +173,9 @@ fn drawn(draws: &mut Draws, any: bool, own: bool) -> &'static str {
     if !any {
         "eglGetDisplay 0"
     } else if own {
-        OWN[draws.next(13) as usize]
+        OWN[draws.next(21) as usize]
     } else if draws.next(2) == 0 {
-        ANY[draws.next(80) as usize]
+        ANY[draws.next(89) as usize]
     } else {
         FREQUENT[draws.next(20) as usize]
     }

@@ -16,6 +16,8 @@ mod faults;
 #[cfg(test)]
 mod faults_in_turn;
 #[cfg(test)]
+mod largest_uploads;
+#[cfg(test)]
 mod late_texels;
 #[cfg(test)]
 mod local_lines;

@@ -16,9 +16,9 @@ use call_rules::GlFacts;
 use driver_objects::buffer_target;
 use egl_calls::arguments::{number, signed};
 use egl_calls::places::{BOUND_PNAME, BUFFER_SIZE, TARGET};
-use egl_calls::{Bytes, Call, GlError, NoMemory, Outcome, ReplyPair};
+use egl_calls::{Bytes, Call, GlError, NoMemory, Outcome};
 use std::alloc::Global;
-use thread_part::{bare, new_contents, read};
+use thread_part::{Replies, bare, new_contents, read};
 
 impl Driver {
     /// The number of the buffer on which a call works: of what the context has bound to the call's target.
@@ -153,15 +153,15 @@ impl Driver {
 
     /// Does a `readBuffer`: it changes nothing, but a refusal is kept as one of OpenGL ES.
     #[tactic(auto, using(model_laws::proofs::StepLaws::buffer_refused, model_laws::proofs::StepLaws::buffer_done, model_laws::proofs::StepLaws::buffer_without_context))]
-    pub(crate) fn read_buffer(
+    pub(crate) fn read_buffer<R: Replies>(
         &mut self,
         alloc: Global,
         thread: u32,
         call: &Call,
-    ) -> Result<ReplyPair, NoMemory>
+    ) -> Result<R, NoMemory>
         requires made { thread < self.old.made }
         requires kind { call.now.kind ≡ OwnCall ReadBuffer }
-        ensures reply { IfOk result (λ r. r.reply ≡ (own_step self.old.state thread ReadBuffer call.now).reply) }
+        ensures reply { IfOk result (λ r. R.reply r ≡ (own_step self.old.state thread ReadBuffer call.now).reply) }
         ensures state { OnOk result (self.new ≡ record self.old { state = (own_step self.old.state thread ReadBuffer call.now).state }) }
         ensures err { OnErr result (self.new ≡ self.old) }
     {

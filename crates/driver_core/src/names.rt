@@ -1,5 +1,5 @@
 //! Names of share groups (OpenGL ES 1.1, section 3.7.11).
-ghost use Rattle.std.specs.Prelude.{◌≡◌, ◌+◌, ◌-◌, ◌<◌, ◌≤◌, [], map, pos, false, length, slice_index_or, All, IfOk, IfSome, OnErr, OnOk, None, Some, vec_capacity, vec_len};
+ghost use Rattle.std.specs.Prelude.{◌≡◌, ◌+◌, ◌-◌, ◌<◌, ◌≤◌, [], map, pos, false, length, slice_index_or, All, IfOk, IfSome, OnErr, OnOk, None, Some};
 ghost use Rattle.std.specs.Option.{option_map_or};
 ghost use Rattle.driver_core.specs.Costs.{IsCheap};
 ghost use Rattle.driver_core.specs.Groups.{IsGroup};
@@ -18,17 +18,17 @@ ghost use Rattle.share_group.specs.Names.{given};
 
 use crate::contexts::new_texture;
 use crate::machine::Driver;
-use crate::replies::listed_with;
 use buffer_objects::Buffer;
 use driver_objects::{BackedRenderbuffer, BindTarget, Object};
 use egl_calls::places::{BOUND_NAME, COUNT};
-use egl_calls::{Call, NoMemory, Numbers, ReplyPair, unsigned};
+use egl_calls::{Call, NoMemory, Numbers, unsigned};
 use framebuffer_objects::{Framebuffer, Renderbuffer};
 use object_table::ObjectTable;
 use ref_store::Steps;
 use share_group::{Group, NameKind};
 use std::alloc::Global;
 use std::sync::ledger::Ledger;
+use thread_part::Replies;
 
 /// A name, or a number of names, that a call of OpenGL ES gives at a place.
 pub(crate) fn name_of(call: &Call, place: usize) -> u32
@@ -37,17 +37,6 @@ pub(crate) fn name_of(call: &Call, place: usize) -> u32
     ensures { result ≡ number call.now place }
 {
     unsigned(call.args[place]) as u32
-}
-
-/// Room for so many numbers.
-fn room_for(alloc: Global, count: u32) -> Result<Vec<i64>, NoMemory>
-    ensures empty { IfOk result (λ v. v.items ≡ []) }
-    ensures room { IfOk result (λ v. count ≤ vec_capacity v - vec_len v) }
-{
-    match Vec::with_capacity(alloc, count as usize) {
-        Ok(numbers) => Ok(numbers),
-        Err(_) => Err(NoMemory),
-    }
 }
 
 /// What a name gets that has no object: a texture or a renderbuffer without storage, a buffer without bytes, a framebuffer with nothing attached.
@@ -146,23 +135,23 @@ impl Driver {
     }
 
     /// Gives names of the context's group, and answers them.
-    pub(crate) fn generate(
+    pub(crate) fn generate<R: Replies>(
         &mut self,
         alloc: Global,
         context: u64,
         kind: NameKind,
         call: &Call,
-    ) -> Result<ReplyPair, NoMemory>
+    ) -> Result<R, NoMemory>
         requires { is_client_wait call.now.kind ≡ false }
-        ensures reply { IfOk result (λ r. r.reply ≡ done (generated self.old.state (group_of self.old.state context) kind (number call.now 0))) }
+        ensures reply { IfOk result (λ r. R.reply r ≡ done (generated self.old.state (group_of self.old.state context) kind (number call.now 0))) }
         ensures state { OnOk result (self.new ≡ record self.old { state = (generated self.old.state (group_of self.old.state context) kind (number call.now 0)).state }) }
         ensures err { OnErr result (self.new ≡ self.old) }
     {
         let count = name_of(call, COUNT);
-        let room = room_for(alloc, count)?;
+        let room = R::room_for(alloc, count)?;
         let group = self.group_number(context);
         let names = self.give_names(alloc, group, kind, count)?;
-        Ok(listed_with(alloc, names, room))
+        Ok(R::of_list(alloc, names, room))
     }
 
     /// A context has an object bound to a target under a name, or nothing.

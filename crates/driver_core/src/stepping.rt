@@ -4,7 +4,7 @@ ghost use Rattle.driver_core.specs.Costs.{IsCheap, IsBounded};
 ghost use Rattle.driver_core.specs.Releases.{links, releases};
 ghost use Rattle.egl_model.specs.Sweep.{sweep};
 ghost use Rattle.thread_part.specs.Memory.{clears_nothing};
-ghost use Rattle.driver_core.specs.Memory.{egl_takes_no_memory, gl_takes_no_memory, takes_no_memory, is_bare, is_bare_on};
+ghost use Rattle.driver_core.specs.Memory.{clears_own, egl_takes_no_memory, gl_clears_own, gl_takes_no_memory, takes_no_memory, is_bare, is_bare_on};
 ghost use Rattle.context_state.specs.Kinds.{context_gl_call};
 ghost use Rattle.egl_calls.specs.declared.kinds.Kind.TheVariants.{Egl as EglCall, Gl as GlCall};
 ghost use Rattle.egl_calls.specs.Ranges.{IsNumber};
@@ -25,7 +25,6 @@ ghost use Rattle.driver_core.specs.Machine.{outs};
 use crate::configs::attribute_value;
 use crate::machine::Driver;
 use crate::names::name_of;
-use crate::replies::listed;
 use attrib_lists::AttribError;
 use config_match::Configs;
 use context_state::context_gl_call;
@@ -40,7 +39,7 @@ use ref_store::Steps;
 use share_group::NameKind;
 use std::alloc::Global;
 use std::sync::ledger::Ledger;
-use thread_part::{api_code, bare, display_of, read, valued};
+use thread_part::{Replies, answered, api_code, bare, display_of, read, valued};
 
 /// The ids of the configs that a list chooses, where the list is allowed.
 fn chosen(alloc: Global, call: &Call) -> Result<Numbers, NoMemory>
@@ -57,19 +56,19 @@ fn chosen(alloc: Global, call: &Call) -> Result<Numbers, NoMemory>
 
 impl Driver {
     /// Does a call of EGL that no rule refuses and that releases nothing.
-    fn egl_effect_keeping_holds(
+    fn egl_effect_keeping_holds<R: Replies>(
         &mut self,
         alloc: Global,
         thread: u32,
         kind: EglKind,
         call: &Call,
-    ) -> Result<ReplyPair, NoMemory>
+    ) -> Result<R, NoMemory>
         requires made { thread < self.old.made }
         requires kind { call.now.kind ≡ EglCall kind }
         requires allowed { egl_refusal self.old.state thread kind call.now ≡ None }
         requires keeps { releases kind ≡ false }
         requires goes { (record_of self.old.state thread).wait ≡ None }
-        ensures reply { IfOk result (λ r. r.reply ≡ done (egl_effect self.old.state thread kind call.now)) }
+        ensures reply { IfOk result (λ r. R.reply r ≡ done (egl_effect self.old.state thread kind call.now)) }
         ensures state { OnOk result (self.new ≡ record self.old { state = (egl_effect self.old.state thread kind call.now).state }) }
         ensures err { OnErr result (self.new ≡ self.old) }
         ensures memory { egl_takes_no_memory kind ≡ true → IsOk result }
@@ -81,8 +80,8 @@ impl Driver {
                 self.initialize(call);
                 Ok(valued(alloc, 1))
             }
-            EglKind::GetConfigs => listed(alloc, Configs::standard().all(alloc)?),
-            EglKind::ChooseConfig => listed(alloc, chosen(alloc, call)?),
+            EglKind::GetConfigs => answered(alloc, 1, Configs::standard().all(alloc)?),
+            EglKind::ChooseConfig => answered(alloc, 1, chosen(alloc, call)?),
             EglKind::GetConfigAttrib => Ok(valued(alloc, attribute_value(call))),
             EglKind::CreateWindowSurface => Ok(valued(alloc, self.create_window(alloc, call)?)),
             EglKind::CreatePbufferSurface => Ok(valued(alloc, self.create_pbuffer(alloc, call)?)),
@@ -99,7 +98,7 @@ impl Driver {
             EglKind::GetCurrentDisplay => Ok(valued(alloc, self.current_display(thread))),
             EglKind::QueryContext => Ok(valued(alloc, self.context_value(call).unwrap_or(0))),
             EglKind::SwapBuffers => {
-                self.swap(thread)?;
+                self.swap(thread);
                 self.flush(thread);
                 Ok(valued(alloc, 1))
             }
@@ -122,19 +121,19 @@ impl Driver {
     }
 
     /// Does a call of EGL that no rule refuses. What nothing reaches any more is gone then.
-    fn egl_effect<L: Ledger>(
+    fn egl_effect<L: Ledger, R: Replies>(
         &mut self,
         alloc: Global,
         thread: u32,
         kind: EglKind,
         call: &Call,
         steps: &mut Steps<L>,
-    ) -> Result<ReplyPair, NoMemory>
+    ) -> Result<R, NoMemory>
         requires made { thread < self.old.made }
         requires kind { call.now.kind ≡ EglCall kind }
         requires allowed { egl_refusal self.old.state thread kind call.now ≡ None }
         requires goes { (record_of self.old.state thread).wait ≡ None }
-        ensures reply { IfOk result (λ r. r.reply ≡ done (egl_effect self.old.state thread kind call.now)) }
+        ensures reply { IfOk result (λ r. R.reply r ≡ done (egl_effect self.old.state thread kind call.now)) }
         ensures state { OnOk result (self.new ≡ record self.old { state = sweep (egl_effect self.old.state thread kind call.now).state }) }
         ensures steps { IsCheap self.old.state self.new.state steps.old steps.new }
         ensures err { OnErr result (self.new ≡ self.old) }
@@ -178,18 +177,18 @@ impl Driver {
     }
 
     #[tactic(auto, using(model_laws::proofs::StepLaws::egl_refused, crate::proofs::StepLaws::egl_done_swept))]
-    fn egl_step<L: Ledger>(
+    fn egl_step<L: Ledger, R: Replies>(
         &mut self,
         alloc: Global,
         thread: u32,
         kind: EglKind,
         call: &Call,
         steps: &mut Steps<L>,
-    ) -> Result<ReplyPair, NoMemory>
+    ) -> Result<R, NoMemory>
         requires made { thread < self.old.made }
         requires kind { call.now.kind ≡ EglCall kind }
         requires goes { (record_of self.old.state thread).wait ≡ None }
-        ensures reply { IfOk result (λ r. r.reply ≡ (egl_step self.old.state thread kind call.now).reply) }
+        ensures reply { IfOk result (λ r. R.reply r ≡ (egl_step self.old.state thread kind call.now).reply) }
         ensures state { OnOk result (self.new ≡ record self.old { state = (egl_step self.old.state thread kind call.now).state }) }
         ensures steps { IsCheap self.old.state self.new.state steps.old steps.new }
         ensures err { OnErr result (self.new ≡ self.old) }
@@ -210,24 +209,25 @@ impl Driver {
     }
 
     /// Does one that asks or changes more than its context's own state.
-    fn object_effect(
+    fn object_effect<R: Replies>(
         &mut self,
         alloc: Global,
         thread: u32,
         context: u64,
         kind: GlKind,
         call: &Call,
-    ) -> Result<ReplyPair, NoMemory>
+    ) -> Result<R, NoMemory>
         requires made { thread < self.old.made }
         requires kind { call.now.kind ≡ GlCall kind }
         requires object { context_gl_call kind ≡ None }
         requires allowed { gl_refusal self.old.state thread context kind call.now ≡ None }
         requires keeps { links kind ≡ false }
-        ensures reply { IfOk result (λ r. r.reply ≡ done (object_effect self.old.state thread context kind call.now)) }
+        ensures reply { IfOk result (λ r. R.reply r ≡ done (object_effect self.old.state thread context kind call.now)) }
         ensures state { OnOk result (self.new ≡ record self.old { state = (object_effect self.old.state thread context kind call.now).state }) }
         ensures err { OnErr result (self.new ≡ self.old) }
         ensures memory { gl_takes_no_memory kind ≡ true → IsOk result }
         ensures nothing { clears_nothing kind call.now ≡ true → IsOk result }
+        ensures room { gl_clears_own self.old.state thread kind ≡ true → IsOk result }
     {
         match kind {
             GlKind::Flush | GlKind::Finish => {
@@ -304,23 +304,24 @@ impl Driver {
     }
 
     /// Does a call of OpenGL ES that no rule refuses and that sets no references.
-    fn gl_effect_keeping_holds(
+    fn gl_effect_keeping_holds<R: Replies>(
         &mut self,
         alloc: Global,
         thread: u32,
         context: u64,
         kind: GlKind,
         call: &Call,
-    ) -> Result<ReplyPair, NoMemory>
+    ) -> Result<R, NoMemory>
         requires made { thread < self.old.made }
         requires kind { call.now.kind ≡ GlCall kind }
         requires allowed { gl_refusal self.old.state thread context kind call.now ≡ None }
         requires keeps { links kind ≡ false }
-        ensures reply { IfOk result (λ r. r.reply ≡ done (gl_effect self.old.state thread context kind call.now)) }
+        ensures reply { IfOk result (λ r. R.reply r ≡ done (gl_effect self.old.state thread context kind call.now)) }
         ensures state { OnOk result (self.new ≡ record self.old { state = (gl_effect self.old.state thread context kind call.now).state }) }
         ensures err { OnErr result (self.new ≡ self.old) }
         ensures memory { gl_takes_no_memory kind ≡ true → IsOk result }
         ensures nothing { clears_nothing kind call.now ≡ true → IsOk result }
+        ensures room { gl_clears_own self.old.state thread kind ≡ true → IsOk result }
     {
         match context_gl_call(kind) {
             Some(_) => {
@@ -332,7 +333,7 @@ impl Driver {
     }
 
     /// Does a call of OpenGL ES that no rule refuses. What nothing reaches any more is gone then.
-    fn gl_effect<L: Ledger>(
+    fn gl_effect<L: Ledger, R: Replies>(
         &mut self,
         alloc: Global,
         thread: u32,
@@ -340,16 +341,17 @@ impl Driver {
         kind: GlKind,
         call: &Call,
         steps: &mut Steps<L>,
-    ) -> Result<ReplyPair, NoMemory>
+    ) -> Result<R, NoMemory>
         requires made { thread < self.old.made }
         requires kind { call.now.kind ≡ GlCall kind }
         requires allowed { gl_refusal self.old.state thread context kind call.now ≡ None }
-        ensures reply { IfOk result (λ r. r.reply ≡ done (gl_effect self.old.state thread context kind call.now)) }
+        ensures reply { IfOk result (λ r. R.reply r ≡ done (gl_effect self.old.state thread context kind call.now)) }
         ensures state { OnOk result (self.new ≡ record self.old { state = sweep (gl_effect self.old.state thread context kind call.now).state }) }
         ensures steps { IsCheap self.old.state self.new.state steps.old steps.new }
         ensures err { OnErr result (self.new ≡ self.old) }
         ensures memory { gl_takes_no_memory kind ≡ true → IsOk result }
         ensures nothing { clears_nothing kind call.now ≡ true → IsOk result }
+        ensures room { gl_clears_own self.old.state thread kind ≡ true → IsOk result }
     {
         match kind {
             GlKind::BindTexture => {
@@ -422,22 +424,23 @@ impl Driver {
     }
 
     #[tactic(auto, using(model_laws::proofs::StepLaws::gl_refused, model_laws::proofs::StepLaws::gl_done, model_laws::proofs::StepLaws::gl_without_context))]
-    fn gl_step<L: Ledger>(
+    fn gl_step<L: Ledger, R: Replies>(
         &mut self,
         alloc: Global,
         thread: u32,
         kind: GlKind,
         call: &Call,
         steps: &mut Steps<L>,
-    ) -> Result<ReplyPair, NoMemory>
+    ) -> Result<R, NoMemory>
         requires made { thread < self.old.made }
         requires kind { call.now.kind ≡ GlCall kind }
-        ensures reply { IfOk result (λ r. r.reply ≡ (gl_step self.old.state thread kind call.now).reply) }
+        ensures reply { IfOk result (λ r. R.reply r ≡ (gl_step self.old.state thread kind call.now).reply) }
         ensures state { OnOk result (self.new ≡ record self.old { state = (gl_step self.old.state thread kind call.now).state }) }
         ensures steps { IsCheap self.old.state self.new.state steps.old steps.new }
         ensures err { OnErr result (self.new ≡ self.old) }
         ensures memory { gl_takes_no_memory kind ≡ true → IsOk result }
         ensures bare { is_bare_on self.old.state thread (current_context self.old.state thread) kind call.now ≡ true → IsOk result }
+        ensures room { gl_clears_own self.old.state thread kind ≡ true → IsOk result }
     {
         let Some(context) = self.current_context(thread) else {
             return Ok(bare(alloc, Outcome::Done));
@@ -452,21 +455,22 @@ impl Driver {
     }
 
     /// Does a call of a thread that doesn't wait.
-    fn step_by<L: Ledger>(
+    fn step_by<L: Ledger, R: Replies>(
         &mut self,
         alloc: Global,
         thread: u32,
         call: &Call,
         steps: &mut Steps<L>,
-    ) -> Result<ReplyPair, NoMemory>
+    ) -> Result<R, NoMemory>
         requires made { thread < self.old.made }
         requires goes { (record_of self.old.state thread).wait ≡ None }
-        ensures reply { IfOk result (λ r. r.reply ≡ (step_by self.old.state thread call.now.kind call.now).reply) }
+        ensures reply { IfOk result (λ r. R.reply r ≡ (step_by self.old.state thread call.now.kind call.now).reply) }
         ensures state { OnOk result (self.new ≡ record self.old { state = (step_by self.old.state thread call.now.kind call.now).state }) }
         ensures steps { IsCheap self.old.state self.new.state steps.old steps.new }
         ensures err { OnErr result (self.new ≡ self.old) }
         ensures memory { takes_no_memory call.now.kind ≡ true → IsOk result }
         ensures bare { is_bare self.old.state thread call.now.kind call.now ≡ true → IsOk result }
+        ensures room { clears_own self.old.state thread call.now.kind ≡ true → IsOk result }
     {
         match call.kind {
             Kind::Egl(kind) => self.egl_step(alloc, thread, kind, call, steps),
@@ -478,20 +482,21 @@ impl Driver {
 
     /// The same of any thread.
     #[tactic(auto, using(model_laws::proofs::StepLaws::step_waits, model_laws::proofs::StepLaws::step_goes))]
-    fn step_in<L: Ledger>(
+    fn step_in<L: Ledger, R: Replies>(
         &mut self,
         alloc: Global,
         thread: u32,
         call: &Call,
         steps: &mut Steps<L>,
-    ) -> Result<ReplyPair, NoMemory>
+    ) -> Result<R, NoMemory>
         requires made { thread < self.old.made }
-        ensures reply { IfOk result (λ r. r.reply ≡ (step self.old.state thread call.now).reply) }
+        ensures reply { IfOk result (λ r. R.reply r ≡ (step self.old.state thread call.now).reply) }
         ensures state { OnOk result (self.new ≡ record self.old { state = (step self.old.state thread call.now).state }) }
         ensures steps { IsCheap self.old.state self.new.state steps.old steps.new }
         ensures err { OnErr result (self.new ≡ self.old) }
         ensures memory { takes_no_memory call.now.kind ≡ true → IsOk result }
         ensures bare { is_bare self.old.state thread call.now.kind call.now ≡ true → IsOk result }
+        ensures room { clears_own self.old.state thread call.now.kind ≡ true → IsOk result }
         ensures waits { is_some (record_of self.old.state thread).wait ≡ true → IsOk result }
     {
         match self.record(thread).wait {
@@ -519,12 +524,12 @@ impl Driver {
         ensures err { OnErr result (self.new ≡ self.old) }
         ensures memory { takes_no_memory call.now.kind ≡ true → IsOk result }
         ensures bare { is_bare self.old.state thread call.now.kind call.now ≡ true → IsOk result }
+        ensures room { clears_own self.old.state thread call.now.kind ≡ true → IsOk result }
         ensures waits { is_some (record_of self.old.state thread).wait ≡ true → IsOk result }
     {
         self.apart();
         self.names_apart();
-        let ReplyPair { reply, copy: _ } = self.step_in(alloc, thread, call, steps)?;
-        Ok(reply)
+        self.step_in(alloc, thread, call, steps)
     }
 
     /// The same with two equal replies.
@@ -544,6 +549,7 @@ impl Driver {
         ensures err { OnErr result (self.new ≡ self.old) }
         ensures memory { takes_no_memory call.now.kind ≡ true → IsOk result }
         ensures bare { is_bare self.old.state thread call.now.kind call.now ≡ true → IsOk result }
+        ensures room { clears_own self.old.state thread call.now.kind ≡ true → IsOk result }
         ensures waits { is_some (record_of self.old.state thread).wait ≡ true → IsOk result }
     {
         self.apart();

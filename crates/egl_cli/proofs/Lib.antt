@@ -1,5 +1,6 @@
 pub mod ConfigLaws
 pub mod StalledLaws
+pub mod TurnLaws
 pub mod AnswerLaws
 pub mod SaysLaws
 pub mod SerialLaws
@@ -11,3 +12,5 @@ pub mod PlayLaws
 pub mod SceneLaws
 pub mod CheckLaws
 pub mod HeldLaws
+pub mod ProcessLaws
+pub mod WordLaws

@@ -6,9 +6,8 @@ use Rattle.egl_calls.specs.declared.entries.Entry.{Entry}
 use Rattle.egl_model.specs.State.{State}
 use Rattle.trace_reader.specs.Traces.{TraceValue}
 use Rattle.trace_model.specs.Serial.{state_behind, serial}
-use Rattle.trace_model.specs.Stalled.{threads_of, is_at_rest, is_stalled, IsComplete, IsStalled}
+use Rattle.trace_model.specs.Stalled.{threads_of, is_at_rest, is_stalled, IsComplete}
 use Rattle.trace_model.specs.Recording.{recording}
-use Rattle.trace_session.specs.Runs.{IsRun}
 use Rattle.egl_cli.specs.StalledLines.{stalled_lines}
 use Rattle.egl_cli.specs.declared.statuses.Status.TheVariants.{Ok as Fine, Stalled}
 use Rattle.egl_cli.specs.Answers.{journal_answer, run_answer}
@@ -28,17 +27,13 @@ pub answer_by : (t : TraceValue) (b : Bool) → is_stalled t (serial t) (state_b
 unfolding run_answer
 answer_by t b h = ap (journal_answer false t (serial t)) h
 
-module _ (t : TraceValue) (entries : List Entry) (s : State) (r : IsRun t entries s) where
-  recorded : recording t entries ≡ recording t (serial t)
-  recorded = ap (recording t) r.journal
+-- what is said of a run whose driver is in this state
+module _ (t : TraceValue) (s : State) (stalled : Bool) (text : List ℕ) (same : s ≡ state_behind t (serial t)) (h : stalled ≡ is_stalled t (serial t) s) where
+  is_by : (b : Bool) → stalled ≡ b → is_stalled t (serial t) (state_behind t (serial t)) ≡ b
+  is_by b e = ap (is_stalled t (serial t)) (sym same) ∙ sym h ∙ e
 
-  pub run_ended : IsComplete t (serial t) → record { status = Fine; text = recording t entries } ≡ run_answer t
-  run_ended c =
-      ap (λ (x : List ℕ). record { status = Fine; text = x }) recorded
-      ∙ sym (answer_by t false (never_stalls t (serial t) (state_behind t (serial t)) c))
+  pub run_ended : stalled ≡ false → text ≡ recording t (serial t) → record { status = Fine; text = text } ≡ run_answer t
+  run_ended e p = ap (λ (x : List ℕ). record { status = Fine; text = x }) p ∙ sym (answer_by t false (is_by false e))
 
-  pub run_stalled : IsStalled t (serial t) → record { status = Stalled; text = recording t entries ++ stalled_lines t entries } ≡ run_answer t
-  run_stalled h =
-      ap (λ (x : List ℕ). record { status = Stalled; text = x ++ stalled_lines t entries }) recorded
-      ∙ ap (λ (es : List Entry). record { status = Stalled; text = recording t (serial t) ++ stalled_lines t es }) r.journal
-      ∙ sym (answer_by t true h)
+  pub run_stalled : stalled ≡ true → text ≡ recording t (serial t) ++ stalled_lines t (serial t) → record { status = Stalled; text = text } ≡ run_answer t
+  run_stalled e p = ap (λ (x : List ℕ). record { status = Stalled; text = x }) p ∙ sym (answer_by t true (is_by true e))

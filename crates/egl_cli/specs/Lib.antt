@@ -8,3 +8,4 @@ pub mod StalledLines
 pub mod Answers
 pub mod Inputs
 pub mod Says
+pub mod Process

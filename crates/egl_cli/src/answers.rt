@@ -1,19 +1,21 @@
 //! What the program says to the bytes of its input.
-ghost use Rattle.std.specs.Prelude.{◌≡◌, ◌≤◌, ◌<◌, All, true, false, length, IfOk};
+ghost use Rattle.std.specs.Prelude.{◌≡◌, ◌≤◌, ◌<◌, [], All, true, false, length, IfOk};
 ghost use Rattle.trace_model.specs.Serial.{state_behind};
+ghost use Rattle.trace_session.specs.Runs.{StandBehind};
 ghost use Rattle.egl_cli.specs.Answers.{reason_name, malformed_text, told, journal_answer, run_answer, journal_frames, run_frames};
 
 use crate::frames::frames_text;
-use crate::stalled_lines::put_stalled;
+use crate::stalled_lines::{put_stalled, put_waiting};
 use crate::statuses::Status;
+use crate::turns::put_run;
 use arrayvec::ArrayString;
-use driver_core::Run;
+use driver_core::{Driver, Run};
 use egl_calls::{Bytes, Journal, NoMemory};
 use itoa::Buffer;
 use journal_text::{summary, write};
 use std::alloc::Global;
 use trace_reader::{Reason, Trace};
-use trace_session::{RunError, run_serial};
+use trace_session::{Chains, RunError, Session, driver_of, run_serial};
 
 /// Room for the words, the name of a reason, and a line's number.
 const MALFORMED_ROOM: usize = 64;
@@ -102,15 +104,41 @@ pub fn stalled_answer(
     })
 }
 
+/// What is said to a trace that a driver plays by turns from its first line on.
+fn played_answer(
+    alloc: Global,
+    trace: &Trace,
+    driver: &mut Driver,
+    session: &mut Session,
+) -> Result<Answer, NoMemory>
+    requires trace { session.old.trace ≡ trace.now }
+    requires made { session.old.trace.threads ≤ driver.old.made }
+    requires behind { StandBehind [] driver.old.state session.old }
+    ensures { IfOk result (λ a. a ≡ run_answer trace.now) }
+{
+    let mut text = Bytes::new(alloc);
+    put_run(alloc, &mut text, trace, driver, session)?;
+    if session.stalled(driver) {
+        put_waiting(&mut text, session)?;
+        return Ok(Answer {
+            status: Status::Stalled,
+            text,
+        });
+    }
+    Ok(Answer {
+        status: Status::Ok,
+        text,
+    })
+}
+
 /// What is said to a trace that is played by turns.
 pub fn run_answer(alloc: Global, trace: &Trace) -> Result<Answer, NoMemory>
     ensures { IfOk result (λ a. a ≡ run_answer trace.now) }
 {
-    match run_serial(alloc, trace) {
-        Ok(run) => ended_answer(alloc, false, trace, &run),
-        Err(RunError::Stalled(run)) => stalled_answer(alloc, false, trace, &run),
-        Err(RunError::NoMemory) => Err(NoMemory),
-    }
+    let chains = Chains::new(alloc, trace)?;
+    let mut session = Session::new(alloc, trace, &chains)?;
+    let mut driver = driver_of(alloc, trace)?;
+    played_answer(alloc, trace, &mut driver, &mut session)
 }
 
 /// The journal of a run whose driver is done with.

@@ -17,6 +17,7 @@ mod respond;
 mod stalled_lines;
 mod statuses;
 mod telling;
+mod turns;
 mod verdict_lines;
 
 pub use play_threads::{Gate, OpenGate};

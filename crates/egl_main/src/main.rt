@@ -2,8 +2,9 @@
 #![tactic(auto)]
 
 use egl_cli::run;
+use std::env;
 use std::process::ExitCode;
 
 fn main(rt: HostRuntime) -> ExitCode {
-    ExitCode::from(run(&rt, rt.stdin(), rt.stdout()).number())
+    ExitCode::from(run(&rt, env::args(&rt), rt.stdin(), rt.stdout()).number())
 }

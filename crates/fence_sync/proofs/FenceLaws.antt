@@ -1,5 +1,5 @@
 -- Fences that are listed by their numbers.
-use Rattle.std.proofs.Common.{◌≡◌, ◌≢◌, ℕ, zero, suc, ◌+◌, ◌<◌, ◌≤◌, Bool, true, false, not, ◌||◌, ◌==◌, if◌then◌else◌, [], ◌∷◌, ◌++◌, Option, None, Some, refl, sym, ◌∙◌, ap, arith, add-one, inl, inr, IfSome, map, subst, Result, Ok, Err, OnErr}
+use Rattle.std.proofs.Common.{◌≡◌, ◌≢◌, ℕ, zero, suc, ◌+◌, ◌<◌, ◌≤◌, Bool, true, false, not, ◌||◌, ◌==◌, if◌then◌else◌, [], ◌∷◌, ◌++◌, Option, None, Some, refl, sym, ◌∙◌, ap, arith, add-one, inl, inr, IfSome, map, subst}
 use Rattle.std.specs.List.{filter, find}
 use Rattle.std.specs.Option.{option_to_list, option_or, option_map, is_some}
 use Rattle.std.proofs.lemmas.List.{map-append}
@@ -71,11 +71,11 @@ flushed_still u w context made n l e none c = elim (cases_eq c context) [
   | inr ne ↦ ap (λ o. is_flushed o n) (sym (e c ∙ ap (λ b. if b then Some made else u c) (ne_eqb c context ne)))
 ]
 
-pub noted : (kept : ℕ → Option Kept) (u w : ℕ → Option ℕ) (context made : ℕ) → ((k : ℕ) → w k ≡ (if k == context then Some made else u k)) → u context ≡ None → fences_in kept w made ≡ fences_in kept u made
+noted : (kept : ℕ → Option Kept) (u w : ℕ → Option ℕ) (context made : ℕ) → ((k : ℕ) → w k ≡ (if k == context then Some made else u k)) → u context ≡ None → fences_in kept w made ≡ fences_in kept u made
 unfolding fences_in
 noted kept u w context made e none = listed-same _ _ made (λ n l. sym (same_fence u w n (kept n) (flushed_still u w context made n l e none)))
 
-pub same-fences : (kept more : ℕ → Option Kept) (u w : ℕ → Option ℕ) (made : ℕ) → ((n : ℕ) → more n ≡ kept n) → ((c : ℕ) → w c ≡ u c) → fences_in more w made ≡ fences_in kept u made
+same-fences : (kept more : ℕ → Option Kept) (u w : ℕ → Option ℕ) (made : ℕ) → ((n : ℕ) → more n ≡ kept n) → ((c : ℕ) → w c ≡ u c) → fences_in more w made ≡ fences_in kept u made
 unfolding fences_in
 same-fences kept more u w made e d = listed-same _ _ made (λ n l. rw (e n) (same_fence w u n (kept n) (λ c. ap (λ o. is_flushed o n) (d c))))
 
@@ -205,6 +205,18 @@ created_noted kept more u w context made d none e =
     created kept more w context made made k refl refl here (omega arith) e
     ∙ ap (λ fs. fs ++ record { sync = made; context = context; is_signalled = false } ∷ []) (noted kept u w context made d none)
 
-pub on_err : {T E : Type 0} (r : Result T E) (P : Type 0) → P → OnErr r P
-on_err (Ok x) P p = tt
-on_err (Err e) P p = p
+-- a new fence is taken back
+taken_back : (kept more less : ℕ → Option Kept) (u : ℕ → Option ℕ) (made : ℕ) (k : Kept) → AreMade kept u made → ((n : ℕ) → more n ≡ (if n == made then Some k else kept n)) → ((n : ℕ) → less n ≡ (if n == made then None else more n)) → (n : ℕ) → less n ≡ kept n
+taken_back kept more less u made k t a b n = elim (cases_eq n made) [
+  | inl q ↦ b n ∙ ap (λ c. if c then None else more n) (eq-eqb n made q) ∙ sym (unmade made n (kept n) (t.each n) (omega arith))
+  | inr ne ↦ b n ∙ ap (λ c. if c then None else more n) (ne_eqb n made ne) ∙ a n ∙ ap (λ c. if c then Some k else kept n) (ne_eqb n made ne)
+]
+
+pub fences_back : (kept more less : ℕ → Option Kept) (u w : ℕ → Option ℕ) (made : ℕ) (k : Kept) → AreMade kept u made → ((n : ℕ) → more n ≡ (if n == made then Some k else kept n)) → ((n : ℕ) → less n ≡ (if n == made then None else more n)) → ((c : ℕ) → w c ≡ u c) → fences_in less w made ≡ fences_in kept u made
+fences_back kept more less u w made k t a b d = same-fences kept less u w made (taken_back kept more less u made k t a b) d
+
+pub made_back : (kept more less : ℕ → Option Kept) (u w : ℕ → Option ℕ) (made : ℕ) (k : Kept) → AreMade kept u made → ((n : ℕ) → more n ≡ (if n == made then Some k else kept n)) → ((n : ℕ) → less n ≡ (if n == made then None else more n)) → ((c : ℕ) → w c ≡ u c) → AreMade less w made
+made_back kept more less u w made k t a b d = record {
+  each = λ n. rw (taken_back kept more less u made k t a b n) (t.each n);
+  from = λ c. rw (d c) (t.from c);
+}

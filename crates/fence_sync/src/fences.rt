@@ -2,7 +2,7 @@
 ghost use Rattle.std.specs.Prelude.{◌≡◌, ◌≢◌, ℕ, ◌+◌, [], ◌∷◌, ◌++◌, false, IfOk, OnOk, OnErr, None, Some};
 ghost use Rattle.std.specs.Ordering.{nat_cmp};
 ghost use Rattle.fence_sync.specs.Fences as spec;
-ghost use Rattle.fence_sync.specs.Fences.{ended, flushed, signalled, waits_after, with_wait, without};
+ghost use Rattle.fence_sync.specs.Fences.{ended, flushed, is_live, signalled, waits_after, with_context, with_wait, without, without_context};
 
 use crate::tables::{Contexts, Table, create_in, forget, is_signalled_in, mark, raise, take};
 use egl_calls::NoMemory;
@@ -23,8 +23,9 @@ pub struct Fence {
 /// Fences are numbered from 0 in the order of their making. A number is never given again. A context is named by its
 /// number, which another may have once `end_context` was called for it.
 ///
-/// Contracts see the fences in the order of their making, the waits by rising threads, each with its sync, and how many
-/// fences were made. A flush notes a number for its context, and looks at no fence.
+/// Contracts see the fences in the order of their making, the contexts that made a fence and haven't ended, the waits by
+/// rising threads, each with its sync, and how many fences were made. A flush notes a number for its context, and looks
+/// at no fence.
 #[derive(Drop)]
 pub struct Fences {
     kept: Table,
@@ -35,13 +36,13 @@ pub struct Fences {
 
 impl Model for Fences {
     ghost use Rattle.std.specs.Ordering.{nat_cmp};
-    ghost use Rattle.std.specs.BTreeMap.{get};
+    ghost use Rattle.std.specs.BTreeMap.{get, keys};
     ghost use Rattle.fence_sync.specs.Fences.{FencesValue};
     ghost use Rattle.fence_sync.specs.Tables.{fences_in, AreMade};
 
     ghost Value = { FencesValue };
 
-    ghost view = { λ f. record { fences = fences_in (get nat_cmp f.kept) (get nat_cmp f.contexts) f.made; waits = f.waits.entries; made = f.made } };
+    ghost view = { λ f. record { fences = fences_in (get nat_cmp f.kept) (get nat_cmp f.contexts) f.made; contexts = keys f.contexts; waits = f.waits.entries; made = f.made } };
 
     ghost invariant = { λ f. AreMade (get nat_cmp f.kept) (get nat_cmp f.contexts) f.made };
 }
@@ -71,7 +72,7 @@ fn end_in(waits: &mut BTreeMap<u32, u64>, thread: u32)
 impl Fences {
     /// No fences and no waits. It takes no memory.
     pub fn new(alloc: Global) -> Fences
-        ensures { result ≡ record { fences = []; waits = []; made = 0 } }
+        ensures { result ≡ record { fences = []; contexts = []; waits = []; made = 0 } }
     {
         Fences {
             kept: BTreeMap::new(alloc),
@@ -88,6 +89,7 @@ impl Fences {
         ensures sync { IfOk result (λ n. n ≡ self.old.made) }
         ensures created { OnOk result (self.new ≡ record self.old {
           fences = self.old.fences ++ record { sync = self.old.made; context = context; is_signalled = false } ∷ [];
+          contexts = with_context context self.old.contexts;
           made = self.old.made + 1;
         }) }
         ensures same { OnErr result (self.new ≡ self.old) }
@@ -110,10 +112,11 @@ impl Fences {
         raise(&mut self.contexts, context, self.made);
     }
 
-    /// Signals each fence of a context that is no more, whose number another context may have from then on. It takes no
-    /// memory.
+    /// Signals each fence of a context that is no more, and keeps nothing of it: another context may have its number from
+    /// then on. It takes no memory.
     pub fn end_context(&mut self, context: u64)
-        ensures { self.new ≡ record self.old { fences = flushed context self.old.fences } }
+        ensures ended { self.new ≡ record self.old { fences = flushed context self.old.fences; contexts = without_context context self.old.contexts } }
+        ensures gone { is_live context self.new.contexts ≡ false }
     {
         forget(&mut self.contexts, context);
     }

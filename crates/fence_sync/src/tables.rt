@@ -2,7 +2,9 @@
 ghost use Rattle.std.specs.Prelude.{◌≡◌, ℕ, ◌+◌, ◌<◌, ◌==◌, ◌||◌, nat_lt, true, false, if◌then◌else◌, IfSome, IfNone, IfOk, OnOk, OnErr, None, Some, [], ◌∷◌, ◌++◌, is_some};
 ghost use Rattle.std.specs.Option.{option_map};
 ghost use Rattle.std.specs.Ordering.{nat_cmp};
-ghost use Rattle.std.specs.BTreeMap.{get};
+ghost use Rattle.std.specs.BTreeMap.{get, keys};
+ghost use Rattle.fence_sync.specs.Fences.{is_live, with_context, without_context};
+ghost use Rattle.std.specs.BTreeSet.{insert_key};
 ghost use Rattle.fence_sync.specs.Tables.{fences_in, is_flushed, marked_kept, signalled_at, AreMade};
 
 use egl_calls::NoMemory;
@@ -61,7 +63,9 @@ pub(crate) fn kept_at(table: &Table, n: u64) -> Option<Kept>
 /// The fences of a context from this number on aren't flushed, where none of them says otherwise.
 pub(crate) fn note(contexts: &mut Contexts, context: u64, from: u64) -> Result<(), NoMemory>
     ensures noted { OnOk result ((k : ℕ) → get nat_cmp contexts.new k ≡ (if k == context then Some from else get nat_cmp contexts.old k)) }
+    ensures joined { OnOk result (keys contexts.new ≡ insert_key nat_cmp (keys contexts.old) context) }
     ensures same { OnErr result ((k : ℕ) → get nat_cmp contexts.new k ≡ get nat_cmp contexts.old k) }
+    ensures same_keys { OnErr result (keys contexts.new ≡ keys contexts.old) }
 {
     match contexts.insert(context, from) {
         Ok(_) => Ok(()),
@@ -77,7 +81,8 @@ pub(crate) fn has(contexts: &Contexts, context: u64) -> bool
 
 /// The fences of a context below this number are flushed, where it has any.
 pub(crate) fn raise(contexts: &mut Contexts, context: u64, from: u64)
-    ensures { (k : ℕ) → get nat_cmp contexts.new k ≡ (if k == context then (if is_some (get nat_cmp contexts.old context) then Some from else None) else get nat_cmp contexts.old k) }
+    ensures raised { (k : ℕ) → get nat_cmp contexts.new k ≡ (if k == context then (if is_some (get nat_cmp contexts.old context) then Some from else None) else get nat_cmp contexts.old k) }
+    ensures same_keys { keys contexts.new ≡ keys contexts.old }
 {
     if has(contexts, context) {
         let _ = contexts.insert(context, from);
@@ -85,7 +90,9 @@ pub(crate) fn raise(contexts: &mut Contexts, context: u64, from: u64)
 }
 
 pub(crate) fn forget(contexts: &mut Contexts, context: u64)
-    ensures { (k : ℕ) → get nat_cmp contexts.new k ≡ (if k == context then None else get nat_cmp contexts.old k) }
+    ensures forgotten { (k : ℕ) → get nat_cmp contexts.new k ≡ (if k == context then None else get nat_cmp contexts.old k) }
+    ensures left { keys contexts.new ≡ without_context context (keys contexts.old) }
+    ensures gone { is_live context (keys contexts.new) ≡ false }
 {
     let _ = contexts.remove(&context);
 }
@@ -119,8 +126,10 @@ pub(crate) fn create_in(
     requires { AreMade (get nat_cmp table.old) (get nat_cmp contexts.old) made.old }
     ensures sync { IfOk result (λ n. n ≡ made.old) }
     ensures created { OnOk result (fences_in (get nat_cmp table.new) (get nat_cmp contexts.new) made.new ≡ fences_in (get nat_cmp table.old) (get nat_cmp contexts.old) made.old ++ record { sync = made.old; context = context; is_signalled = false } ∷ []) }
+    ensures known { OnOk result (keys contexts.new ≡ with_context context (keys contexts.old)) }
     ensures made { OnOk result (made.new ≡ made.old + 1) }
     ensures same { OnErr result (fences_in (get nat_cmp table.new) (get nat_cmp contexts.new) made.new ≡ fences_in (get nat_cmp table.old) (get nat_cmp contexts.old) made.old) }
+    ensures same_known { OnErr result (keys contexts.new ≡ keys contexts.old) }
     ensures same_made { OnErr result (made.new ≡ made.old) }
     ensures are_made { AreMade (get nat_cmp table.new) (get nat_cmp contexts.new) made.new }
 {
@@ -137,8 +146,15 @@ pub(crate) fn create_in(
         *made = n + 1;
         return Ok(n);
     }
-    note(contexts, context, n)?;
     add(table, n, kept)?;
-    *made = n + 1;
-    Ok(n)
+    match note(contexts, context, n) {
+        Ok(()) => {
+            *made = n + 1;
+            Ok(n)
+        }
+        Err(NoMemory) => {
+            take(table, n);
+            Err(NoMemory)
+        }
+    }
 }

@@ -1,5 +1,5 @@
 -- A thread's record changed: what is bound stays bound to one thread, and each thread has both surfaces or none.
-use Rattle.std.proofs.Common.{◌≡◌, ◌≢◌, ℕ, ◌+◌, ◌<◌, Bool, true, ◌||◌, List, refl, sym, ap, ◌∙◌, arith, inl, inr, get_or, set, length, Option, is_some}
+use Rattle.std.proofs.Common.{◌≡◌, ◌≢◌, ℕ, ◌+◌, ◌<◌, ◌≤◌, Bool, true, ◌||◌, List, refl, sym, ap, ◌∙◌, arith, inl, inr, get_or, set, length, Option, is_some}
 use Rattle.std.specs.Prelude.{All}
 use Rattle.std.proofs.lemmas.Bool.{both_ways, cases_eq, cases_lt, or_cases}
 use Rattle.std.proofs.lemmas.List.{get_or-set_other, get_or-set_same, set_past}
@@ -16,7 +16,7 @@ use Rattle.egl_model.specs.Currents.{has_context, has_surface, is_bound}
 use Rattle.egl_model.specs.MakeCurrent.{bind}
 use Rattle.model_laws.specs.Shapes.{Leads, Shape}
 use Rattle.model_laws.specs.Slots.{held_slots}
-use Rattle.model_laws.specs.Sound.{HasBothOrNone, IsAlone, IsBelowNext, IsBoundBelowNext, NumbersAreBelow}
+use Rattle.model_laws.specs.Sound.{HasBothOrNone, IsAlone, IsGiven, IsBoundGiven, NumbersAreGiven}
 use Rattle.model_laws.proofs.Moves.{Binds, NoneElse, apply, Name, Keep}
 use Rattle.model_laws.proofs.Places.{each_at_set, same_at_set}
 
@@ -71,14 +71,15 @@ both-bind t sh s c d r b h = record {
   read = each_at_set (λ r. is_some r.read ≡ is_some r.draw) s.threads t (bound_record s t c d r) initial b.read h.read;
 }
 
-pub below-bind : (t : ℕ) (sh : List (Option Shape)) (s : State) (c d r : Option Bound) → Binds t sh s c d r → NumbersAreBelow s → NumbersAreBelow (bind s t c d r)
+pub below-bind : (t : ℕ) (sh : List (Option Shape)) (s : State) (c d r : Option Bound) → Binds t sh s c d r → NumbersAreGiven s → NumbersAreGiven (bind s t c d r)
 unfolding bound_record
 below-bind t sh s c d r b h = record {
+  next = h.next;
   handles = h.handles;
   apart = h.apart;
-  context = each_at_set (λ r. IsBoundBelowNext s r.context) s.threads t (bound_record s t c d r) initial b.context_below h.context;
-  draw = each_at_set (λ r. IsBoundBelowNext s r.draw) s.threads t (bound_record s t c d r) initial b.draw_below h.draw;
-  read = each_at_set (λ r. IsBoundBelowNext s r.read) s.threads t (bound_record s t c d r) initial b.read_below h.read;
+  context = each_at_set (λ r. IsBoundGiven s r.context) s.threads t (bound_record s t c d r) initial b.context_below h.context;
+  draw = each_at_set (λ r. IsBoundGiven s r.draw) s.threads t (bound_record s t c d r) initial b.draw_below h.draw;
+  read = each_at_set (λ r. IsBoundGiven s r.read) s.threads t (bound_record s t c d r) initial b.read_below h.read;
 }
 
 pub held-bind : (t : ℕ) (sh : List (Option Shape)) (s : State) (c d r : Option Bound) → Binds t sh s c d r → ((u : ℕ) → Leads sh (held_slots (record_of s u))) → (u : ℕ) → Leads sh (held_slots (record_of (bind s t c d r) u))
@@ -108,37 +109,40 @@ both-record s t r e b = record {
   read = each_at_set (λ r. is_some r.read ≡ is_some r.draw) s.threads t r initial (rw (e.draw, e.read) (b.read t)) b.read;
 }
 
-pub below-record : (s : State) (t : ℕ) (r : ThreadRecord) → SameBound s t r → NumbersAreBelow s → NumbersAreBelow (set_record s t r)
+pub below-record : (s : State) (t : ℕ) (r : ThreadRecord) → SameBound s t r → NumbersAreGiven s → NumbersAreGiven (set_record s t r)
 below-record s t r e h = record {
+  next = h.next;
   handles = h.handles;
   apart = h.apart;
-  context = each_at_set (λ r. IsBoundBelowNext s r.context) s.threads t r initial (rw e.context (h.context t)) h.context;
-  draw = each_at_set (λ r. IsBoundBelowNext s r.draw) s.threads t r initial (rw e.draw (h.draw t)) h.draw;
-  read = each_at_set (λ r. IsBoundBelowNext s r.read) s.threads t r initial (rw e.read (h.read t)) h.read;
+  context = each_at_set (λ r. IsBoundGiven s r.context) s.threads t r initial (rw e.context (h.context t)) h.context;
+  draw = each_at_set (λ r. IsBoundGiven s r.draw) s.threads t r initial (rw e.draw (h.draw t)) h.draw;
+  read = each_at_set (λ r. IsBoundGiven s r.read) s.threads t r initial (rw e.read (h.read t)) h.read;
 }
 
 pub held-record : (sh : List (Option Shape)) (s : State) (t : ℕ) (r : ThreadRecord) → Leads sh (held_slots r) → ((u : ℕ) → Leads sh (held_slots (record_of s u))) → (u : ℕ) → Leads sh (held_slots (record_of (set_record s t r) u))
 held-record sh s t r l h = each_at_set (λ r. Leads sh (held_slots r)) s.threads t r initial l h
 
 -- ---- A new handle has the next number, and fewer handles are apart as they were.
-still_bound : (s a : State) (o : Option Bound) → a.next_handle ≡ s.next_handle + 1 → IsBoundBelowNext s o → IsBoundBelowNext a o
-still_bound s a o e h = IfSome_then o h (λ b i. omega (arith, e, i))
+still_bound : (s a : State) (o : Option Bound) → a.next_handle ≡ s.next_handle + 1 → IsBoundGiven s o → IsBoundGiven a o
+still_bound s a o e h = IfSome_then o h (λ b i. (i.0, omega (arith, e, i.1)))
 
-not_next : (s : State) (k : ℕ) (d : Handle) (next : ℕ) → next ≡ s.next_handle → All (λ h. IsBelowNext s h.number) s.handles → k < length s.handles → (get_or s.handles k d).number ≢ next
-not_next s k d next e all h = λ same. let i : (get_or s.handles k d).number < s.next_handle = All-get_or (λ h. IsBelowNext s h.number) s.handles k d h all in absurd (omega (arith, e, same, i))
+not_next : (s : State) (k : ℕ) (d : Handle) (next : ℕ) → next ≡ s.next_handle → All (λ h. IsGiven s h.number) s.handles → k < length s.handles → (get_or s.handles k d).number ≢ next
+not_next s k d next e all h = λ same. let i : (get_or s.handles k d).number < s.next_handle = (All-get_or (λ h. IsGiven s h.number) s.handles k d h all).1 in absurd (omega (arith, e, same, i))
 
-pub below-name : (t : ℕ) (s : State) (d : ℕ) (kind : HandleKind) (n : ℕ) → NumbersAreBelow s → NumbersAreBelow (apply t (Name d kind n) s)
+pub below-name : (t : ℕ) (s : State) (d : ℕ) (kind : HandleKind) (n : ℕ) → NumbersAreGiven s → NumbersAreGiven (apply t (Name d kind n) s)
 below-name t s d kind n b = record {
-  handles = All-push (λ h. h.number < s.next_handle + 1) s.handles _ (All-weaker (λ h. IsBelowNext s h.number) (λ h. h.number < s.next_handle + 1) (λ h i. omega (arith, i)) s.handles b.handles) (omega arith);
+  next = let three = b.next in omega (arith, three);
+  handles = All-push (λ h. (3 ≤ h.number) × (h.number < s.next_handle + 1)) s.handles _ (All-weaker (λ h. IsGiven s h.number) (λ h. (3 ≤ h.number) × (h.number < s.next_handle + 1)) (λ h i. (i.0, omega (arith, i.1))) s.handles b.handles) (b.next, omega arith);
   apart = all_pairs_push (λ g h. g.number ≢ h.number) s.handles _ b.apart (λ k e h. not_next s k e s.next_handle refl b.handles h);
   context = λ u. still_bound s (apply t (Name d kind n) s) (record_of s u).context refl (b.context u);
   draw = λ u. still_bound s (apply t (Name d kind n) s) (record_of s u).draw refl (b.draw u);
   read = λ u. still_bound s (apply t (Name d kind n) s) (record_of s u).read refl (b.read u);
 }
 
-pub below-keep : (t : ℕ) (s : State) (p : Handle → Bool) → NumbersAreBelow s → NumbersAreBelow (apply t (Keep p) s)
+pub below-keep : (t : ℕ) (s : State) (p : Handle → Bool) → NumbersAreGiven s → NumbersAreGiven (apply t (Keep p) s)
 below-keep t s p b = record {
-  handles = All-filter p (λ h. IsBelowNext s h.number) s.handles b.handles;
+  next = b.next;
+  handles = All-filter p (λ h. IsGiven s h.number) s.handles b.handles;
   apart = AllPairs-filter (λ g h. g.number ≢ h.number) p s.handles b.apart;
   context = b.context;
   draw = b.draw;

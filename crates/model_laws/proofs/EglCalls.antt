@@ -1,6 +1,6 @@
 -- What each call of EGL keeps.
 use Rattle.std.proofs.Common.{◌≡◌, ℕ, ◌+◌, ◌≤◌, ℤ, Bool, true, false, cond, not, ap, ◌==◌, List, [], ◌∷◌, ◌++◌, refl, sym, ◌∙◌, ◌⊎◌, inl, inr, arith, length, get_or, Option, None, Some, is_some}
-use Rattle.model_laws.proofs.Setters.{setter-surface, suits-surface}
+use Rattle.model_laws.proofs.Setters.{KeepsNames, setter-surface, suits-surface}
 use Rattle.egl_names.specs.declared.codes.TheConstants.{EGL_BUFFER_PRESERVED}
 use Rattle.surface_store.specs.Surfaces.{SurfaceValue}
 use Rattle.std.specs.Option.{option_map, option_and_then}
@@ -9,11 +9,11 @@ use Rattle.std.proofs.lemmas.Bool.{cond_both, eq-eqb, or_parts}
 use Rattle.egl_calls.specs.Calls.{CallValue}
 use Rattle.egl_calls.specs.declared.errors.EglError.{EglError}
 use Rattle.egl_calls.specs.declared.kinds.Kind.TheVariants.{Egl}
-use Rattle.egl_calls.specs.declared.kinds.EglKind.TheVariants.{CreatePbufferSurface, MakeCurrent}
+use Rattle.egl_calls.specs.declared.kinds.EglKind.TheVariants.{CreateContext, CreatePbufferSurface, MakeCurrent}
 use Rattle.egl_calls.specs.Arguments.{is_zero, signed}
 use Rattle.call_rules.specs.EglAllowed.{CurrentAllowed, HasNoSurfaces}
 use Rattle.call_rules.specs.EglRules.{is_release, has_code}
-use Rattle.call_rules.proofs.EglLaws.{current_allowed, pbuffer_allowed}
+use Rattle.call_rules.proofs.EglLaws.{context_allowed, current_allowed, pbuffer_allowed}
 use Rattle.driver_objects.specs.declared.kinds.ObjectKind.TheVariants.{Context as a_context_kind, Group as a_group, Storage as a_storage, Surface as a_surface_kind, Texture as a_texture}
 use Rattle.surface_store.specs.Formats.{format_of}
 use Rattle.model_laws.specs.Extents.{flagging, making, quiet, dropping, ending}
@@ -23,8 +23,8 @@ use Rattle.display_table.specs.declared.handles.HandleKind.{HandleKind}
 use Rattle.display_table.specs.declared.handles.HandleKind.TheVariants.{Context as a_context, Surface as a_surface}
 use Rattle.egl_model.specs.State.{State, set_error}
 use Rattle.egl_model.specs.Arguments.{number}
-use Rattle.egl_model.specs.Contexts.{add_context, context_objects, created_context, share_handle, shared_group}
-use Rattle.egl_model.specs.Displays.{set_initialized, terminated}
+use Rattle.egl_model.specs.Contexts.{add_context, context_facts, context_objects, created_context, share_handle, shared_group}
+use Rattle.egl_model.specs.Displays.{is_display, set_initialized, terminated}
 use Rattle.egl_model.specs.Currents.{current_context}
 use Rattle.egl_model.specs.EglFacts.{egl_refusal}
 use Rattle.egl_model.specs.Flushes.{flushed}
@@ -33,9 +33,9 @@ use Rattle.egl_model.specs.Handles.{destroyed, handle_at, valid, with_handle}
 use Rattle.egl_model.specs.Waits.{waiting}
 use Rattle.egl_model.specs.MakeCurrent.{bind, height_of, width_of, bound_by, context_handle, current_facts, draw_handle, bound_anew, first_use, is_context_taken, is_surface_taken, made_current, read_handle, released, unbound}
 use Rattle.egl_model.specs.Objects.{change_part, context_in, surface_in, change_surface, with_surface}
-use Rattle.context_state.specs.Parts.{first_current}
+use Rattle.context_state.specs.Parts.{PartValue, first_current, whole}
 use Rattle.model_laws.specs.Shapes.{Goes, Shape, shapes}
-use Rattle.model_laws.specs.Sound.{IsBoundBelowNext, IsWhole}
+use Rattle.model_laws.specs.Sound.{IsBoundGiven, IsWhole}
 use Rattle.egl_model.specs.Surfaces.{asked_height, asked_width, asks_for_largest, created_pbuffer, pbuffer_facts, pbuffer_objects, side_of, set_attribute, with_behavior}
 use Rattle.egl_model.specs.Sweep.{live_bytes}
 use Rattle.model_laws.proofs.Blinds.{blind-context_of, blind-current, blind-length, blind-surface_of}
@@ -102,12 +102,12 @@ goes_shared s c w = cond_both (is_zero c 2) None _ (Goes (shapes s.objects) a_gr
     of_handle (Some h) = group_goes (shapes s.objects) (get_or s.objects h.object None) (w.kinds.objects h.object)
 
 -- a new context with its group, or with one that is there
-acts-new_context : (s : State) (t d config : ℕ) (group : Option ℕ) → (IsWhole (shapes s.objects) s → Goes (shapes s.objects) a_group group) → Acts making t s (λ a. add_context a d config group)
+acts-new_context : (s : State) (t d config : ℕ) (group : Option ℕ) → is_display d ≡ true → (IsWhole (shapes s.objects) s → Goes (shapes s.objects) a_group group) → Acts making t s (λ a. add_context a d config group)
 unfolding live_bytes
-acts-new_context s t d config None g =
+acts-new_context s t d config None on g =
     let n = length s.objects in let new = context_objects n config d None in
     acts_of making t s (λ a. length a.objects) (λ n a. with_handle a d a_context n (context_objects n config d None)) (blind-length t s)
-    (by_quiet_moves t s (Add new ∷ Name d a_context n ∷ []) refl ((refl, (tt, (tt, tt))), (tt, tt))
+    (by_quiet_moves t s (Add new ∷ Name d a_context n ∷ []) refl ((record { there = refl; names = refl; home = on }, (tt, (tt, tt))), (tt, tt))
     (λ w. (
       (
         (new_kind s.objects new 1 (n + 1) a_group refl refl, (new_kind s.objects new 2 (n + 2) a_texture refl refl, (tt, (tt, (tt, (tt, (tt, tt))))))),
@@ -116,10 +116,10 @@ acts-new_context s t d config None g =
       ),
       λ v. (new_kind s.objects new 0 n a_context_kind (omega arith) refl, tt),
     )))
-acts-new_context s t d config (Some x) g =
+acts-new_context s t d config (Some x) on g =
     let n = length s.objects in let new = context_objects n config d (Some x) in
     acts_of making t s (λ a. length a.objects) (λ n a. with_handle a d a_context n (context_objects n config d (Some x))) (blind-length t s)
-    (by_quiet_moves t s (Add new ∷ Name d a_context n ∷ []) refl ((refl, (tt, tt)), (tt, tt))
+    (by_quiet_moves t s (Add new ∷ Name d a_context n ∷ []) refl ((record { there = refl; names = refl; home = on }, (tt, tt)), (tt, tt))
     (λ w. (
       (
         (old_kind (shapes s.objects) (shapes new) a_group x (g w), (new_kind s.objects new 1 (n + 1) a_texture refl refl, (tt, (tt, (tt, (tt, (tt, tt))))))),
@@ -132,14 +132,22 @@ acts-new_context s t d config (Some x) g =
 blind-shared_group : (t : ℕ) (s : State) (c : CallValue) → Blind t s (λ a. shared_group a c)
 blind-shared_group t s c w v x ne = ap (λ y. cond (is_zero c 2) None y) (blind-context_of (option_map (λ y. y.group)) (λ y p. refl) t (share_handle s c) s w v x ne)
 
-pub acts-context : (s : State) (t : ℕ) (c : CallValue) → Acts making t s (λ a. created_context a c)
-acts-context s t c = acts_of making t s (λ a. shared_group a c) (λ g a. add_context a (number c 0) (number c 1) g) (blind-shared_group t s c) (acts-new_context s t (number c 0) (number c 1) (shared_group s c) (goes_shared s c))
+pub acts-context : (s : State) (t : ℕ) (c : CallValue) → c.kind ≡ Egl CreateContext → egl_refusal s t CreateContext c ≡ None → Acts making t s (λ a. created_context a c)
+unfolding egl_refusal
+acts-context s t c h r = acts_of making t s (λ a. shared_group a c) (λ g a. add_context a (number c 0) (number c 1) g) (blind-shared_group t s c)
+    (acts-new_context s t (number c 0) (number c 1) (shared_group s c) (context_allowed c (context_facts s c) h r).asked.on.display (goes_shared s c))
 
 -- ---- Currents.
+-- a context that is current for the first time keeps the names that it has bound
+first_names : (w h : ℕ) → KeepsNames (first_current w h)
+first_names w h p = cond_both p.was_current p (record p { viewport = whole w h; scissor_box = whole w h; was_current = true }) (λ (q : PartValue). q.bound ≡ p.bound) (λ e. refl) (λ e. refl)
+
 acts-first_use : (t : ℕ) (s : State) (context draw : Option Handle) → is_context_taken s t context ≡ false → Acts quiet t s (λ a. record a { objects = first_use context draw a.objects })
 acts-first_use t s None draw free = acts_self t s
-acts-first_use t s (Some h) draw free = acts_of quiet t s (λ a. option_and_then (λ h. surface_in a.objects h.object) draw) (λ y a. record a { objects = change_part (first_current (width_of y) (height_of y)) h.object a.objects }) (blind-surface_of t draw s)
-    (acts-part t h.object _ s (λ w. context_free s.threads t h.object (Some h) free (eq-eqb h.object h.object refl)))
+acts-first_use t s (Some h) draw free =
+    let y = option_and_then (λ (h : Handle). surface_in s.objects h.object) draw in
+    acts_of quiet t s (λ a. option_and_then (λ h. surface_in a.objects h.object) draw) (λ y a. record a { objects = change_part (first_current (width_of y) (height_of y)) h.object a.objects }) (blind-surface_of t draw s)
+    (acts-part t h.object (first_current (width_of y) (height_of y)) s (first_names (width_of y) (height_of y)) (λ w. context_free s.threads t h.object (Some h) free (eq-eqb h.object h.object refl)))
 
 -- two surfaces are given or none
 together : (s : State) (c : CallValue) → ((is_zero c 1 ≡ false) × ((is_some (draw_handle s c) ≡ true) × (is_some (read_handle s c) ≡ true))) ⊎ HasNoSurfaces c → is_some (read_handle s c) ≡ is_some (draw_handle s c)
@@ -149,12 +157,12 @@ together s c (inr n) = ap (λ b. is_some (cond b None (handle_at s c 2 a_surface
 pairs : (s : State) (t : ℕ) (c : CallValue) → CurrentAllowed c (current_facts s t c) → is_some (read_handle s c) ≡ is_some (draw_handle s c)
 pairs s t c a = together s c (elim a.surfaces [ inl x ↦ inl (x.draw_given, (x.draw, x.read)) | inr n ↦ inr n ])
 
--- a surface that is given is one, and its handle has a number below the next
+-- a surface that is given is one, and its handle has a number that was given
 goes_given : (sh : List (Option Shape)) (a : State) (d n : ℕ) (b : Bool) → IsWhole sh a → Goes sh a_surface_kind (option_map (λ b. b.object) (bound_by (cond b None (valid a d n a_surface))))
 goes_given sh a d n true w = tt
 goes_given sh a d n false w = goes_valid sh a d n a_surface w
 
-below_given : (sh : List (Option Shape)) (a : State) (d n : ℕ) (b : Bool) → IsWhole sh a → IsBoundBelowNext a (bound_by (cond b None (valid a d n a_surface)))
+below_given : (sh : List (Option Shape)) (a : State) (d n : ℕ) (b : Bool) → IsWhole sh a → IsBoundGiven a (bound_by (cond b None (valid a d n a_surface)))
 below_given sh a d n true w = tt
 below_given sh a d n false w = found_below a (is_named_on d n a_surface) a.handles w.numbers.handles
 

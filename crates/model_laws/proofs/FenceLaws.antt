@@ -46,7 +46,7 @@ unfolding change_context
 seen_flushed f e None os m = refl
 seen_flushed f e (Some n) os m = same_at_set f os n _ None (e (length os) (get_or os n None)) m
 
-fence-flushed : (k : ℕ) (o : Option Object) → as_fence (with_context (flushed_to k) o) ≡ as_fence o
+pub fence-flushed : (k : ℕ) (o : Option Object) → as_fence (with_context (flushed_to k) o) ≡ as_fence o
 fence-flushed k (Some (Context c)) = refl
 fence-flushed k o = refl
 

@@ -42,7 +42,7 @@ pub ready-step : (s : State) (t u : ℕ) (c : CallValue) → IsReady s t → IsR
 ready-step s t u c r = record { sound = sound-step s u c r.sound; thread = let e = (keeps-step s u c).frame.count in let l = r.thread in omega (arith, e, l) }
 
 part_of_full : (o : Option Object) → is_some (as_context o) ≡ true → Full o → is_some (part_in o) ≡ true
-part_of_full (Some (Context c)) h f = f
+part_of_full (Some (Context c)) h f = f.there
 part_of_full o h f = absurd (let e : false ≡ true = h in cc)
 
 has_part : (s : State) (t : ℕ) → IsReady s t → is_some (own_of s t).context ≡ is_some (current_context s t)

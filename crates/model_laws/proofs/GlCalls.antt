@@ -17,15 +17,15 @@ use Rattle.model_laws.proofs.Blinds.{alone_with, blind-own_part, free_undrawn}
 use Rattle.model_laws.proofs.BoundFramebuffers.{blind-bound_framebuffer, bound_draw_alone}
 use Rattle.model_laws.proofs.Keeps.{Acts, acts_cond, acts_of, acts_self, by_quiet_moves}
 use Rattle.model_laws.proofs.Moves.{Change, NoneElse}
-use Rattle.model_laws.proofs.Setters.{KeepsForm, form-cleared, setter-image, setter-part, suits-image, suits-part}
+use Rattle.model_laws.proofs.Setters.{KeepsForm, KeepsNames, form-cleared, setter-image, setter-part, suits-image, suits-part}
 
 -- what a context that is current to no other thread keeps for itself
-pub acts-part : (t n : ℕ) (f : PartValue → PartValue) (s : State) → (IsWhole (shapes s.objects) s → NoneElse (has_context n) s.threads t) → Acts quiet t s (λ a. record a { objects = change_part f n a.objects })
+pub acts-part : (t n : ℕ) (f : PartValue → PartValue) (s : State) → KeepsNames f → (IsWhole (shapes s.objects) s → NoneElse (has_context n) s.threads t) → Acts quiet t s (λ a. record a { objects = change_part f n a.objects })
 unfolding change_part
-acts-part t n f s mine = by_quiet_moves t s (Change n (with_part f) ∷ []) refl (setter-part f, tt) (λ w. (suits-part t (shapes s.objects) s n f (mine w), tt))
+acts-part t n f s k mine = by_quiet_moves t s (Change n (with_part f) ∷ []) refl (setter-part f k, tt) (λ w. (suits-part t (shapes s.objects) s n f (mine w), tt))
 
-pub acts-own_part : (s : State) (t n : ℕ) (f : PartValue → PartValue) → current_context s t ≡ Some n → Acts quiet t s (λ a. record a { objects = change_part f n a.objects })
-acts-own_part s t n f e = acts-part t n f s (alone_with s t n e)
+pub acts-own_part : (s : State) (t n : ℕ) (f : PartValue → PartValue) → KeepsNames f → current_context s t ≡ Some n → Acts quiet t s (λ a. record a { objects = change_part f n a.objects })
+acts-own_part s t n f k e = acts-part t n f s k (alone_with s t n e)
 
 -- ---- glClear.
 acts-clear_storage : (t : ℕ) (s : State) (p : Option PartValue) (o : Option ℕ) → (bound_framebuffer s t).draw ≡ o → Acts quiet t s (clear_storage p o)

@@ -8,7 +8,9 @@ pub mod LitterLaws
 pub mod FrameLaws
 pub mod RefusalLaws
 pub mod WantLaws
+pub mod WindowUses
 pub mod WantedHandles
+pub mod WaitWords
 pub mod WaitOutcomes
 pub mod TextureLaws
 pub mod NameLaws
@@ -30,6 +32,7 @@ pub mod KindSteps
 pub mod CurrentLaws
 pub mod NewHandleLaws
 pub mod Moves
+pub mod KeptNames
 pub mod Places
 pub mod Slots
 pub mod CurrentMoves

@@ -1,10 +1,12 @@
 -- What may be set of what objects refer to: names of a group, what a context has bound, the levels of a texture.
-use Rattle.std.proofs.Common.{◌≡◌, ◌⊎◌, ℕ, ℤ, zero, suc, ◌+◌, true, cond, not, eqb, ltb, is_some, inl, inr, List, [], ◌∷◌, refl, sym, ap, ◌∙◌, set, Option, None, Some}
+use Rattle.std.proofs.Common.{◌≡◌, ◌⊎◌, ℕ, ℤ, zero, suc, ◌+◌, true, cond, not, eqb, ltb, is_some, inl, inr, List, [], ◌∷◌, refl, sym, ap, ◌∙◌, set, Option, None, Some, IfSome}
 use Rattle.std.specs.Prelude.{option_to_list}
 use Rattle.std.specs.List.{find}
 use Rattle.std.specs.Option.{option_map, option_map_or}
 use Rattle.std.proofs.lemmas.Bool.{cond_both}
+use Rattle.context_state.specs.Bindings.{with_name}
 use Rattle.context_state.specs.Parts.{PartValue}
+use Rattle.context_state.specs.declared.bindings.Bindings.{Bindings}
 use Rattle.pixel_rows.specs.Images.{ImageValue}
 use Rattle.driver_objects.specs.Links.{bound_in, linked_names}
 use Rattle.driver_objects.specs.Targets.{binding_of, name_kind, slot_of}
@@ -28,6 +30,7 @@ use Rattle.share_group.specs.declared.names.Name.{Name}
 use Rattle.share_group.specs.declared.names.NameKind.{NameKind}
 use Rattle.share_group.specs.declared.names.NameKind.TheVariants.{Texture as textures, Buffer as buffers, Renderbuffer as renderbuffers, Framebuffer as framebuffers}
 use Rattle.egl_model.specs.Currents.{has_context}
+use Rattle.egl_model.specs.Displays.{is_display}
 use Rattle.model_laws.specs.Full.{Full}
 use Rattle.egl_model.specs.Graph.{is_in}
 use Rattle.egl_model.specs.Names.{kind_named, with_more, with_name_of}
@@ -166,10 +169,15 @@ still_there : (which name : ℕ) (x : Option PartValue) → is_some x ≡ true �
 still_there which name None h = h
 still_there which name (Some x) h = refl
 
--- a change of a context by which neither its display nor its references change, and which takes no part out
+still_named : (which name : ℕ) (x : Option PartValue) (b : Bindings) → IfSome x (λ p. p.bound ≡ b) → IfSome (option_map (name_in_part which name) x) (λ p. p.bound ≡ with_name which name b)
+still_named which name None b h = tt
+still_named which name (Some p) b h = ap (with_name which name) h
+
+-- a change of a context by which neither its display nor its references change, which takes no part out, and after which the part still has bound the names that the context has
 record Renames (h : ContextObject → ContextObject) : Type 0 where
   home : (c : ContextObject) → (h c).display ≡ c.display
   part : (c : ContextObject) → is_some c.part ≡ true → is_some (h c).part ≡ true
+  names : (c : ContextObject) → IfSome c.part (λ p. p.bound ≡ c.names) → IfSome (h c).part (λ p. p.bound ≡ (h c).names)
 
 setter-renamed : (h : ContextObject → ContextObject) → Renames h → Setter (with_context h)
 setter-renamed h r = record { body = body; full = full }
@@ -179,7 +187,7 @@ setter-renamed h r = record { body = body; full = full }
     body o = refl
 
     full : (o : Option Object) → Full o → Full (with_context h o)
-    full (Some (Context c)) f = r.part c f
+    full (Some (Context c)) f = record { there = r.part c f.there; names = r.names c f.names; home = ap is_display (r.home c) ∙ f.home }
     full o f = f
 
 suits-own : (t : ℕ) (sh : List (Option Shape)) (s : State) (n : ℕ) (h : ContextObject → ContextObject) → ((c : ContextObject) → Leads sh (slots_of (Context c)) → Leads sh (slots_of (Context (h c)))) → NoneElse (has_context n) s.threads t → Suits t sh s n (with_context h)
@@ -199,7 +207,7 @@ suits-own t sh s n h l mine = record { leads = leads; pixels = λ o k i. inl (ap
     leads o i = i
 
 pub setter-named : (which name : ℕ) → Setter (with_context (named_at which name))
-setter-named which name = setter-renamed (named_at which name) (record { home = λ c. refl; part = λ c f. still_there which name c.part f })
+setter-named which name = setter-renamed (named_at which name) (record { home = λ c. refl; part = λ c f. still_there which name c.part f; names = λ c f. still_named which name c.part c.names f })
 
 pub suits-named : (t : ℕ) (sh : List (Option Shape)) (s : State) (n which name : ℕ) → NoneElse (has_context n) s.threads t → Suits t sh s n (with_context (named_at which name))
 suits-named t sh s n which name mine = suits-own t sh s n (named_at which name) (λ c l. l) mine
@@ -209,10 +217,11 @@ renames-at : (b : BindTarget) (x : ℕ) → Renames (unbound_at b x)
 renames-at b x = record {
   home = λ c. cond_both (is_place x (bound_in (slot_of b) c.bound)) _ c (λ (d : ContextObject). d.display ≡ c.display) (λ e. refl) (λ e. refl);
   part = λ c f. cond_both (is_place x (bound_in (slot_of b) c.bound)) _ c (λ (d : ContextObject). is_some d.part ≡ true) (λ e. still_there (binding_of b) 0 c.part f) (λ e. f);
+  names = λ c f. cond_both (is_place x (bound_in (slot_of b) c.bound)) (bound_at (slot_of b) None (named_at (binding_of b) 0 c)) c (λ (d : ContextObject). IfSome d.part (λ p. p.bound ≡ d.names)) (λ e. still_named (binding_of b) 0 c.part c.names f) (λ e. f);
 }
 
 renames-then : (f g : ContextObject → ContextObject) → Renames f → Renames g → Renames (λ c. g (f c))
-renames-then f g a b = record { home = λ c. b.home (f c) ∙ a.home c; part = λ c h. b.part (f c) (a.part c h) }
+renames-then f g a b = record { home = λ c. b.home (f c) ∙ a.home c; part = λ c h. b.part (f c) (a.part c h); names = λ c h. b.names (f c) (a.names c h) }
 
 renames-unbound : (k : NameKind) (x : ℕ) → Renames (unbound_object k x)
 renames-unbound textures x = renames-at TextureTarget x

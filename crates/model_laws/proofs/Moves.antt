@@ -25,7 +25,7 @@ use Rattle.egl_model.specs.MakeCurrent.{bind}
 use Rattle.model_laws.specs.Kinds.{named_kind}
 use Rattle.model_laws.specs.Shapes.{Goes, HasKind, IsFree, Leads, Shape, frozen_at, pixels_in, shape_in, shapes, sides_at, slots_in}
 use Rattle.egl_model.specs.Waits.{waiting}
-use Rattle.model_laws.specs.Sound.{IsBoundBelowNext, IsWhole, window_sides}
+use Rattle.model_laws.specs.Sound.{IsBoundGiven, IsWhole, window_sides}
 use Rattle.egl_model.specs.Sweep.{bytes_in, live_bytes}
 
 pub data Move : Type 0 where
@@ -159,9 +159,9 @@ pub record Binds (t : ℕ) (sh : List (Option Shape)) (s : State) (c d r : Optio
   pub reads : (n : ℕ) → is_bound n r ≡ true → NoneElse (has_surface n) s.threads t
   pub draw : is_some d ≡ true → is_some c ≡ true
   pub read : is_some r ≡ is_some d
-  pub context_below : IsBoundBelowNext s c
-  pub draw_below : IsBoundBelowNext s d
-  pub read_below : IsBoundBelowNext s r
+  pub context_below : IsBoundGiven s c
+  pub draw_below : IsBoundGiven s d
+  pub read_below : IsBoundGiven s r
 
 abbrev pub own_in : Option Object → Option ℕ
 own_in None = None

@@ -22,7 +22,7 @@ use Rattle.egl_model.specs.Currents.{has_context, has_surface, is_bound, is_cont
 use Rattle.egl_model.specs.MakeCurrent.{bound_by}
 use Rattle.egl_model.specs.Objects.{as_context}
 use Rattle.model_laws.specs.Shapes.{Goes, HasKind, Leads, Shape, slots_in}
-use Rattle.model_laws.specs.Sound.{IsBelowNext, IsBoundBelowNext, IsWhole}
+use Rattle.model_laws.specs.Sound.{IsGiven, IsBoundGiven, IsWhole}
 use Rattle.model_laws.proofs.Moves.{NoneElse}
 
 same_kind : (k l : HandleKind) → is_same_kind k l ≡ true → k ≡ l
@@ -55,11 +55,11 @@ pub is_some-bound_by : (h : Option Handle) → is_some (bound_by h) ≡ is_some 
 is_some-bound_by None = refl
 is_some-bound_by (Some h) = refl
 
-pub found_below : (s : State) (p : Handle → Bool) (hs : List Handle) → All (λ h. IsBelowNext s h.number) hs → IsBoundBelowNext s (bound_by (find p hs))
+pub found_below : (s : State) (p : Handle → Bool) (hs : List Handle) → All (λ h. IsGiven s h.number) hs → IsBoundGiven s (bound_by (find p hs))
 found_below s p [] all = tt
-found_below s p (h ∷ hs) all = cond_both (p h) (Some h) (find p hs) (λ o. IsBoundBelowNext s (bound_by o))
-    (λ e. All-head (λ h. IsBelowNext s h.number) h hs all)
-    (λ e. found_below s p hs (All-tail (λ h. IsBelowNext s h.number) h hs all))
+found_below s p (h ∷ hs) all = cond_both (p h) (Some h) (find p hs) (λ o. IsBoundGiven s (bound_by o))
+    (λ e. All-head (λ h. IsGiven s h.number) h hs all)
+    (λ e. found_below s p hs (All-tail (λ h. IsGiven s h.number) h hs all))
 
 -- the group of what a number names, where it is a context
 pub group_goes : (sh : List (Option Shape)) (o : Option Object) → Leads sh (slots_in o) → Goes sh a_group (option_map (λ x. x.group) (as_context o))

@@ -13,7 +13,9 @@ use Rattle.egl_model.specs.Surfaces.{asked_height, asked_width, asks_for_largest
 use Rattle.egl_model.specs.Arguments.{number}
 use Rattle.egl_model.specs.Contexts.{context_objects, created_context, shared_group}
 use Rattle.egl_model.specs.Sweep.{bytes_in, edges_at, kept_in, live_bytes, swept}
-use Rattle.model_laws.specs.Wants.{asked_bytes}
+use Rattle.surface_store.specs.declared.windows.WindowSpec.{WindowSpec}
+use Rattle.egl_model.specs.Windows.{asks_for_single, created_window, named_place, named_spec, window_objects}
+use Rattle.model_laws.specs.Wants.{asked_bytes, window_bytes}
 
 -- ---- A sweep takes no bytes.
 sum_by-over_map : {X Y : Type 0} (f : Y → ℕ) (g : X → Y) (xs : List X) → sum_by f (map g xs) ≡ sum_by (λ x. f (g x)) xs
@@ -51,6 +53,16 @@ live_bytes-created_pbuffer s c =
     let n = length s.objects in let w = side_of (asked_width c) in let h = side_of (asked_height c) in
     live_bytes-append s.objects (pbuffer_objects n (signed c 1) w h (asks_for_largest c))
     ∙ ap (λ k. live_bytes s.objects + k) (pbuffer_objects_bytes n (signed c 1) w h (asks_for_largest c))
+
+window_objects_bytes : (n : ℕ) (config : ℤ) (spec : WindowSpec) (single : Bool) (place : Option ℕ) → live_bytes (window_objects n config spec single place) ≡ surface_bytes config spec.w spec.h
+unfolding live_bytes
+window_objects_bytes n config spec single place = omega arith
+
+pub live_bytes-created_window : (s : State) (c : CallValue) → live_bytes (created_window s c).objects ≡ live_bytes s.objects + window_bytes s c
+live_bytes-created_window s c =
+    let n = length s.objects in
+    live_bytes-append s.objects (window_objects n (signed c 1) (named_spec s c) (asks_for_single c) (named_place s c))
+    ∙ ap (λ k. live_bytes s.objects + k) (window_objects_bytes n (signed c 1) (named_spec s c) (asks_for_single c) (named_place s c))
 
 context_bytes : (n : ℕ) (config d : ℕ) (group : Option ℕ) → live_bytes (context_objects n config d group) ≡ 0
 unfolding live_bytes

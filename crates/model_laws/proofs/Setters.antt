@@ -1,7 +1,8 @@
 -- What the fields of objects may be set to.
-use Rattle.std.proofs.Common.{◌≡◌, length, ℕ, Bool, true, is_some, inl, inr, List, refl, sym, ap, ◌∙◌, Option, None, Some}
+use Rattle.std.proofs.Common.{◌≡◌, length, ℕ, Bool, true, is_some, inl, inr, List, refl, sym, ap, ◌∙◌, Option, None, Some, IfSome}
 use Rattle.surface_store.specs.Surfaces.{SurfaceValue}
 use Rattle.context_state.specs.Parts.{PartValue}
+use Rattle.context_state.specs.declared.bindings.Bindings.{Bindings}
 use Rattle.pixel_rows.specs.Images.{ImageValue}
 use Rattle.egl_model.specs.Parts.{set_image, set_part}
 use Rattle.pixel_formats.specs.declared.formats.Format.{Format}
@@ -35,15 +36,23 @@ pub holds-part : (f : PartValue → PartValue) (o : Option Object) → body_in (
 holds-part f (Some (Context c)) = refl
 holds-part f o = refl
 
-pub setter-part : (f : PartValue → PartValue) → Setter (with_part f)
-setter-part f = record { body = holds-part f; full = full }
+-- a change of it by which the names stay that it has bound
+abbrev pub KeepsNames : (PartValue → PartValue) → Type 0
+KeepsNames f = (p : PartValue) → (f p).bound ≡ p.bound
+
+pub setter-part : (f : PartValue → PartValue) → KeepsNames f → Setter (with_part f)
+setter-part f k = record { body = holds-part f; full = full }
   where
+    names : (b : Bindings) (x : Option PartValue) → IfSome x (λ p. p.bound ≡ b) → IfSome (option_map f x) (λ p. p.bound ≡ b)
+    names b None h = tt
+    names b (Some p) h = k p ∙ h
+
     still : (x : Option PartValue) → is_some x ≡ true → is_some (option_map f x) ≡ true
     still None h = h
     still (Some x) h = refl
 
     full : (o : Option Object) → Full o → Full (with_part f o)
-    full (Some (Context c)) h = still c.part h
+    full (Some (Context c)) h = record { there = still c.part h.there; names = names c.names c.part h.names; home = h.home }
     full o h = h
 
 pub suits-part : (t : ℕ) (sh : List (Option Shape)) (s : State) (n : ℕ) (f : PartValue → PartValue) → NoneElse (has_context n) s.threads t → Suits t sh s n (with_part f)

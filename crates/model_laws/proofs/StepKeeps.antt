@@ -28,7 +28,7 @@ use Rattle.model_laws.specs.Kinds.{NamesItsKind}
 use Rattle.model_laws.specs.Laws.{HandlesAreNew, ObjectsAreNew, StayValid}
 use Rattle.egl_model.specs.Links.{IsHeld}
 use Rattle.model_laws.specs.Shapes.{Leads, shapes}
-use Rattle.model_laws.specs.Sound.{IsBelowNext, IsBoundBelowNext, IsSound, IsWhole, SidesAgree}
+use Rattle.model_laws.specs.Sound.{IsGiven, IsBoundGiven, IsSound, IsWhole, SidesAgree}
 use Rattle.model_laws.specs.Swaps.{forms}
 use Rattle.model_laws.specs.Wants.{PixelsFit}
 use Rattle.egl_model.specs.Sweep.{live_bytes, sweep}
@@ -67,6 +67,7 @@ use Rattle.model_laws.proofs.Slots.{no_edge}
 use Rattle.surface_store.proofs.WindowLaws.{opened_sides}
 use Rattle.model_laws.proofs.Ways.{each_way}
 use Rattle.model_laws.proofs.WholeSweep.{linked_from}
+use Rattle.model_laws.proofs.KeptNames.{applied_names}
 use Rattle.model_laws.proofs.Keeps.{Acts, Keeps, acts_self, acts_swept, acts_then, acts_within}
 
 -- ---- One line for each call that changes the state.
@@ -77,7 +78,7 @@ egl_acts s t c CreateWindowSurface h r = acts-window s t c h r
 egl_acts s t c CreatePbufferSurface h r = acts-pbuffer s t c h r
 egl_acts s t c DestroySurface h r = acts-destroyed s t c a_surface
 egl_acts s t c SurfaceAttrib h r = acts-attribute s t c
-egl_acts s t c CreateContext h r = acts-context s t c
+egl_acts s t c CreateContext h r = acts-context s t c h r
 egl_acts s t c DestroyContext h r = acts-destroyed s t c a_context
 egl_acts s t c MakeCurrent h r = acts-make_current s t c h r
 egl_acts s t c SwapBuffers h r = acts_then quiet t s (λ a. swapped a t) (λ a. flush a t) (acts-swap s t) (acts-flush (swapped s t) t)
@@ -125,7 +126,7 @@ object_acts s t n c ImageTargetRenderbufferStorage h r i = acts-renderbuffer_of_
 object_acts s t n c k h r i = acts_self t s
 
 acts_by : (o : Option ContextCall) (s : State) (t n : ℕ) (c : CallValue) (k : GlKind) → c.kind ≡ Gl k → gl_refusal s t n k c ≡ None → current_context s t ≡ Some n → Acts quiet t s (λ a. (effect_by o a t n k c).state)
-acts_by (Some own) s t n c k h r i = acts-own_part s t n (λ p. (apply c p).part) i
+acts_by (Some own) s t n c k h r i = acts-own_part s t n (λ p. (apply c p).part) (applied_names c) i
 acts_by None s t n c k h r i = object_acts s t n c k h r i
 
 gl_acts : (s : State) (t n : ℕ) (c : CallValue) (k : GlKind) → c.kind ≡ Gl k → gl_refusal s t n k c ≡ None → current_context s t ≡ Some n → Acts quiet t s (λ a. (gl_effect a t n k c).state)
@@ -154,7 +155,7 @@ pub keeps-step : (s : State) (t : ℕ) (c : CallValue) → Keeps (extent_of_kind
 keeps-step s t c = each_way (Keeps (extent_of_kind c.kind) t s) s t c (record {
   stays = (acts_within (extent_of_kind c.kind) t s (λ a. a) (acts_self t s)).moved.keeps;
   egl_error = λ e. (acts_within (extent_of_kind c.kind) t s (λ a. set_error a t e) (acts-error s t e)).moved.keeps;
-  gl_error = λ n e i. (acts_within (extent_of_kind c.kind) t s (λ a. note_error a n e) (acts-own_part s t n (noted e) i)).moved.keeps;
+  gl_error = λ n e i. (acts_within (extent_of_kind c.kind) t s (λ a. note_error a n e) (acts-own_part s t n (noted e) (λ p. refl) i)).moved.keeps;
   egl_done = λ k h r. by_kind s t c k _ h (acts-egl_done s t c k h r).moved.keeps;
   gl_done = λ n k h r i. (acts_within (extent_of_kind c.kind) t s (λ a. sweep (gl_effect a t n k c).state) (acts-gl_done s t n c k h r i)).moved.keeps;
   swept = (acts_within (extent_of_kind c.kind) t s sweep (acts-swept_self s t)).moved.keeps;
@@ -165,7 +166,7 @@ pub full-step : (s : State) (t : ℕ) (c : CallValue) → IsFull s → IsFull (s
 full-step s t c f = each_way IsFull s t c (record {
   stays = f;
   egl_error = λ e. (acts-error s t e).full f;
-  gl_error = λ n e i. (acts-own_part s t n (noted e) i).full f;
+  gl_error = λ n e i. (acts-own_part s t n (noted e) (λ p. refl) i).full f;
   egl_done = λ k h r. (acts-egl_done s t c k h r).full f;
   gl_done = λ n k h r i. (acts-gl_done s t n c k h r i).full f;
   swept = (acts-swept_self s t).full f;
@@ -226,11 +227,12 @@ whole-opening windows ok video = record {
   alone = record { contexts = λ t u n h k. unbound windows ok video t n h; surfaces = λ t u n h k. undrawn windows ok video t n h };
   both = record { draw = at_first (λ (r : ThreadRecord). is_some r.draw ≡ true → is_some r.context ≡ true) (λ r. r) (λ h. h); read = at_first (λ (r : ThreadRecord). is_some r.read ≡ is_some r.draw) (λ r. r) refl };
   numbers = record {
-    handles = All-nil (λ (h : Handle). IsBelowNext (opening windows video) h.number);
+    next = omega arith;
+    handles = All-nil (λ (h : Handle). IsGiven (opening windows video) h.number);
     apart = λ i j d lt within. absurd (omega arith);
-    context = at_first (λ (r : ThreadRecord). IsBoundBelowNext (opening windows video) r.context) (λ r. r) tt;
-    draw = at_first (λ (r : ThreadRecord). IsBoundBelowNext (opening windows video) r.draw) (λ r. r) tt;
-    read = at_first (λ (r : ThreadRecord). IsBoundBelowNext (opening windows video) r.read) (λ r. r) tt;
+    context = at_first (λ (r : ThreadRecord). IsBoundGiven (opening windows video) r.context) (λ r. r) tt;
+    draw = at_first (λ (r : ThreadRecord). IsBoundGiven (opening windows video) r.draw) (λ r. r) tt;
+    read = at_first (λ (r : ThreadRecord). IsBoundGiven (opening windows video) r.read) (λ r. r) tt;
   };
 }
 

@@ -251,7 +251,7 @@ by_egl_rules t v x s c k None ne w h r = both_same _ _ _ _ (blind-egl_reply t c 
 
 by_gl_rules : (t v n : ℕ) (x : Own) (s : State) (c : CallValue) (k : GlKind) (o : Option GlError) → v ≢ t → IsWhole (shapes s.objects) s → c.kind ≡ Gl k → current_context s t ≡ Some n → gl_refusal s t n k c ≡ o →
     after_gl_rules (put_own s v x) n o (gl_effect (put_own s v x) t n k c) ≡ moved_step (put_at (places s v) v x) (after_gl_rules s n o (gl_effect s t n k c))
-by_gl_rules t v n x s c k (Some e) ne w q h r = answered _ _ _ ((acts-own_part s t n (noted e) h).moved.put w v x ne)
+by_gl_rules t v n x s c k (Some e) ne w q h r = answered _ _ _ ((acts-own_part s t n (noted e) (λ p. refl) h).moved.put w v x ne)
 by_gl_rules t v n x s c k None ne w q h r = both_same _ _ _ _ (blind-gl_reply t n c s k h w v x ne) ((acts-gl_done s t n c k q r h).moved.put w v x ne)
 
 by_context : (t v : ℕ) (x : Own) (s : State) (c : CallValue) (k : GlKind) (o : Option ℕ) → v ≢ t → IsWhole (shapes s.objects) s → c.kind ≡ Gl k → current_context s t ≡ o → gl_step_on (put_own s v x) t o k c ≡ moved_step (put_at (places s v) v x) (gl_step_on s t o k c)
@@ -262,7 +262,7 @@ by_context t v x s c k (Some n) ne w q h =
 
 by_buffer_rules : (t v n : ℕ) (x : Own) (s : State) (c : CallValue) (o : Option GlError) → v ≢ t → IsWhole (shapes s.objects) s → current_context s t ≡ Some n →
     after_gl_rules (put_own s v x) n o (buffer_effect (put_own s v x) t n c) ≡ moved_step (put_at (places s v) v x) (after_gl_rules s n o (buffer_effect s t n c))
-by_buffer_rules t v n x s c (Some e) ne w h = answered _ _ _ ((acts-own_part s t n (noted e) h).moved.put w v x ne)
+by_buffer_rules t v n x s c (Some e) ne w h = answered _ _ _ ((acts-own_part s t n (noted e) (λ p. refl) h).moved.put w v x ne)
 by_buffer_rules t v n x s c None ne w h = both_same _ _ _ _ (blind-buffer_reply t n c s w v x ne) ((acts-swept_self s t).moved.put w v x ne)
 
 by_buffer : (t v : ℕ) (x : Own) (s : State) (c : CallValue) (o : Option ℕ) → v ≢ t → IsWhole (shapes s.objects) s → current_context s t ≡ o → buffer_step_on (put_own s v x) t o c ≡ moved_step (put_at (places s v) v x) (buffer_step_on s t o c)

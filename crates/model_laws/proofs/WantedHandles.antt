@@ -21,6 +21,7 @@ use Rattle.egl_model.specs.Syncs.{new_sync_facts}
 use Rattle.egl_model.specs.Windows.{window_facts}
 use Rattle.model_laws.specs.Laws.{IsEglCall}
 use Rattle.model_laws.specs.Wants.{Answers, IsFaultlessSync, IsFaultlessWindow, IsWindowUsed, WantsNumber, WantsWindowPixels}
+use Rattle.model_laws.proofs.WindowUses.{used_window, window_is_used}
 use Rattle.model_laws.proofs.WantLaws.{from_number, refusal_of_reply, reply_of_refusal, to_number}
 
 is_bad_alloc : EglError → Bool
@@ -73,13 +74,13 @@ too_many s c = let f = window_facts s c in nat_lt f.video_limit (f.live_bytes + 
 
 to_wants : (s : State) (c : CallValue) → (((window_facts s c).is_window_used ≡ true) ⊎ ((too_many s c ≡ true) ⊎ ((window_facts s c).are_handles_used_up ≡ true))) → IsWindowUsed s c ⊎ (WantsWindowPixels s c ⊎ WantsNumber s)
 unfolding too_many
-to_wants s c (inl u) = inl u
+to_wants s c (inl u) = inl (window_is_used s c u)
 to_wants s c (inr (inl v)) = inr (inl (past _ _ v))
 to_wants s c (inr (inr n)) = inr (inr (to_number s n))
 
 from_wants : (s : State) (c : CallValue) → IsWindowUsed s c ⊎ (WantsWindowPixels s c ⊎ WantsNumber s) → (((window_facts s c).is_window_used ≡ true) ⊎ ((too_many s c ≡ true) ⊎ ((window_facts s c).are_handles_used_up ≡ true)))
 unfolding too_many
-from_wants s c (inl u) = inl u
+from_wants s c (inl u) = inl (used_window s c u)
 from_wants s c (inr (inl v)) = inr (inl (is_past _ _ v))
 from_wants s c (inr (inr n)) = inr (inr (from_number s n))
 

@@ -12,7 +12,7 @@ use Rattle.egl_model.specs.declared.records.ThreadRecord.{ThreadRecord}
 use Rattle.model_laws.specs.Kinds.{KindsFit, NamesItsKind, named_kind}
 use Rattle.model_laws.specs.Shapes.{Leads, Shape, frozen_at, own_at, pixels_in, shapes, sides_at, slots_in, window_id_at}
 use Rattle.model_laws.specs.Slots.{held_slots}
-use Rattle.model_laws.specs.Sound.{HasBothOrNone, IsAlone, IsWhole, NumbersAreBelow, OwnAreThawed, SidesAgree, StoragesAreOwn, window_sides}
+use Rattle.model_laws.specs.Sound.{HasBothOrNone, IsAlone, IsWhole, NumbersAreGiven, OwnAreThawed, SidesAgree, StoragesAreOwn, window_sides}
 use Rattle.model_laws.proofs.Moves.{Await, Body, Resize, Add, AllFit, AllHold, Bind, Change, Fits, Flags, Holds, IsStored, Keep, Move, Name, Note, Post, Stands, Suits, apply, frozen_in, own_in, play, shapes_after, sides_in, window_id_in}
 use Rattle.model_laws.proofs.Places.{at_new, at_old, each_at_set, each_place_at_set, frozen_at-shapes, length-shapes, old_kind, own_at-shapes, shapes-append, shapes-set, sides_at-shapes, window_id_at-shapes, within_shapes}
 use Rattle.model_laws.proofs.CurrentMoves.{SameBound, alone-bind, alone-record, below-bind, below-keep, below-name, below-record, both-bind, both-record, held-bind, held-record}
@@ -26,8 +26,9 @@ alone_as s a e h = record { contexts = rw e h.contexts; surfaces = rw e h.surfac
 both_as : (s a : State) → a.threads ≡ s.threads → HasBothOrNone s → HasBothOrNone a
 both_as s a e h = record { draw = rw e h.draw; read = rw e h.read }
 
-below_as : (s a : State) → a.handles ≡ s.handles → a.next_handle ≡ s.next_handle → a.threads ≡ s.threads → NumbersAreBelow s → NumbersAreBelow a
+below_as : (s a : State) → a.handles ≡ s.handles → a.next_handle ≡ s.next_handle → a.threads ≡ s.threads → NumbersAreGiven s → NumbersAreGiven a
 below_as s a e f g b = record {
+  next = rw f b.next;
   handles = rw (e, f) b.handles;
   apart = rw e b.apart;
   context = rw (f, g) b.context;

@@ -285,5 +285,5 @@ whole-sweep s w = record {
   sides = sides-sweep s w;
   alone = record { contexts = w.alone.contexts; surfaces = w.alone.surfaces };
   both = record { draw = w.both.draw; read = w.both.read };
-  numbers = record { handles = w.numbers.handles; apart = w.numbers.apart; context = w.numbers.context; draw = w.numbers.draw; read = w.numbers.read };
+  numbers = record { next = w.numbers.next; handles = w.numbers.handles; apart = w.numbers.apart; context = w.numbers.context; draw = w.numbers.draw; read = w.numbers.read };
 }

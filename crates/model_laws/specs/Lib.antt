@@ -20,3 +20,4 @@ pub mod Deleted
 pub mod Siblings
 pub mod Swaps
 pub mod Statuses
+pub mod ClientWaits

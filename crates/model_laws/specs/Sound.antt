@@ -1,5 +1,5 @@
 -- States that are sound, as each step leaves them.
-use Rattle.std.specs.Prelude.{◌≡◌, ◌≢◌, ℕ, ℤ, ◌<◌, List, true, false, All, AllPairs, is_some, Option, Some, IfSome}
+use Rattle.std.specs.Prelude.{◌≡◌, ◌≢◌, ℕ, ℤ, ◌<◌, ◌≤◌, List, true, false, All, AllPairs, is_some, Option, Some, IfSome}
 use Rattle.std.specs.Option.{option_map}
 use Rattle.egl_calls.specs.Ranges.{unsigned}
 use Rattle.surface_store.specs.Windows.{WindowValue}
@@ -26,21 +26,22 @@ pub record HasBothOrNone (s : State) : Type 0 where
   pub draw : (t : ℕ) → is_some (record_of s t).draw ≡ true → is_some (record_of s t).context ≡ true
   pub read : (t : ℕ) → is_some (record_of s t).read ≡ is_some (record_of s t).draw
 
--- a number that no handle made from now on will have
-abbrev pub IsBelowNext : State → ℕ → Type 0
-IsBelowNext s number = number < s.next_handle
+-- a number that a handle was given, or may have been: 3 or more, and below that of the next handle
+abbrev pub IsGiven : State → ℕ → Type 0
+IsGiven s number = (3 ≤ number) × (number < s.next_handle)
 
 -- nothing is bound, or it was bound by a handle with such a number
-abbrev pub IsBoundBelowNext : State → Option Bound → Type 0
-IsBoundBelowNext s bound = IfSome bound (λ b. IsBelowNext s b.handle)
+abbrev pub IsBoundGiven : State → Option Bound → Type 0
+IsBoundGiven s bound = IfSome bound (λ b. IsGiven s b.handle)
 
--- each valid handle has a number below the next one, and no two have one (section 2.1); so has each handle by which a thread's context or surfaces are bound, even where it isn't valid any more
-pub record NumbersAreBelow (s : State) : Type 0 where
-  pub handles : All (λ h. IsBelowNext s h.number) s.handles
+-- numbers of handles start at 3. Each valid handle has one below the next one, and no two have one (section 2.1); so has each handle by which a thread's context or surfaces are bound, even where it isn't valid any more
+pub record NumbersAreGiven (s : State) : Type 0 where
+  pub next : 3 ≤ s.next_handle
+  pub handles : All (λ h. IsGiven s h.number) s.handles
   pub apart : AllPairs (λ g h. g.number ≢ h.number) s.handles
-  pub context : (t : ℕ) → IsBoundBelowNext s (record_of s t).context
-  pub draw : (t : ℕ) → IsBoundBelowNext s (record_of s t).draw
-  pub read : (t : ℕ) → IsBoundBelowNext s (record_of s t).read
+  pub context : (t : ℕ) → IsBoundGiven s (record_of s t).context
+  pub draw : (t : ℕ) → IsBoundGiven s (record_of s t).draw
+  pub read : (t : ℕ) → IsBoundGiven s (record_of s t).read
 
 -- what refers to a surface's storage is that surface (section 3.5.2)
 pub record StoragesAreOwn (sh : List (Option Shape)) (s : State) : Type 0 where
@@ -70,7 +71,7 @@ pub record IsWhole (sh : List (Option Shape)) (s : State) : Type 0 where
   pub sides : SidesAgree sh s.windows
   pub alone : IsAlone s
   pub both : HasBothOrNone s
-  pub numbers : NumbersAreBelow s
+  pub numbers : NumbersAreGiven s
 
 -- all of this holds; each object is reached, each reference leads to an object, no part of a context and no image is out, and all pixels fit
 pub record IsSound (s : State) : Type 0 where

@@ -1,4 +1,4 @@
-use Rattle.std.specs.Prelude.{◌≡◌, ◌+◌, ◌<◌, ◌≤◌, ◌⊎◌, ℕ, pos, ◌<ℤ◌, true, false, ◌==◌, is_some}
+use Rattle.std.specs.Prelude.{◌≡◌, ◌+◌, ◌<◌, ◌≤◌, ◌⊎◌, ℕ, pos, ◌<ℤ◌, true, false, ◌==◌, is_some, Some}
 -- Where EGL_BAD_ALLOC (EGL 1.5, sections 3.5.1, 3.5.2, 3.7.1, 3.8.1 and 3.9) and GL_OUT_OF_MEMORY (OpenGL ES 1.1, sections 2.9 and 3.7.1) come, in the words of the state before the call.
 use Rattle.egl_calls.specs.Calls.{CallValue}
 use Rattle.egl_calls.specs.declared.errors.EglError.{EglError}
@@ -17,8 +17,10 @@ use Rattle.egl_model.specs.Configs.{is_list_allowed}
 use Rattle.egl_model.specs.Contexts.{context_facts}
 use Rattle.egl_model.specs.Currents.{current_context, display_at}
 use Rattle.egl_model.specs.Displays.{display_facts}
+use Rattle.driver_objects.specs.declared.surfaces.BackedSurface.{BackedSurface}
 use Rattle.egl_model.specs.Images.{new_image_facts}
-use Rattle.egl_model.specs.Windows.{is_used_at, is_window_config, named_place, named_spec}
+use Rattle.egl_model.specs.Objects.{surface_in}
+use Rattle.egl_model.specs.Windows.{is_window_config, named_place, named_spec}
 use Rattle.egl_model.specs.Surfaces.{asked_height, asked_width, asks_for_largest, surface_bytes, pbuffer_facts, side_of}
 use Rattle.egl_model.specs.Renderbuffers.{renderbuffer_bytes}
 use Rattle.egl_model.specs.Sweep.{live_bytes}
@@ -59,13 +61,22 @@ pub record IsFaultlessSync (s : State) (t : ℕ) (c : CallValue) : Type 0 where
   pub current : is_some (current_context s t) ≡ true
   pub here : (display_at s (current_context s t) == number c DISPLAY) ≡ true
 
--- the window has a surface
-abbrev pub IsWindowUsed : State → CallValue → Type 0
-IsWindowUsed s c = is_used_at s.objects (named_place s c) ≡ true
+-- a surface that there is shows in the window that the call names
+pub record IsWindowUsed (s : State) (c : CallValue) : Type 0 where
+  pub place : ℕ
+  pub object : ℕ
+  pub surface : BackedSurface
+  pub named : named_place s c ≡ Some place
+  pub there : surface_in s.objects object ≡ Some surface
+  pub shows : surface.window ≡ Some place
 
--- the pixels that live and those of a surface of the window's sides are more than there may be
+-- the bytes of a surface of the window's sides
+abbrev pub window_bytes : State → CallValue → ℕ
+window_bytes s c = surface_bytes (signed c CONFIG) (named_spec s c).w (named_spec s c).h
+
+-- the pixels that live and those of such a surface are more than there may be
 abbrev pub WantsWindowPixels : State → CallValue → Type 0
-WantsWindowPixels s c = s.video < live_bytes s.objects + surface_bytes (signed c CONFIG) (named_spec s c).w (named_spec s c).h
+WantsWindowPixels s c = s.video < live_bytes s.objects + window_bytes s c
 
 -- a side above 2,048 is asked for, without EGL_LARGEST_PBUFFER
 abbrev pub AsksTooLarge : CallValue → Type 0

@@ -59,7 +59,7 @@ ghost use Rattle.egl_model.specs.EglFacts.{egl_refusal};
 ghost use Rattle.egl_model.specs.GlFacts.{copy_facts, gl_refusal, data_facts, storage_facts};
 ghost use Rattle.egl_model.specs.Step.{bare, done, note_error, step};
 ghost use Rattle.egl_model.specs.Waits.{ended, is_signalled};
-ghost use Rattle.egl_model.specs.Windows.{back_of, front_of};
+ghost use Rattle.egl_model.specs.Windows.{back_of, created_window, front_of};
 ghost use Rattle.egl_names.specs.declared.codes.TheConstants.{EGL_BUFFER_DESTROYED, EGL_BUFFER_PRESERVED};
 ghost use Rattle.driver_objects.specs.declared.surfaces.BackedSurface.{BackedSurface as ASurface};
 ghost use Rattle.pixel_formats.specs.declared.formats.Format.TheVariants.{Rgba8888};
@@ -82,7 +82,8 @@ ghost use Rattle.model_laws.specs.Sound.{IsSound};
 ghost use Rattle.model_laws.specs.Refs.{AreNamesApart, size, objects_gone, refs_gone};
 ghost use Rattle.egl_model.specs.Syncs.{flush_for, sync_handle, waits_forever};
 ghost use Rattle.egl_names.specs.declared.codes.TheConstants.{EGL_CONDITION_SATISFIED, EGL_TIMEOUT_EXPIRED};
-ghost use Rattle.model_laws.specs.Wants.{Answers, AnswersGl, AsksTooLarge, IsFaultlessContext, IsFaultlessImage, IsFaultlessPbuffer, IsFaultlessSync, IsFaultlessWindow, IsWindowUsed, PixelsFit, WantsCopy, WantsImage, WantsNumber, WantsVideo, WantsWindowPixels, asked_bytes, WantsData, WantsStorage};
+ghost use Rattle.model_laws.specs.ClientWaits.{IsSatisfied, IsUnsatisfied};
+ghost use Rattle.model_laws.specs.Wants.{Answers, AnswersGl, AsksTooLarge, IsFaultlessContext, IsFaultlessImage, IsFaultlessPbuffer, IsFaultlessSync, IsFaultlessWindow, IsWindowUsed, PixelsFit, WantsCopy, WantsImage, WantsNumber, WantsVideo, WantsWindowPixels, asked_bytes, window_bytes, WantsData, WantsStorage};
 
 /// A sweep leaves each object that chains of references reach as it is, and no other; it changes what is reached for none.
 pub fn a_sweep_keeps_what_is_reached()
@@ -404,7 +405,7 @@ pub fn a_context_wants_a_number()
     ensures wants { (s : State) (t : ℕ) (c : CallValue) → IsEglCall s t CreateContext c → IsFaultlessContext s c → Answers s t c BadAlloc ↔ WantsNumber s }
 {}
 
-/// eglCreateWindowSurface answers EGL_BAD_ALLOC only where nothing else is wrong, and then exactly where the window has a surface, its pixels and those that live are too many, or the numbers of handles are used up (EGL 1.5, section 3.5.1).
+/// eglCreateWindowSurface answers EGL_BAD_ALLOC only where nothing else is wrong, and then exactly where a surface shows in the window, its pixels and those that live are too many, or the numbers of handles are used up (EGL 1.5, section 3.5.1).
 pub fn a_window_wants_to_be_free_pixels_or_a_number()
     ensures faultless { (s : State) (t : ℕ) (c : CallValue) → IsEglCall s t CreateWindowSurface c → Answers s t c BadAlloc → IsFaultlessWindow s c }
     ensures wants { (s : State) (t : ℕ) (c : CallValue) → IsEglCall s t CreateWindowSurface c → IsFaultlessWindow s c → Answers s t c BadAlloc ↔ (IsWindowUsed s c ⊎ (WantsWindowPixels s c ⊎ WantsNumber s)) }
@@ -422,11 +423,14 @@ pub fn an_image_wants_a_number()
     ensures wants { (s : State) (t : ℕ) (c : CallValue) → IsEglCall s t CreateImage c → IsFaultlessImage s c → Answers s t c BadAlloc ↔ WantsNumber s }
 {}
 
-/// An eglClientWaitSync that no rule refuses is satisfied exactly where the sync is signalled behind the flush that it asks for; else it waits where its timeout is for ever, and where it isn't its time is over at once (section 3.8.1.1).
+/// An eglClientWaitSync that no rule refuses is satisfied exactly where the sync is signalled, or where the call asks for a flush and the sync was made in the thread's current context: a flush signals just these. Else it waits where its timeout is for ever, and where it isn't its time is over at once (section 3.8.1.1). The thread then waits for that sync, and for none where the call doesn't wait.
 pub fn a_client_wait_is_satisfied_waits_or_expires()
-    ensures satisfied { (s : State) (t : ℕ) (c : CallValue) (h : Handle) → IsAllowedEgl s t ClientWaitSync c → sync_handle s c ≡ Some h → is_signalled (flush_for c t h.object s) h.object ≡ true → (step s t c).reply ≡ record (bare Done) { value = pos EGL_CONDITION_SATISFIED } }
-    ensures waits { (s : State) (t : ℕ) (c : CallValue) (h : Handle) → IsAllowedEgl s t ClientWaitSync c → sync_handle s c ≡ Some h → is_signalled (flush_for c t h.object s) h.object ≡ false → waits_forever c ≡ true → (step s t c).reply ≡ bare Waiting }
-    ensures expires { (s : State) (t : ℕ) (c : CallValue) (h : Handle) → IsAllowedEgl s t ClientWaitSync c → sync_handle s c ≡ Some h → is_signalled (flush_for c t h.object s) h.object ≡ false → waits_forever c ≡ false → (step s t c).reply ≡ record (bare Done) { value = pos EGL_TIMEOUT_EXPIRED } }
+    ensures flush { (s : State) (t n : ℕ) (c : CallValue) → (is_signalled (flush_for c t n s) n ≡ true) ↔ IsSatisfied s t c n }
+    ensures satisfied { (s : State) (t : ℕ) (c : CallValue) (h : Handle) → IsAllowedEgl s t ClientWaitSync c → sync_handle s c ≡ Some h → IsSatisfied s t c h.object → (step s t c).reply ≡ record (bare Done) { value = pos EGL_CONDITION_SATISFIED } }
+    ensures waits { (s : State) (t : ℕ) (c : CallValue) (h : Handle) → IsAllowedEgl s t ClientWaitSync c → sync_handle s c ≡ Some h → IsUnsatisfied s t c h.object → waits_forever c ≡ true → (step s t c).reply ≡ bare Waiting }
+    ensures expires { (s : State) (t : ℕ) (c : CallValue) (h : Handle) → IsAllowedEgl s t ClientWaitSync c → sync_handle s c ≡ Some h → IsUnsatisfied s t c h.object → waits_forever c ≡ false → (step s t c).reply ≡ record (bare Done) { value = pos EGL_TIMEOUT_EXPIRED } }
+    ensures waiting { (s : State) (t : ℕ) (c : CallValue) (h : Handle) → IsAllowedEgl s t ClientWaitSync c → sync_handle s c ≡ Some h → t < length s.threads → IsUnsatisfied s t c h.object → waits_forever c ≡ true → (record_of (step s t c).state t).wait ≡ Some h.object }
+    ensures free { (s : State) (t : ℕ) (c : CallValue) (h : Handle) → IsAllowedEgl s t ClientWaitSync c → sync_handle s c ≡ Some h → t < length s.threads → IsSatisfied s t c h.object ⊎ (waits_forever c ≡ false) → (record_of (step s t c).state t).wait ≡ None }
 {}
 
 /// Only calls that make a handle answer EGL_BAD_ALLOC.
@@ -434,9 +438,10 @@ pub fn creations_alone_want()
     ensures { (s : State) (t : ℕ) (k : EglKind) (c : CallValue) → IsEglCall s t k c → Answers s t c BadAlloc → makes_handle k ≡ true }
 {}
 
-/// A new pbuffer takes the bytes that its refusal counts, and a new context none; so in each history all pixels that live fit.
+/// A new pbuffer and a new surface of a window take the bytes that their refusals count, and a new context none; so in each history all pixels that live fit.
 pub fn all_pixels_fit()
     ensures pbuffer { (s : State) (c : CallValue) → live_bytes (created_pbuffer s c).objects ≡ live_bytes s.objects + asked_bytes c }
+    ensures window { (s : State) (c : CallValue) → live_bytes (created_window s c).objects ≡ live_bytes s.objects + window_bytes s c }
     ensures context { (s : State) (c : CallValue) → live_bytes (created_context s c).objects ≡ live_bytes s.objects }
     ensures step { (s : State) (t : ℕ) (c : CallValue) → PixelsFit s → PixelsFit (step s t c).state }
     ensures history { (windows : List WindowSpec) → windows_ok windows ≡ true → (video : ℕ) (entries : List Entry) → PixelsFit (replay_from (opening windows video) entries) }

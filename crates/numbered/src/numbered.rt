@@ -18,7 +18,7 @@ pub struct NoRoom;
 
 /// Values in a slab, each under a number that its caller gives. Memory goes by the most values that stood there at once.
 ///
-/// Contracts see a list with a place for each number below its length, how many more values fit with no memory, and how many homes the numbers have.
+/// Contracts see a list with a place for each number below its length, how many more values fit with no memory, how many homes the numbers have, and the most values that stood there at once.
 #[derive(Drop)]
 pub struct Numbered<X: Drop> {
     table: Table<usize>,
@@ -26,6 +26,7 @@ pub struct Numbered<X: Drop> {
     end: u64,
     live: u64,
     room: u64,
+    most: u64,
 }
 
 impl<X: Drop> Model for Numbered<X> {
@@ -36,11 +37,11 @@ impl<X: Drop> Model for Numbered<X> {
     ghost coded = { numbered_code X.code };
 
     ghost use Rattle.std.specs.Prelude.{length};
-    ghost use Rattle.numbered.specs.Maps.{held, listed, IsNumbered};
+    ghost use Rattle.numbered.specs.Maps.{held, listed, IsNumbered, IsThrifty};
 
-    ghost view = { λ s. record { items = listed s.end (held s.table s.values); room = s.room; homes = length s.table.homes.items } };
+    ghost view = { λ s. record { items = listed s.end (held s.table s.values); room = s.room; homes = length s.table.homes.items; most = s.most } };
 
-    ghost invariant = { λ s. IsNumbered s.end s.live s.room s.table s.values };
+    ghost invariant = { λ s. IsNumbered s.end s.live s.room s.table s.values × IsThrifty s.live s.most (length s.table.homes.items) };
 }
 
 // The most values that there may be, with the room that was made for more.
@@ -52,6 +53,7 @@ impl<X: Drop> Numbered<X> {
         ensures items { result.items ≡ [] }
         ensures room { result.room ≡ 0 }
         ensures homes { result.homes ≡ 0 }
+        ensures most { result.most ≡ 0 }
     {
         Numbered {
             table: Table::new(alloc),
@@ -59,6 +61,7 @@ impl<X: Drop> Numbered<X> {
             end: 0,
             live: 0,
             room: 0,
+            most: 0,
         }
     }
 
@@ -67,6 +70,8 @@ impl<X: Drop> Numbered<X> {
         ensures items { self.new.items ≡ self.old.items }
         ensures room { OnOk result (self.new.room ≡ more) }
         ensures homes { self.new.homes ≤ max self.old.homes (2 * (count_by is_some self.old.items + more)) }
+        ensures lived { self.new.homes ≤ max self.old.homes (2 * max 1 (count_by is_some self.old.items)) }
+        ensures most { self.new.most ≡ self.old.most }
         ensures err { OnErr result (self.new ≡ self.old) }
     {
         if more > MOST - self.live {
@@ -117,6 +122,7 @@ impl<X: Drop> Numbered<X> {
         ensures same { (m : ℕ) → at self.new.items m ≡ at self.old.items m }
         ensures room { self.new.room ≡ self.old.room }
         ensures homes { self.new.homes ≡ self.old.homes }
+        ensures most { self.new.most ≡ self.old.most }
     {
         if self.end <= n {
             self.end = n + 1;
@@ -131,11 +137,13 @@ impl<X: Drop> Numbered<X> {
         ensures items { self.new.items ≡ slice_set self.old.items n (Some value) }
         ensures room { self.new.room + 1 ≡ self.old.room }
         ensures homes { self.new.homes ≡ self.old.homes }
+        ensures most { self.new.most ≡ max self.old.most (count_by is_some self.new.items) }
     {
         let key = self.values.insert_reserved(value);
         self.table.put(n, key);
         self.live += 1;
         self.room -= 1;
+        self.most = self.most.max(self.live);
     }
 
     /// Takes the value of a number away. Its room stays with the values for the next one that is made room for.
@@ -144,6 +152,7 @@ impl<X: Drop> Numbered<X> {
         ensures items { self.new.items ≡ slice_set self.old.items n None }
         ensures room { self.new.room ≡ self.old.room }
         ensures homes { self.new.homes ≡ self.old.homes }
+        ensures most { self.new.most ≡ self.old.most }
     {
         match self.table.take(n) {
             Some(key) => {
@@ -161,6 +170,7 @@ impl<X: Drop> Numbered<X> {
         ensures items { self.new.items ≡ slice_set self.old.items n None }
         ensures room { self.new.room ≡ self.old.room }
         ensures homes { self.new.homes ≡ self.old.homes }
+        ensures most { self.new.most ≡ self.old.most }
     {
         match self.table.take(n) {
             Some(key) => {
@@ -171,10 +181,12 @@ impl<X: Drop> Numbered<X> {
         }
     }
 
-    /// There are few values. This is a law: there is nothing to run.
+    /// There are few values, and at most twice as many homes as there were values at one time, or two. This is a law: there is nothing to run.
     pub fn few(&self)
         ensures few { count_by is_some self.now.items + self.now.room < 2 ^ 32 }
         ensures long { length self.now.items < 2 ^ 64 }
+        ensures most { count_by is_some self.now.items ≤ self.now.most }
+        ensures homes { self.now.homes ≤ 2 * max 1 self.now.most }
     {
         let _end = self.end;
     }

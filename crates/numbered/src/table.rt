@@ -152,10 +152,12 @@ impl<X: Drop> Table<X> {
         ensures ok { OnOk result (more ≤ spare self.new.others) }
         ensures room { spare self.old.others ≤ spare self.new.others }
         ensures homes { length self.new.homes.items ≤ max (length self.old.homes.items) (2 * (values + more)) }
+        ensures lived { length self.new.homes.items ≤ max (length self.old.homes.items) (2 * max 1 values) }
         ensures err { OnErr result (length self.new.homes.items ≡ length self.old.homes.items) }
     {
         self.others.reserve(more as usize)?;
-        if (self.homes.len() as u64) < values.saturating_add(more) {
+        // Where each home may be taken, one more value may find none.
+        if more > 0 && self.homes.len() as u64 <= values {
             self.widen();
         }
         Ok(())

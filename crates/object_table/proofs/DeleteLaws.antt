@@ -3,7 +3,7 @@ use Rattle.std.proofs.Common.{◌≡◌, ◌⊎◌, ℕ, ◌+◌, ◌<◌, Bool,
 use Rattle.std.specs.Prelude.{IsSome, is_some}
 use Rattle.std.specs.List.{sum_by}
 use Rattle.std.specs.Option.{option_and_then, option_map_or}
-use Rattle.std.proofs.lemmas.Bool.{cases_Bool, cases_eq, cases_lt, eqb-true, false≢true}
+use Rattle.std.proofs.lemmas.Bool.{cases_Bool, cases_eq, cases_lt, false≢true}
 use Rattle.std.proofs.lemmas.List.{get_or-set_other, get_or-set_same, get_or_past, length-set, set-get_or, set-set, set_past}
 use Rattle.std.proofs.lemmas.List.Sums.{sum_by-set}
 use Rattle.driver_objects.specs.Links.{bound_in}
@@ -24,6 +24,7 @@ use Rattle.share_group.specs.Groups.{GroupValue, names_of}
 use Rattle.share_group.specs.Names.{object_of}
 use Rattle.share_group.specs.declared.names.NameKind.{NameKind}
 use Rattle.share_group.specs.declared.names.NameKind.TheVariants.{Buffer as buffers}
+use Rattle.object_table.specs.Keeps.{is_placed}
 use Rattle.object_table.specs.Links.{IsLeft, IsLeftWith, edge_in, has_slot_in, linked_in}
 use Rattle.object_table.specs.Tables.{LeadsDown, weight_of}
 use Rattle.object_table.proofs.LeftLaws.{left_self, left_then}
@@ -68,10 +69,6 @@ left_set f none n w a is h = record {
 }
 
 -- ---- An object is unbound from a context that has it bound to a target.
-pub is_placed : (x : ℕ) (o : Option ℕ) → is_place x o ≡ true → o ≡ Some x
-is_placed x None h = absurd (false≢true h)
-is_placed x (Some m) h = ap Some (eqb-true m x h)
-
 -- whether a context has an object bound there
 abbrev has_there : BindTarget → ℕ → Option Object → Bool
 has_there b x o = option_map_or (λ c. is_place x (bound_in (slot_of b) c.bound)) (as_context o) false

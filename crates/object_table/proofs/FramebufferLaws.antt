@@ -18,9 +18,10 @@ use Rattle.framebuffer_objects.specs.Framebuffers.{FramebufferValue, at_point, o
 use Rattle.framebuffer_objects.specs.declared.framebuffers.Attached.{Attached}
 use Rattle.framebuffer_objects.specs.declared.points.Point.{Point}
 use Rattle.framebuffer_objects.specs.declared.points.Point.TheVariants.{Color, Depth, Stencil}
+use Rattle.object_table.specs.Keeps.{is_placed, renamed_slots}
 use Rattle.object_table.specs.Links.{IsLeft, edge_in, has_slot_in, is_fixed_in, linked_in, renamed}
 use Rattle.object_table.specs.Tables.{weight_of}
-use Rattle.object_table.proofs.DeleteLaws.{changed_at, is_placed, left_change}
+use Rattle.object_table.proofs.DeleteLaws.{changed_at, left_change}
 use Rattle.object_table.proofs.LeftLaws.{left_self, left_then}
 
 framebuffer_there : (o : Option Object) → is_some (as_framebuffer o) ≡ true → (f : FramebufferValue) × (o ≡ Some (Framebuffer f))
@@ -45,11 +46,6 @@ pub part_below : (os : List (Option Object)) (t n : ℕ) → IsSome (get_or os t
 part_below os t n h k = (h.0, let r = framebuffer_rank (get_or os n None) k in let l = h.1 in omega (arith, r, l))
 
 -- ---- What is attached gets its name, where it is the object that was attached.
-pub renamed_slots : (p : Point) (a : Attached) (v : FramebufferValue) → framebuffer_slots (renamed p a v) ≡ framebuffer_slots v
-renamed_slots Color a v = cond_both (is_place a.object (object_of v.color)) (with_point Color (Some a) v) v (λ w. framebuffer_slots w ≡ framebuffer_slots v) (λ e. ap (λ o. o ∷ object_of v.depth ∷ object_of v.stencil ∷ []) (sym (is_placed a.object (object_of v.color) e))) (λ e. refl)
-renamed_slots Depth a v = cond_both (is_place a.object (object_of v.depth)) (with_point Depth (Some a) v) v (λ w. framebuffer_slots w ≡ framebuffer_slots v) (λ e. ap (λ o. object_of v.color ∷ o ∷ object_of v.stencil ∷ []) (sym (is_placed a.object (object_of v.depth) e))) (λ e. refl)
-renamed_slots Stencil a v = cond_both (is_place a.object (object_of v.stencil)) (with_point Stencil (Some a) v) v (λ w. framebuffer_slots w ≡ framebuffer_slots v) (λ e. ap (λ o. object_of v.color ∷ object_of v.depth ∷ o ∷ []) (sym (is_placed a.object (object_of v.stencil) e))) (λ e. refl)
-
 rename_same : (p : Point) (a : Attached) (o : Option Object) → option_map_or (λ (x : Object). 1 + length (edges_of x)) (with_framebuffer (renamed p a) o) 0 ≡ option_map_or (λ (x : Object). 1 + length (edges_of x)) o 0
 rename_same p a (Some (Framebuffer v)) = ap (λ xs. 1 + length (filled xs)) (renamed_slots p a v)
 rename_same p a o = refl

@@ -8,11 +8,12 @@ ghost use Rattle.egl_model.specs.Objects.{as_framebuffer, change_framebuffer, fr
 ghost use Rattle.egl_model.specs.Parts.{is_place};
 ghost use Rattle.framebuffer_objects.specs.Framebuffers.{at_point, object_of, with_point};
 ghost use Rattle.ref_store.specs.Kept.{at, AllIn};
-ghost use Rattle.object_table.specs.Changes.{ChangesOne};
+ghost use Rattle.object_table.specs.Keeps.{framebuffer_counted, renamed_slots};
 ghost use Rattle.object_table.specs.Links.{IsLeft, renamed};
 ghost use Rattle.object_table.specs.Nodes.{object_in};
 ghost use Rattle.object_table.specs.Tables.{weight_of};
 
+use crate::changes::{Change, edit_at};
 use crate::reads::object_at;
 use crate::stored::Stored;
 use crate::table::ObjectTable;
@@ -69,24 +70,25 @@ fn set_point(framebuffer: &mut Framebuffer, point: Point, attached: Attached)
     }
 }
 
-fn rename_in(object: &mut Object, point: Point, attached: Attached)
-    ensures { Some object.new ≡ with_framebuffer (renamed point attached) (Some object.old) }
-{
-    if let Object::Framebuffer(framebuffer) = object {
-        if is_attached(framebuffer, point, attached.object) {
-            set_point(framebuffer, point, attached);
-        }
-    }
+#[derive(Drop)]
+struct Rename {
+    point: Point,
+    attached: Attached,
 }
 
-fn rename_at(store: &mut Store<Stored>, n: u64, point: Point, attached: Attached)
-    requires { AllIn store.old.nodes }
-    ensures { ChangesOne store.old n (with_framebuffer (renamed point attached)) store.new }
-{
-    if store.get(n).is_some() {
-        let mut stored = store.take_node(n);
-        rename_in(&mut stored.object, point, attached);
-        store.put_node(n, stored);
+impl Change for Rename {
+    type Output = ();
+
+    ghost after = { λ e r o. with_framebuffer (renamed e.point e.attached) o };
+
+    ghost keeps = { λ e r x y m h. framebuffer_counted (renamed e.point e.attached) (renamed_slots e.point e.attached) x y h };
+
+    fn change(self, object: &mut Object) {
+        if let Object::Framebuffer(framebuffer) = object {
+            if is_attached(framebuffer, self.point, self.attached.object) {
+                set_point(framebuffer, self.point, self.attached);
+            }
+        }
     }
 }
 
@@ -110,7 +112,7 @@ impl ObjectTable {
         ensures value { self.new ≡ record self.old { objects = change_framebuffer (renamed point attached) n self.old.objects } }
         ensures weight { weight_of self.new.objects ≡ weight_of self.old.objects }
     {
-        rename_at(&mut self.store, n, point, attached);
+        edit_at(&mut self.store, n, Rename { point, attached }, ());
     }
 
     /// Attaches an object at a point of a framebuffer under a name, or detaches what is there. What nothing reaches any more from what is held is gone then. It takes no memory.

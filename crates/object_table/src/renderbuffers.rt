@@ -1,11 +1,12 @@
 //! The renderbuffers of a table (OES_framebuffer_object).
-ghost use Rattle.std.specs.Prelude.{◌≡◌, Some, is_some, option_copied};
+ghost use Rattle.std.specs.Prelude.{◌≡◌, refl, is_some, option_copied};
 ghost use Rattle.egl_model.specs.Objects.{as_renderbuffer, change_renderbuffer, renderbuffer_in, with_renderbuffer};
 ghost use Rattle.egl_model.specs.Renderbuffers.{with_kind};
 ghost use Rattle.ref_store.specs.Kept.{at, AllIn};
-ghost use Rattle.object_table.specs.Changes.{ChangesOne};
+ghost use Rattle.object_table.specs.Keeps.{renderbuffer_counted};
 ghost use Rattle.object_table.specs.Nodes.{object_in};
 
+use crate::changes::{Change, edit_at};
 use crate::reads::object_at;
 use crate::stored::Stored;
 use crate::table::ObjectTable;
@@ -30,22 +31,22 @@ fn renderbuffer_at(store: &Store<Stored>, n: u64) -> Option<&BackedRenderbuffer>
     }
 }
 
-fn set_kind_in(object: &mut Object, kind: Renderbuffer)
-    ensures { Some object.new ≡ with_renderbuffer (with_kind kind) (Some object.old) }
-{
-    if let Object::Renderbuffer(renderbuffer) = object {
-        renderbuffer.renderbuffer = kind;
-    }
+#[derive(Drop)]
+struct SetKind {
+    kind: Renderbuffer,
 }
 
-fn set_kind_at(store: &mut Store<Stored>, n: u64, kind: Renderbuffer)
-    requires { AllIn store.old.nodes }
-    ensures { ChangesOne store.old n (with_renderbuffer (with_kind kind)) store.new }
-{
-    if store.get(n).is_some() {
-        let mut stored = store.take_node(n);
-        set_kind_in(&mut stored.object, kind);
-        store.put_node(n, stored);
+impl Change for SetKind {
+    type Output = ();
+
+    ghost after = { λ e r o. with_renderbuffer (with_kind e.kind) o };
+
+    ghost keeps = { λ e r x y m h. renderbuffer_counted (with_kind e.kind) (λ v. refl) x y h };
+
+    fn change(self, object: &mut Object) {
+        if let Object::Renderbuffer(renderbuffer) = object {
+            renderbuffer.renderbuffer = self.kind;
+        }
     }
 }
 
@@ -68,6 +69,6 @@ impl ObjectTable {
     pub fn set_kind(&mut self, n: u64, kind: Renderbuffer)
         ensures { self.new ≡ record self.old { objects = change_renderbuffer (with_kind kind) n self.old.objects } }
     {
-        set_kind_at(&mut self.store, n, kind);
+        edit_at(&mut self.store, n, SetKind { kind }, ());
     }
 }

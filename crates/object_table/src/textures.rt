@@ -1,14 +1,15 @@
 //! The textures of a table.
-ghost use Rattle.std.specs.Prelude.{◌≡◌, None, Some, All, IfSome, is_some, length, slice_index_or};
+ghost use Rattle.std.specs.Prelude.{◌≡◌, refl, None, All, IfSome, is_some, length, slice_index_or};
 ghost use Rattle.std.specs.Option.{option_and_then};
 ghost use Rattle.egl_calls.specs.Ranges.{IsNumber};
 ghost use Rattle.egl_model.specs.Arguments.{number};
 ghost use Rattle.egl_model.specs.Objects.{as_texture, change_texture, texture_in, with_texture};
 ghost use Rattle.egl_model.specs.Textures.{storage_at, with_crop, with_value};
 ghost use Rattle.ref_store.specs.Kept.{at, AllIn};
-ghost use Rattle.object_table.specs.Changes.{ChangesOne};
+ghost use Rattle.object_table.specs.Keeps.{texture_counted};
 ghost use Rattle.object_table.specs.Nodes.{object_in};
 
+use crate::changes::{Change, edit_at};
 use crate::reads::object_at;
 use crate::stored::Stored;
 use crate::table::ObjectTable;
@@ -62,24 +63,25 @@ fn level_at(store: &Store<Stored>, n: u64, level: u64) -> Option<u64>
     }
 }
 
-fn set_parameter_in(object: &mut Object, call: &Call)
-    ensures { Some object.new ≡ with_texture (with_value (number call.now 1) (number call.now 2)) (Some object.old) }
-{
-    if let Object::Texture(texture) = object {
-        texture
-            .texture
-            .set_param(signed(call, BOUND_PNAME), signed(call, BOUND_PARAM));
-    }
+#[derive(Drop)]
+struct SetParameter<'a> {
+    call: &'a Call,
 }
 
-fn set_parameter_at(store: &mut Store<Stored>, n: u64, call: &Call)
-    requires { AllIn store.old.nodes }
-    ensures { ChangesOne store.old n (with_texture (with_value (number call.now 1) (number call.now 2))) store.new }
-{
-    if store.get(n).is_some() {
-        let mut stored = store.take_node(n);
-        set_parameter_in(&mut stored.object, call);
-        store.put_node(n, stored);
+impl<'a> Change for SetParameter<'a> {
+    type Output = ();
+
+    ghost after = { λ e r o. with_texture (with_value (number e.call.now 1) (number e.call.now 2)) o };
+
+    ghost keeps = { λ e r x y m h. texture_counted (with_value (number e.call.now 1) (number e.call.now 2)) (λ v. refl) x y h };
+
+    fn change(self, object: &mut Object) {
+        if let Object::Texture(texture) = object {
+            texture.texture.set_param(
+                signed(self.call, BOUND_PNAME),
+                signed(self.call, BOUND_PARAM),
+            );
+        }
     }
 }
 
@@ -93,25 +95,25 @@ fn crop_of(call: &Call) -> [i64; 4]
     [numbers[0], numbers[1], numbers[2], numbers[3]]
 }
 
-fn set_crop_in(object: &mut Object, call: &Call)
-    requires { length call.now.list ≡ 4 }
-    ensures { Some object.new ≡ with_texture (with_crop call.now.list) (Some object.old) }
-{
-    if let Object::Texture(texture) = object {
-        let [left, bottom, width, height] = crop_of(call);
-        texture.texture.set_crop(left, bottom, width, height);
-    }
+#[derive(Drop)]
+struct SetCrop<'a> {
+    call: &'a Call,
 }
 
-fn set_crop_at(store: &mut Store<Stored>, n: u64, call: &Call)
-    requires four { length call.now.list ≡ 4 }
-    requires all_in { AllIn store.old.nodes }
-    ensures { ChangesOne store.old n (with_texture (with_crop call.now.list)) store.new }
-{
-    if store.get(n).is_some() {
-        let mut stored = store.take_node(n);
-        set_crop_in(&mut stored.object, call);
-        store.put_node(n, stored);
+impl<'a> Change for SetCrop<'a> {
+    type Output = ();
+
+    ghost may = { λ e o. length e.call.now.list ≡ 4 };
+
+    ghost after = { λ e r o. with_texture (with_crop e.call.now.list) o };
+
+    ghost keeps = { λ e r x y m h. texture_counted (with_crop e.call.now.list) (λ v. refl) x y h };
+
+    fn change(self, object: &mut Object) {
+        if let Object::Texture(texture) = object {
+            let [left, bottom, width, height] = crop_of(self.call);
+            texture.texture.set_crop(left, bottom, width, height);
+        }
     }
 }
 
@@ -141,7 +143,7 @@ impl ObjectTable {
     pub fn set_parameter(&mut self, n: u64, call: &Call)
         ensures { self.new ≡ record self.old { objects = change_texture (with_value (number call.now 1) (number call.now 2)) n self.old.objects } }
     {
-        set_parameter_at(&mut self.store, n, call);
+        edit_at(&mut self.store, n, SetParameter { call }, ());
     }
 
     /// Sets the crop rectangle of a texture that a glTexParameteriv gives (OES_draw_texture).
@@ -149,6 +151,6 @@ impl ObjectTable {
         requires { length call.now.list ≡ 4 }
         ensures { self.new ≡ record self.old { objects = change_texture (with_crop call.now.list) n self.old.objects } }
     {
-        set_crop_at(&mut self.store, n, call);
+        edit_at(&mut self.store, n, SetCrop { call }, ());
     }
 }

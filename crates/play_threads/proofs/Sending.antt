@@ -8,6 +8,7 @@ use Rattle.egl_calls.specs.contracts.lists.List as list
 use Rattle.egl_calls.specs.contracts.payloads.Payload as payload
 use Rattle.egl_calls.specs.contracts.kinds.Kind as kind
 use Rattle.egl_calls.specs.contracts.calls.Call as call
+use Rattle.egl_calls.specs.contracts.replies.Reply as reply
 use Rattle.egl_calls.specs.contracts.calls.Call.TheInside as inside
 use Rattle.surface_store.specs.contracts.windows.WindowSpec as window
 use Rattle.trace_reader.specs.contracts.traces.Reference as reference
@@ -15,8 +16,9 @@ use Rattle.trace_reader.specs.contracts.traces.Line as line
 use Rattle.trace_reader.specs.contracts.traces.Trace as trace
 use Rattle.trace_session.specs.contracts.chains.Chains as chains
 use Rattle.atomic_table.proofs.shared.Seat.TheSendSync as seat
+use Rattle.once_cell.proofs.race.once_box.OnceBox.TheSendSync as once
 use Rattle.shared_driver.specs.contracts.tokens.Thread as thread
-use Rattle.shared_driver.proofs.Sending.{bytes_send, bytes_sync, core_send, entry_send, part_send}
+use Rattle.shared_driver.proofs.Sending.{bytes_send, bytes_sync, core_send, entry_send, part_send, reply_send}
 use Rattle.play_threads.specs.contracts.starts.Start as start
 use Rattle.play_threads.specs.contracts.workers.Worker as worker
 
@@ -51,9 +53,12 @@ window_sync = search (sendable, crosses) depth 60 fits 20000
 pub trace_sync : IsSync trace.the_row
 trace_sync = let a = line_sync in let b = window_sync in search (sendable, crosses) depth 60 fits 20000
 
--- so may what was found of its lines
+pub reply_sync : IsSync reply.the_row
+reply_sync = let a = numbers_sync in let b = bytes_sync in search (sendable, crosses) depth 60
+
+-- so may what was found of its lines, with the lists of its answers
 pub chains_sync : IsSync chains.the_row
-chains_sync = search (sendable, crosses) depth 60 fits 20000
+chains_sync = let a = reply_send in let b = reply_sync in search (sendable, crosses, once.the_sync) depth 60 fits 20000
 
 -- and the count of those that have begun
 pub start_sync : IsSync start.the_row

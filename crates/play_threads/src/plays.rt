@@ -100,7 +100,7 @@ pub fn play<R: Threads + Wait + Sync, G: Gate + Sync>(
 {
     // That a trace's lines are in order stands on `lines`.
     trace.lines();
-    let Ok(chains) = Chains::new(alloc, trace) else {
+    let Ok(chains) = Chains::shared(alloc, trace) else {
         return Err(RunError::NoMemory);
     };
     let Ok(run) = run(rt, alloc, trace, &chains, gate) else {

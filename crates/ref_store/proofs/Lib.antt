@@ -13,3 +13,4 @@ pub mod FreesLaws
 pub mod ReachedLaws
 pub mod EmptyPlaces
 pub mod SumLaws
+pub mod EditLaws

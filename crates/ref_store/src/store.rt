@@ -4,6 +4,7 @@ ghost use Rattle.std.specs.Prelude.{◌≡◌, ℕ, ◌+◌, ◌<◌, ◌≤◌,
 ghost use Rattle.ref_store.specs.Kept.{at, node_at, outside_at, shown_in, is_out_in, rank_at, slot_of, AllIn};
 ghost use Rattle.ref_store.specs.Counts.{times, count};
 ghost use Rattle.ref_store.specs.Changes.{change, hold_less, hold_more, taken, put, with_node, with_edge, Adds};
+ghost use Rattle.ref_store.specs.Edits.{Edits};
 ghost use Rattle.ref_store.specs.Frees.{Frees};
 ghost use Rattle.ref_store.specs.Costs.{weight, freed_cost};
 ghost use Rattle.ref_store.specs.Laws.{IsLinked};
@@ -11,6 +12,8 @@ ghost use Rattle.ref_store.specs.Sums.{sum_of, one_of};
 
 use crate::adding::put_new_in;
 use crate::counted::Counted;
+use crate::editing::edit_in;
+use crate::edits::Edit;
 use crate::holds::{hold_in, release_in};
 use crate::linking::link_in;
 use crate::memory::NoMemory;
@@ -143,6 +146,19 @@ impl<K: Node> Store<K> {
         ensures all_in { AllIn self.new.nodes }
     {
         put_in(&mut self.cells, id, node);
+    }
+
+    /// Changes a stored node where it stands, and answers what the change does; `None` where nothing is stored. It looks the
+    /// node up once, and takes no memory but what the change takes.
+    pub fn edit<E: Edit<K>>(&mut self, id: u64, edit: E) -> Option<E::Output>
+        requires all_in { AllIn self.old.nodes }
+        requires may { IfSome (node_at self.old.nodes id) (E.may edit) }
+        ensures edits { Edits (E.does edit) self.old.nodes id result self.new.nodes }
+        ensures room { self.new.room ≡ self.old.room }
+        ensures counts { (n : ℕ) → count K.edges self.new.nodes n ≡ count K.edges self.old.nodes n }
+        ensures all_in { AllIn self.new.nodes }
+    {
+        edit_in(&mut self.cells, id, edit)
     }
 
     /// Holds a stored node from outside once more, at most 4,294,967,295 times. It takes no memory.

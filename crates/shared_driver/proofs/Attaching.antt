@@ -1,7 +1,7 @@
 -- A token makes another.
-use Rattle.std.proofs.Common.{◌≡◌, ◌≢◌, ℕ, zero, suc, ◌<◌, ◌≤◌, ◌+◌, ◌-◌, Bool, true, false, cond, List, [], ◌∷◌, ◌++◌, arith, refl, sym, ap, ◌∙◌, subst, length, get_or, set, filter, Some}
+use Rattle.std.proofs.Common.{◌≡◌, ◌≢◌, ℕ, zero, suc, ◌<◌, ◌≤◌, ◌+◌, ◌-◌, Bool, true, false, cond, List, [], ◌∷◌, ◌++◌, arith, refl, sym, ap, ◌∙◌, subst, length, get_or, set, filter, Some, inl, inr}
 use mathlib.Core.Path.{fun_ext}
-use Rattle.std.specs.Prelude.{All, slice_index}
+use Rattle.std.specs.Prelude.{All, Contains, slice_index, ◌⊎◌}
 use Rattle.std.specs.List.{range_with_len}
 use Rattle.std.proofs.lemmas.List.{append-nil, get_or-set_other, get_or-set_same, length-append, length-set}
 use Rattle.std.proofs.lemmas.List.Elements.{All-append}
@@ -91,12 +91,11 @@ pub rooms_own : (x y : Core) (n room : ℕ) → n < length x.rooms.items → y.r
 rooms_own x y n room h rooms =
     ap (λ l. slice_index l n) rooms ∙ get_or-set_same (x.rooms.items ++ 258 ∷ []) n room 0 (let k = length-append x.rooms.items (258 ∷ []) in omega (arith, h, k))
 
-pub room_gives : (a : Bool) (places len r : ℕ) → room_for a + places + len + 0 ≤ r → places ≤ 256 → room_for a + 256 ≤ (r - len) + (256 - places)
-room_gives a places len r h m = omega (arith, h, m)
+pub room_gives : (a places len r p : ℕ) → r ≡ a + places + len + p → places ≤ 256 → (r - len) + (256 - places) ≡ a + 256 + p
+room_gives a places len r p h m = omega (arith, h, m)
 
-pub room_given : (a : Bool) (places len r : ℕ) → room_for a + places + len + 0 ≤ r → 0 < (r - len) + (256 - places)
-room_given true places len r h = omega (arith, h)
-room_given false places len r h = omega (arith, h)
+pub room_given : (len r k : ℕ) → len < r → 0 < (r - len) + k
+room_given len r k h = omega (arith, h)
 
 -- ---- What the new token holds.
 pub record IsNewcomer (v : View Core Entry) (number : ℕ) (p : Private) (tail : List Entry) : Type 0 where
@@ -105,7 +104,7 @@ pub record IsNewcomer (v : View Core Entry) (number : ℕ) (p : Private) (tail :
   pub legal : IsLegalAt (start_in v.first) (v.seen ++ tail)
   pub local : are_local (replay_from (start_in v.first) v.seen) number tail ≡ true
   pub part : p ≡ part_after (start_in v.first) number (v.seen ++ tail)
-  pub room : room_for false + 256 + length tail ≤ slice_index v.rooms v.number
+  pub room : slice_index v.rooms v.number ≡ room_for false + 256 + length tail + 0
   pub many : 256 + length tail ≤ 256
   pub mine : of_number v.number (v.seen ++ tail) ≡ []
 
@@ -133,10 +132,28 @@ new_token f t u z y v number p tail b is turn same new made part none =
       legal = subst (λ (q : State × List Entry). IsLegalAt q.0 q.1) (λ j. (sym first j, sym all j)) (legal_at o (y.journal.entries ++ []) turn.legal);
       local = ap (λ l. are_local (replay_from (start_in v.first) v.seen) number l) none;
       part = part ∙ ap (λ (q : State × List Entry). part_after q.0 number q.1) (λ j. (sym first j, sym (all ∙ append-nil y.journal.entries ∙ same) j));
-      room = subst (λ (q : List Entry × ℕ). room_for false + 256 + length q.0 ≤ q.1) (λ j. (sym none j, sym own j)) (omega arith);
+      room = own ∙ ap (λ (l : List Entry). room_for false + 256 + length l + 0) (sym none);
       many = subst (λ (l : List Entry). 256 + length l ≤ 256) (sym none) (omega arith);
       mine = ap (of_number v.number) (all ∙ append-nil y.journal.entries ∙ same) ∙ none_new v.number z.driver.made (z.journal.entries ++ u.tail.items) below n;
     }
+
+-- its number is that of the tokens made before
+number_is : (f : Core) (t u : Holding) (z : Core) (v : View Core Entry) (es : List Entry) → Begun f t u z → v ≡ fresh 258 es (view_of u.pass) → v.number ≡ z.driver.made
+number_is f t u z v es b new = ap (λ (q : View Core Entry). q.number) new ∙ ap (λ (q : View Core Entry). q.counts.made) b.view
+
+pub counted_before : (f : Core) (t u : Holding) (z : Core) (v : View Core Entry) (es : List Entry) → Begun f t u z → v ≡ fresh 258 es (view_of u.pass) → (view_of t.pass).counts.made ≤ v.number
+counted_before f t u z v es b new = subst (λ m. (view_of t.pass).counts.made ≤ m) (sym (number_is f t u z v es b new)) b.made_counted
+
+pub owned_before : (f : Core) (t u : Holding) (z : Core) (v w : View Core Entry) (es : List Entry) → Begun f t u z → v ≡ fresh 258 es (view_of u.pass) → w.number ≡ (view_of t.pass).number → w.ended ≡ (view_of t.pass).ended
+    → (n : ℕ) → (n ≡ w.number) ⊎ (Contains w.ended n) → n < v.number
+owned_before f t u z v w es b new number ended n own = subst (λ m. n < m) (sym (number_is f t u z v es b new)) (below own)
+  where
+    its : w.number ≡ u.number
+    its = number ∙ sym (b.numbered ∙ ap (λ (q : View Core Entry). q.number) b.view)
+
+    below : (n ≡ w.number) ⊎ (Contains w.ended n) → n < z.driver.made
+    below (inl e) = subst (λ m. m < z.driver.made) (sym (e ∙ its)) (subst (λ m. u.number < m) b.turn.known b.turn.number)
+    below (inr h) = b.ended_below n (subst (λ l. Contains l n) ended h)
 
 pub not_halted : (n : ℕ) (es : List Entry) → of_number n es ≡ [] → false ≡ has_halted n es
 unfolding has_halted

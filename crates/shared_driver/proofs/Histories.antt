@@ -144,7 +144,7 @@ sound_at ws video sides =
       sides = sides_of_none ws;
       alone = record { contexts = k.whole.alone.contexts; surfaces = k.whole.alone.surfaces };
       both = record { draw = k.whole.both.draw; read = k.whole.both.read };
-      numbers = record { handles = k.whole.numbers.handles; apart = k.whole.numbers.apart; context = k.whole.numbers.context; draw = k.whole.numbers.draw; read = k.whole.numbers.read };
+      numbers = record { next = k.whole.numbers.next; handles = k.whole.numbers.handles; apart = k.whole.numbers.apart; context = k.whole.numbers.context; draw = k.whole.numbers.draw; read = k.whole.numbers.read };
     } in
     record { litter = record { each = k.litter.each }; linked = linked_from s w; whole = w; full = record { each = λ n. tt; windows = sides }; pixels = k.pixels }
 

@@ -73,7 +73,7 @@ pub record IsFirst (v : View Core Entry) (p : Private) (tail : List Entry) : Typ
   pub legal : IsLegalAt (start_in v.first) (v.seen ++ tail)
   pub local : are_local (replay_from (start_in v.first) v.seen) 0 tail ≡ true
   pub part : p ≡ part_after (start_in v.first) 0 (v.seen ++ tail)
-  pub room : room_for false + 256 + length tail ≤ slice_index v.rooms v.number
+  pub room : slice_index v.rooms v.number ≡ room_for false + 256 + length tail + 0
   pub many : 256 + length tail ≤ 256
   pub halts : false ≡ has_halted v.number (v.seen ++ tail)
   pub counted : false ≡ true → v.counts.live ≡ 1
@@ -87,7 +87,7 @@ first_at f s p e sides part rooms = record {
   legal = refl;
   local = refl;
   part = part ∙ ap (λ (q : State). part_of q 0) (sym e);
-  room = subst (λ (l : List ℕ). 258 ≤ slice_index l 0) (sym rooms) (omega arith);
+  room = ap (λ (l : List ℕ). slice_index l 0) rooms;
   many = omega arith;
   halts = refl;
   counted = λ h. absurd (let g : false ≡ true = h in cc);

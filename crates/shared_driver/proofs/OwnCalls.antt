@@ -47,8 +47,8 @@ never_halts p (Egl k) h = refl
 never_halts p (Gl k) h = refl
 never_halts p (Own k) h = absurd (let e : false ≡ true = h in cc)
 
-pub room_then : (a places own : ℕ) (tail : List Entry) (e : Entry) → 0 < places → a + places + length tail ≤ own → a + (places - 1) + length (tail ++ e ∷ []) ≤ own
-room_then a places own tail e l h = let k = length-append tail (e ∷ []) in omega (arith, l, h, k)
+pub room_then : (a places own p : ℕ) (tail : List Entry) (e : Entry) → 0 < places → own ≡ a + places + length tail + p → own ≡ a + (places - 1) + length (tail ++ e ∷ []) + p
+room_then a places own p tail e l h = let k = length-append tail (e ∷ []) in omega (arith, l, h, k)
 
 pub many_then : (places own : ℕ) (tail : List Entry) (e : Entry) → 0 < places → places + length tail ≤ own → (places - 1) + length (tail ++ e ∷ []) ≤ own
 many_then places own tail e l h = let k = length-append tail (e ∷ []) in omega (arith, l, h, k)

@@ -28,7 +28,7 @@ use Rattle.turn_lock.specs.declared.view.View.{View}
 use Rattle.shared_driver.specs.declared.cores.Core.{Core}
 use Rattle.shared_driver.specs.declared.tokens.Holding.{Holding}
 use Rattle.shared_driver.specs.Cores.{IsLegalAt, are_local, entry, meaning, origin, owed, part_after, room_for, start_in}
-use Rattle.shared_driver.specs.Tokens.{Goes, Includes, Learns, Token, mine}
+use Rattle.shared_driver.specs.Tokens.{AreDisjoint, Goes, Includes, Learns, Token, mine}
 use Rattle.shared_driver.specs.Turns.{Begun, Ends, Holds, IsTurn, Retires}
 use Rattle.driver_core.proofs.AwayLaws.{part-hide}
 use Rattle.shared_driver.proofs.Histories.{IsLate, legal_at, legal_from, of_thread, ready_at, ready_replay}
@@ -127,6 +127,8 @@ begun f t u x z y p h is found lent some view number tail driver away kept =
       ended_rooms = λ n i. ap (λ (l : List ℕ). slice_index l n) (sym rooms) ∙ found.ended_rooms n i;
       sole = λ e. sym live ∙ found.sole e;
       below = subst (λ (q : List Entry × ℕ). All (λ (e : Entry). e.thread < q.1) q.0) (λ j. (es j, made j)) found.below;
+      ended_below = λ n i. subst (λ m. n < m) made (found.ended_below n i);
+      made_counted = subst (λ m. v.counts.made ≤ m) made found.made_counted;
       few_made = subst (λ m. m ≤ 65536) made found.few;
       some_live = subst (λ m. 1 ≤ m) live found.some_live;
       live_few = subst (λ (q : ℕ × ℕ). q.0 ≤ q.1) (λ j. (live j, made j)) found.live_few;
@@ -312,92 +314,93 @@ hands_mine t w number g = mine_goes (tok t) (tok w) [] number g ∙ append-nil _
 pub keeps_mine : (t w : Holding) → (view_of w.pass).number ≡ (view_of t.pass).number → Learns (tok t) (tok w) → mine (tok w) ≡ mine (tok t)
 keeps_mine t w number g = mine_learns (tok t) (tok w) number g
 
--- ---- Rooms of tokens.
-pub room_stays : (a b : Bool) (r : ℕ) → room_for a ≤ r → room_for (a || b) ≤ r
-room_stays true b r h = h
-room_stays false true r h = omega arith
-room_stays false false r h = h
+-- ---- Rooms of tokens: p is the place for the end of a wait.
+pub no_place : (r p : ℕ) → p ≡ 0 → r + p ≡ r
+no_place r p h = omega (arith, h)
 
--- the room that a token asks for, as its turn finds it
-pub room_of : (f : Core) (t u : Holding) (x : Core) (halted : Bool) (places more : ℕ) → Begun f t u x → room_for halted + places + length t.tail.items + more ≤ slice_index (view_of t.pass).rooms (view_of t.pass).number
-    → room_for halted + places + length u.tail.items + more ≤ slice_index x.rooms.items u.number
-room_of f t u x halted places more b h = subst (λ (q : List Entry × ℕ). room_for halted + places + length q.0 + more ≤ q.1) (λ j. ((sym b.same_tail j).items, sym b.own_room j)) h
+-- a token that didn't halt hasn't used its place for that
+pub unused : (used halted : Bool) → (used ≡ true → halted ≡ true) → halted ≡ false → used ≡ false
+unused true halted h e = absurd (let g : false ≡ true = sym e ∙ h refl in cc)
+unused false halted h e = refl
 
-none_more : (a r : ℕ) → a ≤ r → a + 0 ≤ r
-none_more a r h = omega (arith, h)
-
-pub room_found : (f : Core) (t u : Holding) (x : Core) (halted : Bool) (places : ℕ) → Begun f t u x → room_for halted + places + length t.tail.items ≤ slice_index (view_of t.pass).rooms (view_of t.pass).number
-    → room_for halted + places + length u.tail.items + 0 ≤ slice_index x.rooms.items u.number
-room_found f t u x halted places b h = room_of f t u x halted places 0 b (none_more _ _ h)
+-- the token's room, as its turn finds it
+pub room_found : (f : Core) (t u : Holding) (x : Core) (a places p : ℕ) → Begun f t u x → slice_index (view_of t.pass).rooms (view_of t.pass).number ≡ a + places + length t.tail.items + p
+    → slice_index x.rooms.items u.number ≡ a + places + length u.tail.items + p
+room_found f t u x a places p b h = b.own_room ∙ h ∙ ap (λ (l : List Entry). a + places + length l + p) (sym (ap (λ q. q.items) b.same_tail))
 
 -- once nothing is left to be handed in
-pub room_now : (halted : Bool) (places : ℕ) (w : Holding) (room : ℕ) → w.tail.items ≡ [] → slice_index (view_of w.pass).rooms (view_of w.pass).number ≡ room → room_for halted + places ≤ room
-    → room_for halted + places + length w.tail.items ≤ slice_index (view_of w.pass).rooms (view_of w.pass).number
-room_now halted places w room none is h = subst (λ (q : List Entry × ℕ). room_for halted + places + length q.0 ≤ q.1) (λ j. (sym none j, sym is j)) (none_more (room_for halted + places) room h)
+pub room_now : (a places p : ℕ) (w : Holding) (room : ℕ) → w.tail.items ≡ [] → slice_index (view_of w.pass).rooms (view_of w.pass).number ≡ room → room ≡ a + places + p
+    → slice_index (view_of w.pass).rooms (view_of w.pass).number ≡ a + places + length w.tail.items + p
+room_now a places p w room none is h = is ∙ h ∙ with_none a places p ∙ ap (λ (l : List Entry). a + places + length l + p) (sym none)
+  where
+    with_none : (a b p : ℕ) → a + b + p ≡ a + b + 0 + p
+    with_none a b p = omega arith
 
 pub many_now : (places : ℕ) (w : Holding) → w.tail.items ≡ [] → places ≤ 256 → places + length w.tail.items ≤ 256
-many_now places w none h = subst (λ (l : List Entry). places + length l ≤ 256) (sym none) (none_more places 256 h)
+many_now places w none h = subst (λ (l : List Entry). places + length l ≤ 256) (sym none) (no_more places h)
+  where
+    no_more : (a : ℕ) → a ≤ 256 → a + 0 ≤ 256
+    no_more a h = omega (arith, h)
 
 -- where all is left
-pub room_kept : (halted : Bool) (places : ℕ) (u w : Holding) (room : ℕ) → w.tail.items ≡ u.tail.items → slice_index (view_of w.pass).rooms (view_of w.pass).number ≡ room → room_for halted + places + length u.tail.items + 0 ≤ room
-    → room_for halted + places + length w.tail.items ≤ slice_index (view_of w.pass).rooms (view_of w.pass).number
-room_kept halted places u w room left is h = subst (λ (q : List Entry × ℕ). room_for halted + places + length q.0 ≤ q.1) (λ j. (sym left j, sym is j)) (no_more (room_for halted + places + length u.tail.items) room h)
-  where
-    no_more : (a r : ℕ) → a + 0 ≤ r → a ≤ r
-    no_more a r h = omega (arith, h)
+pub room_kept : (a places p : ℕ) (u w : Holding) (room : ℕ) → w.tail.items ≡ u.tail.items → slice_index (view_of w.pass).rooms (view_of w.pass).number ≡ room → room ≡ a + places + length u.tail.items + p
+    → slice_index (view_of w.pass).rooms (view_of w.pass).number ≡ a + places + length w.tail.items + p
+room_kept a places p u w room left is h = is ∙ h ∙ ap (λ (l : List Entry). a + places + length l + p) (sym left)
 
 pub many_kept : (places : ℕ) (t w : Holding) → w.tail.items ≡ t.tail.items → places + length t.tail.items ≤ 256 → places + length w.tail.items ≤ 256
 many_kept places t w left h = subst (λ (l : List Entry). places + length l ≤ 256) (sym left) h
 
--- a call gave the places back
-pub room_back : (a b : Bool) (places len r p : ℕ) → room_for a + places + len + 0 ≤ r → places ≤ 256 → room_for (a || b) + 256 ≤ ((r - len) + (256 - places)) + p
-room_back a b places len r p h m = let l = room_stays a b (room_for a) (omega arith) in omega (arith, h, m, l)
-
--- and began a wait
-pub room_waits : (a b : Bool) (places len r : ℕ) → room_for a + places + len + 0 ≤ r → places ≤ 256 → room_for (a || b) + 256 + 0 + 1 ≤ ((r - len) + (256 - places)) + 1
-room_waits a b places len r h m = let l = room_stays a b (room_for a) (omega arith) in omega (arith, h, m, l)
+-- a call gave the places back, and may have begun a wait
+pub room_back : (a places len r p q : ℕ) → r ≡ a + places + len + p → p ≡ 0 → places ≤ 256 → ((r - len) + (256 - places)) + q ≡ a + 256 + q
+room_back a places len r p q h e m = omega (arith, h, e, m)
 
 -- a call took one
-pub room_place : (a b : Bool) (places len r : ℕ) → room_for a + places + len + 0 ≤ r → 0 < places → room_for (a || b) + (places - 1) ≤ (r - len) - 1
-room_place a b places len r h m = let l = room_stays a b (room_for a) (omega arith) in omega (arith, h, m, l)
+pub room_place : (a places len r p : ℕ) → r ≡ a + places + len + p → 0 < places → (r - len) - 1 ≡ a + (places - 1) + p
+room_place a places len r p h m = omega (arith, h, m)
 
 -- the own calls were handed in
-pub room_hands : (a : Bool) (places len r : ℕ) → room_for a + places + len + 0 ≤ r → room_for a + places ≤ r - len
-room_hands a places len r h = omega (arith, h)
+pub room_hands : (a places len r p : ℕ) → r ≡ a + places + len + p → r - len ≡ a + places + p
+room_hands a places len r p h = omega (arith, h)
 
 -- and then the places were given back
-pub room_picks : (a b : Bool) (places len r s : ℕ) → room_for a + places + len + 0 ≤ r → places ≤ 256 → s ≡ r - len → room_for (a || b) + 256 ≤ s + (256 - places)
-room_picks a b places len r s h m e = let l = room_stays a b (room_for a) (omega arith) in omega (arith, h, m, l, e)
+pub room_picks : (a places len r s p : ℕ) → r ≡ a + places + len + p → places ≤ 256 → s ≡ r - len → s + (256 - places) ≡ a + 256 + p
+room_picks a places len r s p h m e = omega (arith, h, m, e)
 
 -- and then the end of a wait, or a Halt
-pub room_ends : (a : Bool) (places len r : ℕ) → room_for a + places + len + 1 ≤ r → room_for a + places ≤ (r - len) - 1
-room_ends a places len r h = omega (arith, h)
+pub room_ends : (a places len r p : ℕ) → r ≡ a + places + len + p → p ≡ 1 → (r - len) - 1 ≡ a + places + 0
+room_ends a places len r p h e = omega (arith, h, e)
 
-pub room_halts : (a : Bool) (places len r : ℕ) → a ≡ false → room_for a + places + len + 0 ≤ r → room_for true + places ≤ (r - len) - 1
-room_halts true places len r e h = absurd (let g : false ≡ true = sym e in cc)
-room_halts false places len r e h = omega (arith, h)
-
-some_room : (a : Bool) (r : ℕ) → room_for a ≤ r → 0 < r
-some_room true r h = h
-some_room false r h = omega (arith, h)
+pub room_halts : (a : Bool) (places len r p : ℕ) → a ≡ false → r ≡ room_for a + places + len + p → (r - len) - 1 ≡ room_for true + places + p
+room_halts true places len r p e h = absurd (let g : false ≡ true = sym e in cc)
+room_halts false places len r p e h = omega (arith, h)
 
 pub enough_back : (len r k p : ℕ) → len < r → 0 < ((r - len) + k) + p
 enough_back len r k p h = omega (arith, h)
 
-pub enough_less : (a : Bool) (places len r : ℕ) → room_for a + places + len + 1 ≤ r → 0 < (r - len) - 1
-enough_less a places len r h = some_room a ((r - len) - 1) (let l = room_ends a places len r h in omega (arith, l))
+-- there is a place besides the own calls: for a wait's end, for a call, for a Halt
+pub fits_end : (a : Bool) (places len r p : ℕ) → r ≡ room_for a + places + len + p → p ≡ 1 → len + 1 < r
+fits_end true places len r p h e = omega (arith, h, e)
+fits_end false places len r p h e = omega (arith, h, e)
 
-pub enough_place : (a : Bool) (places len r : ℕ) → room_for a + places + len + 0 ≤ r → 0 < places → 0 < (r - len) - 1
-enough_place a places len r h m = some_room a ((r - len) - 1) (omega (arith, h, m))
+pub fits_place : (a : Bool) (places len r p : ℕ) → r ≡ room_for a + places + len + p → 0 < places → len + 1 < r
+fits_place true places len r p h m = omega (arith, h, m)
+fits_place false places len r p h m = omega (arith, h, m)
+
+pub fits_halt : (a : Bool) (places len r p : ℕ) → a ≡ false → r ≡ room_for a + places + len + p → len + 1 < r
+fits_halt true places len r p e h = absurd (let g : false ≡ true = sym e in cc)
+fits_halt false places len r p e h = omega (arith, h)
+
+pub enough_less : (len r : ℕ) → len + 1 < r → 0 < (r - len) - 1
+enough_less len r h = omega (arith, h)
 
 -- the values that stay where none was added
 pub kept_rooms : (f : Core) (t u : Holding) (x y : Core) → Begun f t u x → y.rooms.items ≡ x.rooms.items → y.rooms.items ≡ set x.rooms.items u.number (slice_index x.rooms.items u.number)
 kept_rooms f t u x y b rooms = rooms ∙ sym (room_itself x.rooms.items u.number b.turn.number)
 
 -- ---- What a token holds.
-pub some_tail : (a : Bool) (places len r : ℕ) → room_for a + places + len ≤ r → len < r
-some_tail true places len r h = omega (arith, h)
-some_tail false places len r h = omega (arith, h)
+pub some_tail : (a : Bool) (places len r p : ℕ) → r ≡ room_for a + places + len + p → len < r
+some_tail true places len r p h = omega (arith, h)
+some_tail false places len r p h = omega (arith, h)
 
 pub held : (h : Holding) → IsFree h.pass → h.number ≡ (view_of h.pass).number → h.number < 65536 → All IsWindow (start_in (view_of h.pass).first).windows → IsLegalAt (start_in (view_of h.pass).first) ((view_of h.pass).seen ++ h.tail.items)
     → are_local (replay_from (start_in (view_of h.pass).first) (view_of h.pass).seen) h.number h.tail.items ≡ true → h.part ≡ Some (part_after (start_in (view_of h.pass).first) h.number ((view_of h.pass).seen ++ h.tail.items))
@@ -476,6 +479,12 @@ joined_returns f x z y v w g o is view joined found kept live =
       long = ap (λ q. length q.items) kept.2 ∙ r.long ∙ sym (ap (λ (q : View Core Entry). length q.rooms) joined);
       other_rooms = λ n ne. ap (λ q. slice_index q.items n) kept.2 ∙ ap (λ (q : Core). slice_index q.rooms.items n) is ∙ sym (ap (λ (q : View Core Entry). slice_index q.rooms n) (joined ∙ ap (λ (q : View Core Entry). joining q o) view));
     }
+
+-- the two tokens owned no number in common
+pub disjoint_tokens : (t o : Holding) (p q : Pass Core Entry) → (view_of p).number ≡ (view_of t.pass).number → (view_of p).ended ≡ (view_of t.pass).ended → (view_of q).number ≡ (view_of o.pass).number → (view_of q).ended ≡ (view_of o.pass).ended
+    → views.AreDisjoint (view_of p) (view_of q) → AreDisjoint (tok t) (tok o)
+disjoint_tokens t o p q a b c d h =
+    subst (λ (z : (ℕ × List ℕ) × (ℕ × List ℕ)). (n : ℕ) → (n ≡ z.0.0) ⊎ (Contains z.0.1 n) → ¬ ((n ≡ z.1.0) ⊎ (Contains z.1.1 n))) (λ j. ((a j, b j), (c j, d j))) h
 
 -- the token in which it ended has seen all of it
 pub included : (t : Holding) (p q : Pass Core Entry) (seen : List Entry) → Retires t p → seen ≡ (view_of q).seen → views.Includes meaning (view_of q).seen (joined_of (view_of p)) → Includes (tok t) seen

@@ -58,12 +58,12 @@ of_number n es = filter (λ e. e.thread == n) es
 unfoldable pub has_halted : ℕ → List Entry → Bool
 has_halted n es = are_halted (of_number n es)
 
--- a token is live, and may halt once: its room is at least this
+-- what a token's room has for the token itself: it is live, and may halt, unless it has used the place for that
 abbrev pub room_for : Bool → ℕ
 room_for true = 1
 room_for false = 2
 
--- the place in the journal that a wait which was begun keeps for its end
+-- the place in the journal that is kept for the end of a wait which was begun
 abbrev pub place_for : Bool → ℕ
 place_for true = 1
 place_for false = 0

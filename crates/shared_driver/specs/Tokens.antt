@@ -1,5 +1,5 @@
 -- A token as a value.
-use Rattle.std.specs.Prelude.{slice_index, ◌≡◌, ◌+◌, ◌-◌, ◌≤◌, ◌&&◌, nat_lt, if◌then◌else◌, length, true, false, ◌⊎◌, ℕ, Bool, List, [], ◌∷◌, ◌++◌, All, Contains}
+use Rattle.std.specs.Prelude.{slice_index, ◌≡◌, ◌+◌, ◌-◌, ◌<◌, ◌≤◌, ◌&&◌, nat_lt, if◌then◌else◌, true, false, ◌⊎◌, ℕ, Bool, List, [], ◌∷◌, ◌++◌, All, Contains}
 use Rattle.egl_calls.specs.declared.entries.Entry.{Entry}
 use Rattle.egl_calls.specs.Calls.{CallValue, ReplyValue}
 use Rattle.egl_calls.specs.declared.kinds.Kind.{Kind}
@@ -8,7 +8,7 @@ use Rattle.egl_model.specs.History.{replay_from}
 use Rattle.egl_model.specs.Parts.{part_of}
 use Rattle.egl_model.specs.State.{State}
 use Rattle.turn_lock.specs.Passes as passes
-use Rattle.shared_driver.specs.Cores.{entry, halt_call, has_halted, is_waiting, of_number, origin, room_for, start_in, takes_place, wait_end_call, wait_ended}
+use Rattle.shared_driver.specs.Cores.{entry, halt_call, has_halted, is_waiting, of_number, origin, start_in, takes_place, wait_end_call, wait_ended}
 use Rattle.shared_driver.specs.declared.tokens.Shared.{Shared}
 use Rattle.shared_driver.specs.declared.tokens.Thread.{Thread}
 
@@ -33,9 +33,21 @@ abbrev pub token_of : Thread → Token
 token_of t = let v = passes.view_of t.hold.pass in
     record { number = v.number; seen = v.seen; tail = t.hold.tail.items; ended = v.ended; made = v.counts.made; live = v.counts.live; sole = t.sole; places = t.places; start = start_in v.first }
 
+-- a place is kept for the end of its wait
+abbrev pub HasPlace : Thread → Type 0
+HasPlace t = t.end_kept ≡ true
+
+-- the token came from this driver's `open` or `attach`, and may be in a wait that a call of it began
+abbrev pub IsFrom : Shared → Thread → Type 0
+IsFrom s t = passes.IsOf s.turns t.hold.pass
+
 -- the token came from this driver's `open` or `attach`
 abbrev pub IsOf : Shared → Thread → Type 0
-IsOf s t = passes.IsOf s.turns t.hold.pass
+IsOf s t = IsFrom s t × (t.end_kept ≡ false)
+
+-- the token's room: for how many entries the journal keeps a place to it, and one more while it is live
+abbrev pub room_of : Thread → ℕ
+room_of t = let v = passes.view_of t.hold.pass in slice_index v.rooms v.number
 
 -- the state that the history starts at
 abbrev pub opening_of : Shared → State
@@ -47,6 +59,10 @@ Owns t n = (n ≡ t.number) ⊎ (Contains t.ended n)
 
 abbrev pub AreOthers : Token → List Entry → Type 0
 AreOthers t es = All (λ e. ¬ (Owns t e.thread)) es
+
+-- no number is owned by both tokens
+abbrev pub AreDisjoint : Token → Token → Type 0
+AreDisjoint t u = (n : ℕ) → Owns t n → ¬ (Owns u n)
 
 -- the token's own entries
 abbrev pub mine : Token → List Entry
@@ -104,6 +120,10 @@ Halts t u = (r : ReplyValue) × Goes t (entry t.number 0 halt_call r ∷ []) u �
 abbrev pub IsNew : Token → Token → Type 0
 IsNew from t = (t.number + 1 ≡ from.made) × (from.made ≤ 65536) × (t.seen ≡ from.seen) × (t.tail ≡ []) × (t.ended ≡ []) × (t.sole ≡ false) × (t.places ≡ 256) × (t.start ≡ from.start)
 
+-- its number is of none of the tokens that its maker had counted before, and is above each that its maker owns
+abbrev pub HasNewNumber : Token → Token → Token → Type 0
+HasNewNumber before from t = (before.made ≤ t.number) × ((n : ℕ) → Owns from n → n < t.number)
+
 -- it has seen all that this token had seen, and its tail, which was handed in, and else entries of others
 abbrev pub Includes : Token → List Entry → Type 0
 Includes t seen = (before after : List Entry) × AreOthers t before × AreOthers t after × (seen ≡ ((t.seen ++ before) ++ t.tail) ++ after)
@@ -111,7 +131,3 @@ Includes t seen = (before after : List Entry) × AreOthers t before × AreOthers
 -- of a number that ended in the token, there are the entries that it has seen, and no others
 abbrev pub KnowsEnded : Token → List Entry → Type 0
 KnowsEnded t seen = (n : ℕ) → Contains t.ended n → of_number n seen ≡ of_number n t.seen
-
--- its room has a place more than it needs to halt, for its own calls and for its free places
-abbrev pub HasPlace : Thread → Type 0
-HasPlace t = let v = passes.view_of t.hold.pass in room_for t.halted + t.places + length t.hold.tail.items + 1 ≤ slice_index v.rooms v.number

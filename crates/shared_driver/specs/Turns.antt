@@ -63,6 +63,9 @@ pub record Begun (first : Core) (t u : Holding) (x : Core) : Type 0 where
   pub ended_rooms : (n : ℕ) → Contains (view_of t.pass).ended n → slice_index x.rooms.items n ≡ 0
   pub sole : (view_of t.pass).counts.live ≡ 1 → x.live ≡ 1
   pub below : All (λ e. e.thread < x.driver.made) x.journal.entries
+  -- the numbers of tokens that ended in its own are of tokens made, and no fewer were made than it had counted
+  pub ended_below : (n : ℕ) → Contains (view_of t.pass).ended n → n < x.driver.made
+  pub made_counted : (view_of t.pass).counts.made ≤ x.driver.made
   pub few_made : x.driver.made ≤ 65536
   pub some_live : 1 ≤ x.live
   pub live_few : x.live ≤ x.driver.made

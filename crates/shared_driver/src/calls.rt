@@ -10,7 +10,7 @@ ghost use Rattle.driver_core.specs.Machine.{Machine, outs};
 ghost use Rattle.shared_driver.specs.declared.picks.Pick.{Pick as ThePick};
 ghost use Rattle.shared_driver.specs.Cores.{entry, is_waiting, takes_place};
 ghost use Rattle.shared_driver.specs.Picks.{IsAnswer, IsAtTurn, picked_entries};
-ghost use Rattle.shared_driver.specs.Tokens.{AnswersAfterWait, AnswersAtOnce, Goes, Halts, HasPlace, IsOf, IsSame, Learns, Owns, has_given_up, mine, opening_of, places_after, token_of};
+ghost use Rattle.shared_driver.specs.Tokens.{AnswersAfterWait, AnswersAtOnce, Goes, Halts, IsFrom, IsOf, IsSame, Learns, Owns, has_given_up, mine, opening_of, places_after, token_of};
 
 use crate::cores::{Core, PLACES, Played, is_waiting};
 use crate::newcomers::own_calls;
@@ -86,6 +86,8 @@ impl Shared {
                 places: PLACES,
                 halted: false,
                 sole: false,
+                halt_used: false,
+                end_kept: false,
             },
         })
     }
@@ -100,12 +102,13 @@ impl Shared {
         call: Call,
     ) -> Result<Reply, NoMemory>
         requires owns { IsOf self.now thread.old }
-        ensures owns { IsOf self.now thread.new }
+        ensures owns { IsFrom self.now thread.new }
         ensures same { IsSame (token_of thread.old) (token_of thread.new) }
         ensures sole { (token_of thread.new).sole ≡ (token_of thread.old).sole }
         ensures ok { IfOk result (λ r. Goes (token_of thread.old) (entry (token_of thread.old).number mark call r ∷ []) (token_of thread.new)) }
         ensures mine { IfOk result (λ r. mine (token_of thread.new) ≡ mine (token_of thread.old) ++ entry (token_of thread.old).number mark call r ∷ []) }
-        ensures place { IfOk result (λ r. is_waiting r.outcome ≡ true → HasPlace thread.new) }
+        ensures place { IfOk result (λ r. thread.new.end_kept ≡ is_waiting r.outcome) }
+        ensures err_place { OnErr result (thread.new.end_kept ≡ false) }
         ensures places { OnOk result ((token_of thread.new).places ≡ 256) }
         ensures err { OnErr result (Learns (token_of thread.old) (token_of thread.new)) }
         ensures err_mine { OnErr result (mine (token_of thread.new) ≡ mine (token_of thread.old)) }
@@ -131,6 +134,7 @@ impl Shared {
                 self.end_turn_with(&mut thread.hold, held, &woken, &drawing);
                 thread.places = PLACES;
                 thread.halted = either(thread.halted, halts);
+                thread.end_kept = is_waiting(reply.outcome);
                 Ok(reply)
             }
             Err(error) => {
@@ -276,6 +280,8 @@ impl Shared {
             places: _,
             halted: _,
             sole: _,
+            halt_used: _,
+            end_kept: _,
         } = thread;
         let Some(part) = part else { unreachable!() };
         let mut core = turns.close(pass);
@@ -307,6 +313,7 @@ impl Shared {
         let woken = self.news.rouse_all(rt);
         self.end_turn(&mut thread.hold, held);
         thread.halted = true;
+        thread.halt_used = true;
         self.news.call(&woken);
     }
 

@@ -12,7 +12,8 @@ ghost use Rattle.egl_model.specs.Waits.{is_ready};
 ghost use Rattle.driver_core.specs.Machine.{outs};
 ghost use Rattle.driver_core.specs.LateDraws.{IsLeft};
 ghost use Rattle.driver_core.specs.Memory.{takes_no_memory};
-ghost use Rattle.driver_core.specs.Parts.{FitsThread};
+ghost use Rattle.driver_core.specs.Parts.{FitsThread, HasBoundStill};
+ghost use Rattle.thread_part.specs.Private.{IsAllOrNothing};
 ghost use Rattle.thread_part.specs.Uploads.{upload_of};
 ghost use Rattle.shared_driver.specs.Cores.{entry, halt_call, is_waiting, owed, own_call, place_for, wait_end_call, wait_ended};
 
@@ -249,17 +250,19 @@ impl Core {
         requires out { slice_index_or self.old.driver.away number false ≡ true }
         requires fits { FitsThread self.old.driver.state number part }
         ensures outside { (s : State) → IsSound s → self.old.driver.state ≡ hide (outs self.old.driver.away) s → part ≡ part_of s number → self.new.driver.state ≡ hide (outs self.new.driver.away) s }
+        ensures bound { HasBoundStill self.old.driver.state self.new.driver.state }
         ensures driver { (self.new.driver.made ≡ self.old.driver.made) × (self.new.driver.away ≡ slice_set self.old.driver.away number false) }
         ensures kept { (self.new.journal ≡ self.old.journal) × (self.new.live ≡ self.old.live) × (self.new.rooms ≡ self.old.rooms) × (self.new.promised ≡ self.old.promised) }
     {
         self.driver.part_in(number, part.into_parts());
     }
 
-    /// Hands out a thread's private part.
+    /// Hands out a thread's private part. In a sound state it has all that a context and surfaces bring, or nothing.
     pub fn part_out(&mut self, number: u32) -> ThreadPart
         requires made { number < self.old.driver.made }
         requires here { slice_index_or self.old.driver.away number false ≡ false }
         ensures outside { (s : State) → IsReady s number → self.old.driver.state ≡ hide (outs self.old.driver.away) s → (result ≡ part_of s number) × (self.new.driver.state ≡ hide (outs self.new.driver.away) s) }
+        ensures whole { (s : State) → IsReady s number → self.old.driver.state ≡ hide (outs self.old.driver.away) s → IsAllOrNothing 2147483648 result }
         ensures driver { (self.new.driver.made ≡ self.old.driver.made) × (self.new.driver.away ≡ slice_set self.old.driver.away number true) }
         ensures opening { (self.new.driver.state.windows ≡ self.old.driver.state.windows) × (self.new.driver.state.video ≡ self.old.driver.state.video) }
         ensures kept { (self.new.journal ≡ self.old.journal) × (self.new.live ≡ self.old.live) × (self.new.rooms ≡ self.old.rooms) × (self.new.promised ≡ self.old.promised) }

@@ -3,7 +3,7 @@ ghost use Rattle.std.specs.Prelude.{◌≡◌, ◌∷◌, ◌++◌, [], false, s
 ghost use Rattle.turn_lock.specs.Passes as passes;
 ghost use Rattle.turn_lock.specs.Passes.{view_of, IsFree};
 ghost use Rattle.shared_driver.specs.Cores.{IsFull, of_number};
-ghost use Rattle.shared_driver.specs.Tokens.{Goes, Includes, IsNew, IsOf, IsSame, KnowsEnded, Learns, mine, token_of};
+ghost use Rattle.shared_driver.specs.Tokens.{AreDisjoint, Goes, HasNewNumber, Includes, IsNew, IsOf, IsSame, KnowsEnded, Learns, mine, token_of};
 ghost use Rattle.shared_driver.specs.Turns.{Holds, Retires};
 
 use crate::cores::{Core, FIRST_ROOM, PLACES};
@@ -24,6 +24,7 @@ impl Shared {
         ensures mine { mine (token_of from.new) ≡ mine (token_of from.old) }
         ensures new { IfOk result (λ t. IsNew (token_of from.new) (token_of t)) }
         ensures new_mine { IfOk result (λ t. mine (token_of t) ≡ []) }
+        ensures new_number { IfOk result (λ t. HasNewNumber (token_of from.old) (token_of from.new) (token_of t)) }
         ensures places { OnOk result ((token_of from.new).places ≡ 256) × OnErr result ((token_of from.new).places ≡ (token_of from.old).places) }
         ensures full { IfErr result (IsFull (token_of from.new).made) }
     {
@@ -51,6 +52,8 @@ impl Shared {
                     places: PLACES,
                     halted: false,
                     sole: false,
+                    halt_used: false,
+                    end_kept: false,
                 })
             }
             Err(error) => {
@@ -92,6 +95,7 @@ impl Shared {
     pub fn join<R: Wait>(&self, into: &mut Thread, rt: &R, other: Thread)
         requires owns { IsOf self.now into.old × IsOf self.now other }
         ensures owns { IsOf self.now into.new }
+        ensures disjoint { AreDisjoint (token_of into.old) (token_of other) }
         ensures number { (token_of into.new).number ≡ (token_of into.old).number }
         ensures ended { (token_of into.new).ended ≡ (token_of into.old).ended ++ (token_of other).number ∷ (token_of other).ended }
         ensures sole { (token_of into.new).sole ≡ false }
@@ -108,6 +112,8 @@ impl Shared {
             places: _,
             halted: _,
             sole: _,
+            halt_used: _,
+            end_kept: _,
         } = other;
         let pass = self.retire(hold, rt);
         let mut held = self.turns.take_turn(&mut into.hold.pass, rt);

@@ -18,7 +18,9 @@ mod turns;
 mod uploads;
 mod waits;
 
-pub use laws::{a_token_keeps_its_own_calls, what_a_token_has_seen_is_legal};
+pub use laws::{
+    a_token_has_the_room_it_needs, a_token_keeps_its_own_calls, what_a_token_has_seen_is_legal,
+};
 pub use news::Heard;
 pub use picks::{Pick, Picked, Picker};
 pub use sleepers::Wanted;

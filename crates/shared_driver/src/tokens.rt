@@ -4,7 +4,7 @@ ghost use Rattle.std.specs.VecDeque.{deque_capacity};
 ghost use Rattle.model_laws.specs.Full.{IsWindow};
 ghost use Rattle.egl_model.specs.History.{replay_from};
 ghost use Rattle.turn_lock.specs.Passes.{view_of, IsFree};
-ghost use Rattle.shared_driver.specs.Cores.{IsLegalAt, are_local, has_halted, part_after, room_for, start_in};
+ghost use Rattle.shared_driver.specs.Cores.{IsLegalAt, are_local, has_halted, part_after, place_for, room_for, start_in};
 
 use crate::cores::Core;
 use crate::news::News;
@@ -41,6 +41,10 @@ pub struct Thread {
     pub(crate) halted: bool,
     // a `live` answered 1, and nothing was attached since
     pub(crate) sole: bool,
+    // its Halt has used the place that its room has for one
+    pub(crate) halt_used: bool,
+    // its room has a place for the end of the wait that a call has begun
+    pub(crate) end_kept: bool,
     ghost free: { IsFree hold.pass },
     ghost numbered: { hold.number ≡ (view_of hold.pass).number },
     ghost few: { hold.number < 65536 },
@@ -48,7 +52,8 @@ pub struct Thread {
     ghost legal: { IsLegalAt (start_in (view_of hold.pass).first) ((view_of hold.pass).seen ++ hold.tail.items) },
     ghost local: { are_local (replay_from (start_in (view_of hold.pass).first) (view_of hold.pass).seen) hold.number hold.tail.items ≡ true },
     ghost part: { hold.part ≡ Some (part_after (start_in (view_of hold.pass).first) hold.number ((view_of hold.pass).seen ++ hold.tail.items)) },
-    ghost room: { room_for halted + places + length hold.tail.items ≤ slice_index (view_of hold.pass).rooms (view_of hold.pass).number },
+    ghost room: { slice_index (view_of hold.pass).rooms (view_of hold.pass).number ≡ room_for halt_used + places + length hold.tail.items + place_for end_kept },
+    ghost used: { halt_used ≡ true → halted ≡ true },
     ghost many: { places + length hold.tail.items ≤ 256 },
     ghost spare: { 256 ≤ deque_capacity hold.tail },
     ghost halts: { halted ≡ has_halted (view_of hold.pass).number ((view_of hold.pass).seen ++ hold.tail.items) },

@@ -1,7 +1,7 @@
 //! A wait for a sync, until it ends.
-ghost use Rattle.std.specs.Prelude.{◌≡◌, ◌∷◌, [], IfSome, IfNone, OnSome};
+ghost use Rattle.std.specs.Prelude.{◌≡◌, ◌∷◌, [], false, IfSome, IfNone, OnSome};
 ghost use Rattle.shared_driver.specs.Cores.{entry, wait_end_call, wait_ended};
-ghost use Rattle.shared_driver.specs.Tokens.{Goes, HasPlace, IsOf, IsSame, Learns, token_of};
+ghost use Rattle.shared_driver.specs.Tokens.{Goes, HasPlace, IsFrom, IsOf, IsSame, Learns, token_of};
 
 use crate::sleepers::Wanted;
 use crate::tokens::{Shared, Thread};
@@ -18,13 +18,14 @@ impl Shared {
         alloc: Global,
         mark: u64,
     ) -> Option<Reply>
-        requires owns { IsOf self.now thread.old }
+        requires owns { IsFrom self.now thread.old }
         requires place { HasPlace thread.old }
-        ensures owns { IsOf self.now thread.new }
+        ensures owns { IsFrom self.now thread.new }
         ensures same { IsSame (token_of thread.old) (token_of thread.new) }
         ensures sole { (token_of thread.new).sole ≡ (token_of thread.old).sole }
         ensures reply { IfSome result (λ r. r ≡ wait_ended) }
         ensures ended { OnSome result (Goes (token_of thread.old) (entry (token_of thread.old).number mark wait_end_call wait_ended ∷ []) (token_of thread.new)) }
+        ensures free { OnSome result (thread.new.end_kept ≡ false) }
         ensures none { IfNone result (Learns (token_of thread.old) (token_of thread.new) × HasPlace thread.new) }
         ensures places { (token_of thread.new).places ≡ (token_of thread.old).places }
     {
@@ -35,6 +36,7 @@ impl Shared {
             Some(reply) => {
                 let woken = self.news.rouse(rt, core, from);
                 self.end_turn(&mut thread.hold, held);
+                thread.end_kept = false;
                 self.news.call(&woken);
                 Some(reply)
             }
@@ -55,7 +57,7 @@ impl Shared {
         alloc: Global,
         mark: u64,
     ) -> Reply
-        requires owns { IsOf self.now thread.old }
+        requires owns { IsFrom self.now thread.old }
         requires place { HasPlace thread.old }
         ensures owns { IsOf self.now thread.new }
         ensures same { IsSame (token_of thread.old) (token_of thread.new) }

@@ -1,8 +1,13 @@
 -- Answers without a list, and with a name alone.
-use Rattle.std.proofs.Common.{◌≡◌, ◌≢◌, ℕ, ◌≤◌, ℤ, List, [], ◌∷◌, length, get_or, refl, sym, ap, ◌∙◌, arith, Some}
+use Rattle.std.proofs.Common.{◌≡◌, ◌≢◌, ℕ, ◌≤◌, Bool, true, ℤ, List, [], ◌∷◌, length, get_or, refl, sym, ap, ◌∙◌, arith, Some}
+use Rattle.std.proofs.lemmas.Bool.Decides.{Decides-int_eq}
 use Rattle.std.proofs.lemmas.List.{get_or_past}
+use Rattle.std.proofs.lemmas.Slice.Eq.{slice_eq-Decides}
+use Rattle.std.specs.Cmp.Lexicographic.{pointwise}
+use Rattle.std.specs.Ordering.{int_eq}
 use Rattle.std.specs.Prelude.{pos, slice_index_or}
 use Rattle.egl_calls.specs.Calls.{ReplyValue}
+use Rattle.egl_calls.specs.declared.errors.Outcome.{Outcome}
 use Rattle.egl_calls.specs.declared.errors.Outcome.TheVariants.{Done}
 use Rattle.trace_session.specs.Sessions.{kept_of}
 use Rattle.trace_session.specs.Slots.{named_answer, plain_answer}
@@ -29,3 +34,17 @@ pub unnamed : (name : ℤ) (k : ℕ) → k ≢ 0 → pos 0 ≡ slice_index_or (n
 unnamed name k other =
     let behind : 1 ≤ k = omega (arith, other) in
     sym (get_or_past (name ∷ []) k (pos 0) behind)
+
+-- ---- An answer that was kept already.
+no_bytes : (xs : List ℕ) → length xs ≡ 0 → xs ≡ []
+no_bytes [] h = refl
+no_bytes (x ∷ xs) h = absurd (omega (arith, h))
+
+-- what has the value and the list of a reply, and no bytes, is what is kept of it
+pub same_kept : (k r : ReplyValue) (equal : Bool) → k.outcome ≡ Done → length k.bytes ≡ 0 → k.value ≡ r.value → equal ≡ pointwise int_eq k.list r.list → equal ≡ true → k ≡ kept_of r
+same_kept k r equal done none value compared is =
+    let list : k.list ≡ r.list = (slice_eq-Decides Decides-int_eq k.list r.list equal compared).0 is in
+    ap (λ (o : Outcome). record { outcome = o; value = k.value; list = k.list; bytes = k.bytes }) done
+    ∙ ap (λ (z : ℤ). record { outcome = Done; value = z; list = k.list; bytes = k.bytes }) value
+    ∙ ap (λ (xs : List ℤ). record { outcome = Done; value = r.value; list = xs; bytes = k.bytes }) list
+    ∙ ap (λ (bs : List ℕ). record { outcome = Done; value = r.value; list = r.list; bytes = bs }) (no_bytes k.bytes none)

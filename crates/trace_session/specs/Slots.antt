@@ -3,6 +3,7 @@ use Rattle.std.specs.Prelude.{ℤ, pos, [], ◌∷◌, Option, None, Some}
 use Rattle.egl_calls.specs.Calls.{ReplyValue}
 use Rattle.egl_calls.specs.Ranges.{IsNumber}
 use Rattle.egl_calls.specs.declared.errors.Outcome.TheVariants.{Done}
+use Rattle.std.specs.Arc.{arc_value}
 use Rattle.trace_session.specs.declared.slots.Kept.{Kept}
 use Rattle.trace_session.specs.declared.slots.Kept.TheVariants.{Open, Plain, Named, Listed}
 
@@ -18,7 +19,7 @@ abbrev pub kept_answer : Kept → Option ReplyValue
 kept_answer Open = None
 kept_answer (Plain value) = Some (plain_answer value)
 kept_answer (Named name) = Some (named_answer name)
-kept_answer (Listed reply) = Some reply.value
+kept_answer (Listed reply) = Some (arc_value reply)
 
 abbrev pub HasNumber : Kept → Type 0
 HasNumber (Plain value) = IsNumber value

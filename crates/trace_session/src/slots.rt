@@ -1,13 +1,20 @@
 //! What is kept of the answers of a trace's variables.
-ghost use Rattle.std.specs.Prelude.{◌≡◌, ℕ, pos, Some, None, IfOk, is_some, slice_index_or};
+ghost use Rattle.std.specs.Prelude.{◌≡◌, ℕ, pos, Some, None, true, IfOk, IfSome, is_some, slice_index_or};
+ghost use Rattle.std.specs.Arc.{arc_value};
 ghost use Rattle.egl_calls.specs.Ranges.{IsNumber};
+ghost use Rattle.egl_calls.specs.declared.errors.Outcome.TheVariants.{Done};
 ghost use Rattle.trace_model.specs.Resolve.{item_of};
 ghost use Rattle.trace_session.specs.Sessions.{kept_of};
 ghost use Rattle.trace_session.specs.Slots.{named_answer, plain_answer};
 
 use egl_calls::{Bytes, NoMemory, Outcome, Reply};
+use once_cell::race::OnceBox;
 use std::alloc::Global;
 use std::marker::Model;
+use std::sync::Arc;
+
+/// Where the sessions of a run share what they keep of the answer of a variable, if that has a list. The first session that learns the answer writes it, once. Another reads it, and takes it only where it is what the session has just learnt.
+pub type SharedList = OnceBox<Arc<Reply>>;
 
 /// Most answers have no list, or one name and no value, and each worker of a run keeps one for each variable: so one with more stands apart.
 #[derive(Drop)]
@@ -15,7 +22,7 @@ enum Kept {
     Open,
     Plain(i64),
     Named(i64),
-    Listed(Box<Reply>),
+    Listed(Arc<Reply>),
 }
 
 /// What is kept of the answer of a variable, once it has one: its value and its list, since no reference can name more.
@@ -48,6 +55,23 @@ fn listed(alloc: Global, reply: &Reply) -> Result<Reply, NoMemory>
     })
 }
 
+/// Whether this is what is kept of an answer.
+#[tactic(auto, using(crate::proofs::SlotLaws::same_kept))]
+fn is_kept_of(kept: &Reply, reply: &Reply) -> bool
+    ensures { result ≡ true → kept.now ≡ kept_of reply.now }
+{
+    if !is_done(kept.outcome) || kept.bytes.len() != 0 || kept.value != reply.value {
+        return false;
+    }
+    kept.list.as_slice() == reply.list.as_slice()
+}
+
+fn is_done(outcome: Outcome) -> bool
+    ensures { result ≡ true → outcome ≡ Done }
+{
+    matches!(outcome, Outcome::Done)
+}
+
 /// The value of an answer, or a number of its list, which is 0 where it has none.
 fn item_of(reply: &Reply, item: Option<u32>) -> i64
     ensures value { result ≡ item_of (Some reply.now) item }
@@ -67,7 +91,58 @@ fn item_at(reply: &Reply, item: usize) -> i64
     if item < list.len() { list[item] } else { 0 }
 }
 
-/// The same of an answer that has a value alone.
+/// What another session wrote of an answer.
+fn list_shared(cell: &SharedList, reply: &Reply) -> Option<Arc<Reply>>
+    ensures { IfSome result (λ l. arc_value l ≡ kept_of reply.now) }
+{
+    let kept = cell.get()?;
+    if !is_kept_of(kept, reply) {
+        return None;
+    }
+    match Arc::try_clone(kept) {
+        Ok(kept) => Some(kept),
+        Err(_) => None,
+    }
+}
+
+/// Writes what is kept of an answer for other sessions. Where one of them was first, what that wrote stays.
+fn share(alloc: Global, cell: &SharedList, list: &Arc<Reply>) -> Result<(), NoMemory> {
+    let Ok(shared) = Arc::try_clone(list) else {
+        return Err(NoMemory);
+    };
+    let Ok(shared) = Box::new(alloc, shared) else {
+        return Err(NoMemory);
+    };
+    let _was_first = cell.set(shared);
+    Ok(())
+}
+
+/// What is kept of an answer that has a list, in memory of its own.
+fn list_made(alloc: Global, reply: &Reply) -> Result<Arc<Reply>, NoMemory>
+    ensures { IfOk result (λ l. arc_value l ≡ kept_of reply.now) }
+{
+    match Arc::new(alloc, listed(alloc, reply)?) {
+        Ok(list) => Ok(list),
+        Err(_) => Err(NoMemory),
+    }
+}
+
+/// The same, once for all sessions that share it.
+fn list_of(alloc: Global, reply: &Reply, cell: Option<&SharedList>) -> Result<Arc<Reply>, NoMemory>
+    ensures { IfOk result (λ l. arc_value l ≡ kept_of reply.now) }
+{
+    let Some(cell) = cell else {
+        return list_made(alloc, reply);
+    };
+    if let Some(shared) = list_shared(cell, reply) {
+        return Ok(shared);
+    }
+    let list = list_made(alloc, reply)?;
+    share(alloc, cell, &list)?;
+    Ok(list)
+}
+
+/// The value of an answer that has a value alone, and 0 for a number of its list.
 fn plain_item(value: i64, item: Option<u32>) -> i64
     requires { IsNumber value }
     ensures value { result ≡ item_of (Some (plain_answer value)) item }
@@ -97,9 +172,9 @@ impl Slot {
         Slot { kept: Kept::Open }
     }
 
-    /// The slot of a variable that this reply answers.
+    /// The slot of a variable that this reply answers, with the list that sessions share, if they do.
     #[tactic(auto, using(crate::proofs::SlotLaws::plain_is, crate::proofs::SlotLaws::named_is))]
-    pub fn new(alloc: Global, reply: &Reply) -> Result<Slot, NoMemory>
+    pub fn new(alloc: Global, reply: &Reply, cell: Option<&SharedList>) -> Result<Slot, NoMemory>
         ensures { IfOk result (λ s. s ≡ Some (kept_of reply.now)) }
     {
         let list = reply.list.as_slice();
@@ -111,12 +186,8 @@ impl Slot {
             let kept = Kept::Named(list[0]);
             return Ok(Slot { kept });
         }
-        match Box::new(alloc, listed(alloc, reply)?) {
-            Ok(reply) => Ok(Slot {
-                kept: Kept::Listed(reply),
-            }),
-            Err(_) => Err(NoMemory),
-        }
+        let kept = Kept::Listed(list_of(alloc, reply, cell)?);
+        Ok(Slot { kept })
     }
 
     pub fn is_answered(&self) -> bool

@@ -63,6 +63,7 @@ module _ {S E : Type 0} (m : Meaning S E) (k : Snapshot S) where
                 first_is = f.first_is;
                 not_ended = f.not_ended;
                 ended_below = f.ended_below;
+                made_counted = f.made_counted;
                 learned = f.learned;
               })
               (λ j u ne here live. views_now j u (r.views j u here live));

@@ -1,5 +1,5 @@
 -- The lock at its start, and at its end with the sole live pass.
-use Rattle.std.proofs.Common.{◌≡◌, ◌≢◌, ℕ, zero, suc, ◌<◌, true, false, List, [], ◌∷◌, ◌++◌, length, refl, sym, ap, ◌∙◌, subst, inl, ⊎_elim, arith, Some}
+use Rattle.std.proofs.Common.{◌≡◌, ◌≢◌, ℕ, zero, suc, ◌<◌, ◌≤◌, true, false, List, [], ◌∷◌, ◌++◌, length, refl, sym, ap, ◌∙◌, subst, inl, ⊎_elim, arith, Some}
 use Rattle.std.specs.Prelude.{All, Contains, count_by, Option, slice_index_or}
 use Rattle.std.proofs.lemmas.List.{append-nil}
 use mathlib.Core.Logic.{dite}
@@ -57,6 +57,7 @@ module _ {S E : Type 0} (m : Meaning S E) (k : Snapshot S) where
           first_is = refl;
           not_ended = λ h. none_contained 0 h;
           ended_below = λ n h. absurd (none_contained n h);
+          made_counted = let c : 1 ≤ 1 = omega arith in c;
           learned = tt;
         };
         owned = λ n inside. (0, newcomer m k, refl, refl, inl (omega arith));

@@ -1,7 +1,7 @@
 -- Ending a pass in another, and telling what it knew, keep the rule.
 use Rattle.std.proofs.Common.{◌≡◌, ◌≢◌, ◌⊎◌, ℕ, ◌+◌, ◌-◌, ◌<◌, ◌≤◌, true, false, List, [], ◌∷◌, ◌++◌, length, set, refl, sym, ap, ◌∙◌, subst, inl, inr, ⊎_elim, arith, length-set, Some, None}
 use Rattle.std.specs.Prelude.{All, Contains, count_by, is_some, Option, slice_index}
-use Rattle.std.proofs.lemmas.List.{append-nil}
+use Rattle.std.proofs.lemmas.List.{append-nil, append_cancel_right}
 use Rattle.std.proofs.lemmas.List.Elements.{Contains-append_cases, Contains-append_left, Contains-append_right}
 use mathlib.Core.Logic.{dite}
 use native.Mathlib.Decide.{ℕ_discrete}
@@ -12,9 +12,9 @@ use Rattle.std.specs.declared.snapshot.Snapshot.{Snapshot}
 use Rattle.turn_lock.specs.declared.view.View.{View}
 use Rattle.turn_lock.specs.declared.view.Counts.{Counts}
 use Rattle.turn_lock.specs.Meaning.{Meaning}
-use Rattle.turn_lock.specs.Views.{Owns, At, has_ticket, is_live}
+use Rattle.turn_lock.specs.Views.{AreDisjoint, Owns, At, Includes, Learned, has_ticket, is_live}
 use Rattle.turn_lock.specs.Rule.{IsLiveView, Ruled}
-use Rattle.turn_lock.specs.Moves.{joining, spent, told}
+use Rattle.turn_lock.specs.Moves.{joined_of, joining, spent, told}
 use Rattle.turn_lock.proofs.Tallies.{one_if, count_by-set, two_pass}
 use Rattle.turn_lock.proofs.Lists.{off, no_value, all_of_none, contains_either, either_contained, each_set, at_below, one_view}
 use Rattle.turn_lock.proofs.Slots.{no_step, out_with, then_others}
@@ -108,7 +108,8 @@ module _ {S E : Type 0} (m : Meaning S E) (k : Snapshot S) where
               not_ended = λ h. ⊎_elim (λ (a : Contains v.ended id). f.not_ended a) (λ (a : Owns w id). r.apart id other v w at w_at live w_live away id (inl (sym f.number_is)) a) (ended_of id h);
               ended_below = λ x h. ⊎_elim (λ (a : Contains v.ended x). f.ended_below x a)
                   (λ (a : Owns w x). ⊎_elim (λ (e : x ≡ w.number). let c = at_below s.views other w w_at in let d = g.number_is in omega arith) (λ (c : Contains w.ended x). g.ended_below x c) a) (ended_of x h);
-              learned = (others.0, o.seen ∙ others.1, others.2);
+              made_counted = f.made_counted;
+              learned = ((others.0, o.seen ∙ others.1, others.2), (v.ended, refl, λ n own. r.apart id other v w at w_at live w_live away n own));
             })
             (λ e. absurd (off e))
             (λ j u ne ne' here alive. let h = r.views j u here alive in views_now j u record {
@@ -123,6 +124,7 @@ module _ {S E : Type 0} (m : Meaning S E) (k : Snapshot S) where
               first_is = h.first_is;
               not_ended = h.not_ended;
               ended_below = h.ended_below;
+              made_counted = h.made_counted;
               learned = h.learned;
             });
         owned = λ n below. let h = r.owned n (subst (λ z. n < z) long below) in
@@ -158,3 +160,11 @@ module _ {S E : Type 0} (m : Meaning S E) (k : Snapshot S) where
     subst (λ (x : List ℕ × List (View S E)). Ruled m k record { words = x.0; homes = s.homes; views = x.1 }) (λ i. (sym (set-get_or s.words 0 0) i, sym (set_again s.views id me.0 at) i)) r,
     (refl, (r.views id me.0 at live).learned),
   )
+
+  -- what a pass is told that took another in: it has seen all that the other had, and had owned none of its numbers
+  pub told_joined : (v w u : View S E) → u ≡ joining v w → Learned m u.number u.ended u.seen u.joined → Includes m v.seen (joined_of w) × AreDisjoint v w
+  told_joined v w u is h =
+      let k = subst (λ (x : View S E). Learned m x.number x.ended x.seen x.joined) is h in
+      let before = k.1.0 in
+      let same : v.ended ≡ before = append_cancel_right v.ended before (w.number ∷ w.ended) k.1.1 in
+      (k.0, λ n own. k.1.2 n (⊎_elim (λ (e : n ≡ v.number). inl e) (λ (h : Contains v.ended n). inr (subst (λ l. Contains l n) same h)) own))

@@ -38,7 +38,9 @@ module _ {S E : Type 0} (m : Meaning S E) (k : Snapshot S) where
         ended_rooms = λ n h. ap (λ l. slice_index l n) rest.rooms_are ∙ f.ended_rooms n h;
         sole = λ e. rest.live_is ∙ f.sole e;
         number = let b = at_below s.views id v at in let n = f.number_is in let c = rest.made_is in omega arith;
+        ended_below = λ n h. let b = f.ended_below n h in let c = rest.made_is in omega arith;
         below = subst (λ (z : ℕ × List E). All (λ e. m.number e < z.0) z.1) (λ i. (sym rest.made_is i, sym history i)) r.below;
+        made_counted = let b = f.made_counted in let c = rest.made_is in omega arith;
         few = subst (λ z. z ≤ 65536) (sym rest.made_is) r.few;
         some_live = subst (λ z. 1 ≤ z) (sym rest.live_is) (one_passes is_live s.views id v at live);
         live_few = subst (λ (z : ℕ × ℕ). z.0 ≤ z.1) (λ i. (sym rest.live_is i, sym rest.made_is i)) (count_by-le-length is_live s.views);
@@ -54,7 +56,9 @@ module _ {S E : Type 0} (m : Meaning S E) (k : Snapshot S) where
     ended_rooms = h.ended_rooms;
     sole = h.sole;
     number = h.number;
+    ended_below = h.ended_below;
     below = h.below;
+    made_counted = h.made_counted;
     few = h.few;
     some_live = h.some_live;
     live_few = h.live_few;
@@ -149,6 +153,7 @@ module _ {S E : Type 0} (m : Meaning S E) (k : Snapshot S) where
                 first_is = f.first_is;
                 not_ended = f.not_ended;
                 ended_below = f.ended_below;
+                made_counted = let c = rest.made_is in let d : m.made x ≤ length s.views = omega arith in d;
                 learned = tt;
               })
               (λ j u ne here live. views_now j u (r.views j u here live));

@@ -87,6 +87,7 @@ module _ {S E : Type 0} (m : Meaning S E) (k : Snapshot S) where
                 first_is = f.first_is;
                 not_ended = f.not_ended;
                 ended_below = f.ended_below;
+                made_counted = f.made_counted;
                 learned = tt;
               })
               (λ j u ne here alive. let g = r.views j u here alive in views_now j u record {
@@ -101,6 +102,7 @@ module _ {S E : Type 0} (m : Meaning S E) (k : Snapshot S) where
                 first_is = g.first_is;
                 not_ended = g.not_ended;
                 ended_below = g.ended_below;
+                made_counted = g.made_counted;
                 learned = g.learned;
               });
           owned = owned_set s.views id v w at kin r.owned;

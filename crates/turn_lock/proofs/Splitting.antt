@@ -102,6 +102,7 @@ module _ {S E : Type 0} (m : Meaning S E) (k : Snapshot S) where
               first_is = f.first_is;
               not_ended = f.not_ended;
               ended_below = λ x h. let b = f.ended_below x h in omega arith;
+              made_counted = let b = f.made_counted in let c : v.counts.made + 1 ≤ length s.views + 1 = omega arith in c;
               learned = tt;
             })
             (λ j u ne here alive. let g = r.views j u here alive in views_now j u record {
@@ -116,6 +117,7 @@ module _ {S E : Type 0} (m : Meaning S E) (k : Snapshot S) where
               first_is = g.first_is;
               not_ended = g.not_ended;
               ended_below = λ x h. let b = g.ended_below x h in omega arith;
+              made_counted = let b = g.made_counted in omega arith;
               learned = g.learned;
             }))
             (λ _. views_now (length views1) n record {
@@ -130,6 +132,7 @@ module _ {S E : Type 0} (m : Meaning S E) (k : Snapshot S) where
               first_is = f.first_is;
               not_ended = λ h. none_contained (length views1) h;
               ended_below = λ x h. absurd (none_contained x h);
+              made_counted = let c : 0 ≤ length s.views + 1 = omega arith in c;
               learned = tt;
             });
         owned = owned_push views1 n refl (made ∙ sym set_long) (owned_set s.views id v w at kin r.owned);

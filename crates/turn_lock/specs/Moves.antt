@@ -62,4 +62,4 @@ module _ {S E : Type 0} (m : Meaning S E) where
 
   -- nothing changes, and the caller is told of the pass that it joined last
   abbrev pub told : Step (std.Option S) → Me (std.Option S) (View S E) → ℕ → Me (std.Option S) (View S E) → Type 0
-  told st me found me' = (me' ≡ me) × Learned m me.0.seen me.0.joined
+  told st me found me' = (me' ≡ me) × Learned m me.0.number me.0.ended me.0.seen me.0.joined

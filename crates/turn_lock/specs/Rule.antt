@@ -39,8 +39,10 @@ module _ {S E : Type 0} (m : Meaning S E) where
     -- more: its own number isn't in its `ended`, and the numbers there are below the number made
     pub not_ended : ¬ (Contains v.ended i)
     pub ended_below : (n : ℕ) → Contains v.ended n → n < made
-    -- more: its `seen` includes all that the pass had seen that it joined last
-    pub learned : Learned m v.seen v.joined
+    -- more: at most as many passes were made when it counted them
+    pub made_counted : v.counts.made ≤ made
+    -- more: its `seen` includes all that the pass had seen that it joined last, of whose numbers it had owned none
+    pub learned : Learned m v.number v.ended v.seen v.joined
 
   -- the slot is at home
   pub record IsHome (first : Snapshot S) (history : List E) (rooms : List ℕ) (made live : ℕ) (s : Table S E) (x : S) : Type 0 where

@@ -23,9 +23,12 @@ module _ {S E : Type 0} (m : Meaning S E) where
     pub ended_rooms : (n : ℕ) → Contains v.ended n → slice_index (m.rooms x) n ≡ 0
     -- where the pass has counted one live pass, it is still the only one
     pub sole : v.counts.live ≡ 1 → m.live x ≡ 1
-    -- the numbers of the pass, and of every entry, are below the number of passes made
+    -- the numbers of the pass, of those that ended in it, and of every entry, are below the number of passes made
     pub number : v.number < m.made x
+    pub ended_below : (n : ℕ) → Contains v.ended n → n < m.made x
     pub below : All (λ e. m.number e < m.made x) (m.history x)
+    -- which is no less than the pass had counted
+    pub made_counted : v.counts.made ≤ m.made x
     -- there are at most 65,536 passes, of which at least one is live, and a room for each
     pub few : m.made x ≤ 65536
     pub some_live : 1 ≤ m.live x

@@ -1,5 +1,5 @@
 -- What a pass knows, its view, and lists of views.
-use Rattle.std.specs.Prelude.{◌≡◌, ◌⊎◌, ℕ, Bool, List, ◌++◌, All, Contains, None, Some, is_some}
+use Rattle.std.specs.Prelude.{◌≡◌, ◌⊎◌, ℕ, Bool, List, ◌∷◌, ◌++◌, All, Contains, None, Some, is_some}
 use Rattle.std.specs.Prelude as std
 use mathlib.Core.Option.{some}
 use lib.ListN.{get_elem?}
@@ -11,6 +11,10 @@ module _ {S E : Type 0} where
   -- the number is the pass's own, or of a pass that ended in it
   abbrev pub Owns : View S E → ℕ → Type 0
   Owns v n = (n ≡ v.number) ⊎ (Contains v.ended n)
+
+  -- no number is owned by both passes
+  abbrev pub AreDisjoint : View S E → View S E → Type 0
+  AreDisjoint v w = (n : ℕ) → Owns v n → ¬ (Owns w n)
 
   -- the pass waits for a turn, or has it
   abbrev pub has_ticket : View S E → Bool
@@ -45,7 +49,12 @@ module _ {S E : Type 0} (m : Meaning S E) where
   abbrev pub Includes : List E → Joined E → Type 0
   Includes seen o = (between : List E) × (seen ≡ o.seen ++ between) × All (λ e. ¬ ((m.number e ≡ o.number) ⊎ (Contains o.ended (m.number e)))) between
 
-  -- the same of the pass that was joined last, if there is one
-  abbrev pub Learned : List E → std.Option (Joined E) → Type 0
-  Learned seen None = Unit {0}
-  Learned seen (Some o) = Includes seen o
+  -- the pass of this number and `ended`, in which the joined pass ended, owned none of its numbers before
+  abbrev pub OwnedNone : ℕ → List ℕ → Joined E → Type 0
+  OwnedNone number ended o =
+      (before : List ℕ) × (ended ≡ before ++ o.number ∷ o.ended) × ((n : ℕ) → (n ≡ number) ⊎ (Contains before n) → ¬ ((n ≡ o.number) ⊎ (Contains o.ended n)))
+
+  -- both, of the pass that was joined last, if there is one
+  abbrev pub Learned : ℕ → List ℕ → List E → std.Option (Joined E) → Type 0
+  Learned number ended seen None = Unit {0}
+  Learned number ended seen (Some o) = Includes seen o × OwnedNone number ended o

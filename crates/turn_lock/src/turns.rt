@@ -47,7 +47,7 @@ impl<S: Replays> Turns<S> {
     ghost use Rattle.turn_lock.specs.Moves.{newcomer, went, grown, fresh, joining, joined_of};
     ghost use Rattle.turn_lock.specs.Passes.{first_of, view_of, value_of, IsOf, IsHeldOf, IsFree, IsInTurn, HasCome};
     ghost use Rattle.turn_lock.specs.Values.{Begins, Finds, Returns, Leaves};
-    ghost use Rattle.turn_lock.specs.Views.{Includes, ThenOwn};
+    ghost use Rattle.turn_lock.specs.Views.{AreDisjoint, Includes, ThenOwn};
 
     /// Puts a value under a lock of its own. Its opening is that of every history in this lock.
     pub fn new(alloc: Global, value: S) -> Result<Opening<S>, NoMemory>
@@ -198,6 +198,7 @@ impl<S: Replays> Turns<S> {
         ensures turn { IsInTurn into.new }
         ensures view { view_of into.new ≡ joining (view_of into.old) (view_of other) }
         ensures includes { Includes S.meaning (view_of into.old).seen (joined_of (view_of other)) }
+        ensures disjoint { AreDisjoint (view_of into.old) (view_of other) }
     {
         let Pass { seat } = other;
         self.table.shared.join_seat::<TakeIn>(&mut into.seat, seat);

@@ -131,8 +131,8 @@ fn join_all<R: Wait>(rt: &R, shared: &Shared, first: &mut Thread, mut tokens: Ve
     tokens.destroy_empty();
 }
 
-// Waits until the first token is the only one, closes the driver, and answers how many calls its journal has.
-fn closed<R: Wait>(rt: &R, shared: Shared, mut first: Thread) -> u64
+/// Waits until the first token is the only one, closes the driver, and answers how many calls its journal has.
+pub fn closed<R: Wait>(rt: &R, shared: Shared, mut first: Thread) -> u64
     requires { IsOf shared first }
 {
     'waiting: for _ in rt.forever() {

@@ -10,4 +10,4 @@ pub returns : goal.returns
 returns c =
     let t = c.args.thread.now in
     let v = view_of t.hold.pass in
-    subst (λ (s : State). IsLegalFrom s (v.seen ++ t.hold.tail.items)) (ap start_in c.requires.owns.1) (legal_from (start_in v.first) (v.seen ++ t.hold.tail.items) t.legal)
+    subst (λ (s : State). IsLegalFrom s (v.seen ++ t.hold.tail.items)) (ap start_in c.requires.owns.0.1) (legal_from (start_in v.first) (v.seen ++ t.hold.tail.items) t.legal)

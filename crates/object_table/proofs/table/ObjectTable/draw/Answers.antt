@@ -6,6 +6,7 @@ use Rattle.driver_objects.specs.Storages.{drawn_storage}
 use Rattle.egl_model.specs.Objects.{with_storage, change_storage}
 use Rattle.object_table.specs.Changes.{ChangesOne}
 use Rattle.object_table.proofs.ChangeLaws.{Changes, changes, same_apart, storage_apart, on_ok, on_err}
+use Rattle.object_table.proofs.StoreLaws.{object_at}
 use Rattle.object_table.proofs.table.ObjectTable.draw.Goals as goal
 
 pub returns-clause-ok : goal.returns-clause-ok
@@ -18,3 +19,6 @@ pub returns-clause-err : goal.returns-clause-err
 returns-clause-err c = on_err c.draw_at.result (λ (e : ChangesOne c.self.inside.store c.args.n (λ o. o) c.draw_at.new.store).
     let d : Changes c.self.inside.next c.self.inside.store c.draw_at.new.store c.args.n (λ o. o) = changes c.self.inside.next c.self.inside.store c.draw_at.new.store c.args.n (λ o. o) c.self.invariant same_apart refl e in
     rw (← c.self.view_is) (rw (d.objects, d.holds, d.room, set-get_or) refl)) c.draw_at.ensures.err
+
+pub returns-clause-room : goal.returns-clause-room
+returns-clause-room c = rw (← c.self.view_is) (rw (object_at c.self.inside.next c.self.inside.store.nodes c.self.invariant.below c.args.n) c.draw_at.ensures.room)

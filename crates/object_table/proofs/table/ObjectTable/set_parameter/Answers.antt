@@ -8,5 +8,5 @@ use Rattle.object_table.proofs.table.ObjectTable.set_parameter.Goals as goal
 pub returns : goal.returns
 unfolding change_texture
 returns c =
-    let d : Changes c.self.inside.next c.self.inside.store c.set_parameter_at.new.store c.args.n (with_texture (with_value (number c.args.call.now 1) (number c.args.call.now 2))) = changes c.self.inside.next c.self.inside.store c.set_parameter_at.new.store c.args.n (with_texture (with_value (number c.args.call.now 1) (number c.args.call.now 2))) c.self.invariant (texture_apart _) refl c.set_parameter_at.ensures in
+    let d : Changes c.self.inside.next c.self.inside.store c.edit_at.new.store c.args.n (with_texture (with_value (number c.args.call.now 1) (number c.args.call.now 2))) = changes c.self.inside.next c.self.inside.store c.edit_at.new.store c.args.n (with_texture (with_value (number c.args.call.now 1) (number c.args.call.now 2))) c.self.invariant (texture_apart _) refl c.edit_at.ensures.object in
     rw (← c.self.view_is) (rw (d.objects, d.holds, d.room) refl)

@@ -10,10 +10,10 @@ use Rattle.egl_model.specs.Parts.{Private}
 use Rattle.turn_lock.specs.Passes.{first_of, view_of}
 use Rattle.turn_lock.specs.declared.view.View.{View}
 use Rattle.shared_driver.specs.declared.cores.Core.{Core}
-use Rattle.shared_driver.specs.Cores.{origin}
+use Rattle.shared_driver.specs.Cores.{origin, place_for, room_for}
 use Rattle.shared_driver.specs.Tokens.{Goes}
 use Rattle.shared_driver.specs.Turns.{IsTurn}
-use Rattle.shared_driver.proofs.Attaching.{new_token, not_halted, outs_new, room_given, room_gives, rooms_long, rooms_other, rooms_own, turn_admits}
+use Rattle.shared_driver.proofs.Attaching.{counted_before, new_token, not_halted, outs_new, owned_before, room_given, room_gives, rooms_long, rooms_other, rooms_own, turn_admits}
 use Rattle.shared_driver.proofs.Histories.{of_thread, ready_at, ready_replay}
 use Rattle.shared_driver.proofs.Owned.{halted_same, own_each}
 use Rattle.shared_driver.proofs.Turning.{after, hands_mine, keeps_ends, keeps_learns, keeps_mine, kept_rooms, lent_begun, many_kept, many_now, room_found, room_kept, room_now, tok}
@@ -29,7 +29,7 @@ split_after-pass-requires-clause-added g c =
     let z = c.value-core.result.now in
     let b = lent_begun f h u c.begin_turn-held.result.value z c.value-core.ensures.value c.begin_turn-held.ensures.begun in
     let room = (slice_index z.rooms.items n - length u.tail.items) + (256 - t.places) in
-    let found = room_found f h u z t.halted t.places b t.room in
+    let found = room_found f h u z (room_for t.halt_used) t.places (place_for t.end_kept) b t.room in
     let y = c.admit.new.self in (
       u.tail.items,
       c.in-Ok.ensures.added.0 ∙ ap (λ l. l ++ u.tail.items) (sym (ap (λ (v : View Core Entry). v.seen) b.view)),
@@ -46,7 +46,7 @@ end_turn-requires-clause-ends g c =
     let z = c.value-core.result.now in
     let b = lent_begun f h u c.begin_turn-held.result.value z c.value-core.ensures.value c.begin_turn-held.ensures.begun in
     let room = (slice_index z.rooms.items n - length u.tail.items) + (256 - t.places) in
-    let found = room_found f h u z t.halted t.places b t.room in
+    let found = room_found f h u z (room_for t.halt_used) t.places (place_for t.end_kept) b t.room in
     let y = c.admit.new.self in
     let p = c.in-Ok.ensures in
     let es = z.journal.entries ++ u.tail.items in
@@ -69,7 +69,7 @@ end_turn-requires-clause-ends g c =
       live = p.rooms.0 ∙ sym (ap (λ (v : View Core Entry). v.counts.live) grew ∙ ap (λ (v : View Core Entry). v.counts.live + 1) b.view);
       long = rooms_long z y n room p.rooms.1 ∙ ap length (sym rooms);
       other_rooms = λ m ne. rooms_other z y n room m p.rooms.1 (λ k. ne (k ∙ b.numbered ∙ sym number)) ∙ ap (λ l. slice_index l m) (sym rooms);
-      room = subst (λ (q : List Entry × ℕ). length q.0 < q.1) (λ j. (sym p.added.1 j, sym (rooms_own z y n room b.turn.number p.rooms.1) j)) (room_given t.halted t.places (length u.tail.items) _ found);
+      room = subst (λ (q : List Entry × ℕ). length q.0 < q.1) (λ j. (sym p.added.1 j, sym (rooms_own z y n room b.turn.number p.rooms.1) j)) (room_given (length u.tail.items) _ (256 - t.places) b.room);
     }
 
 pub end_turn-requires-in-Err-clause-ends : goal.end_turn-requires-in-Err-clause-ends
@@ -82,7 +82,7 @@ end_turn-requires-in-Err-clause-ends g c =
     let z = c.value-core.result.now in
     let b = lent_begun f h u c.begin_turn-held.result.value z c.value-core.ensures.value c.begin_turn-held.ensures.begun in
     let room = (slice_index z.rooms.items n - length u.tail.items) + (256 - t.places) in
-    let found = room_found f h u z t.halted t.places b t.room in
+    let found = room_found f h u z (room_for t.halt_used) t.places (place_for t.end_kept) b t.room in
     let y = c.admit.new.self in
     let p = c.in-Err.ensures in
     keeps_ends f h u _ z y b refl refl p.err.4 p.err.0 p.err.3 p.err.2 p.owed p.spare p.err.1
@@ -97,7 +97,7 @@ invariant_of-from g c =
     let z = c.value-core.result.now in
     let b = lent_begun f h u c.begin_turn-held.result.value z c.value-core.ensures.value c.begin_turn-held.ensures.begun in
     let room = (slice_index z.rooms.items n - length u.tail.items) + (256 - t.places) in
-    let found = room_found f h u z t.halted t.places b t.room in
+    let found = room_found f h u z (room_for t.halt_used) t.places (place_for t.end_kept) b t.room in
     let y = c.admit.new.self in
     let w = c.end_turn.new.hold in
     let k = c.end_turn.ensures.holds in
@@ -117,7 +117,8 @@ invariant_of-from g c =
       legal = k.legal;
       local = k.local;
       part = k.part;
-      room = room_now t.halted 256 w room empty its (room_gives t.halted t.places (length u.tail.items) _ found (omega (arith, t.many)));
+      room = room_now (room_for t.halt_used) 256 (place_for t.end_kept) w room empty its (room_gives (room_for t.halt_used) t.places (length u.tail.items) _ (place_for t.end_kept) found (omega (arith, t.many)));
+      used = t.used;
       many = many_now 256 w empty (omega arith);
       spare = subst (λ m. 256 ≤ m) (sym (ap (λ q. deque_capacity q) c.end_turn.ensures.kept.1 ∙ p.capacity ∙ ap (λ q. deque_capacity q) b.same_tail)) t.spare;
       halts = halted_same (view_of h.pass).number (view_of w.pass).number ((view_of h.pass).seen ++ h.tail.items) ((view_of w.pass).seen ++ w.tail.items) t.halted number t.halts (hands_mine h w number goes);
@@ -134,7 +135,7 @@ invariant_of-result g c =
     let z = c.value-core.result.now in
     let b = lent_begun f h u c.begin_turn-held.result.value z c.value-core.ensures.value c.begin_turn-held.ensures.begun in
     let room = (slice_index z.rooms.items n - length u.tail.items) + (256 - t.places) in
-    let found = room_found f h u z t.halted t.places b t.room in
+    let found = room_found f h u z (room_for t.halt_used) t.places (place_for t.end_kept) b t.room in
     let y = c.admit.new.self in
     let p = c.in-Ok.ensures in
     let es = z.journal.entries ++ u.tail.items in
@@ -142,7 +143,7 @@ invariant_of-result g c =
     let few : z.driver.made < 65536 = subst (λ m. m < 65536) p.number.0 p.number.1 in
     let out = p.part s (ready_replay (origin f) z.driver.made es (ready_at f.driver.state.windows f.driver.state.video z.driver.made b.sides few)) (b.turn.driver ∙ ap (λ l. hide l s) (sym (outs_new z.driver.away))) in
     let turn : IsTurn f y n [] = turn_admits f z y n room u.tail.items b.turn p.added.0 out.1 p.driver p.rooms.1 p.owed p.spare in
-    let k = new_token (first_of c.args.self.now.turns) h u z y (view_of c.split_after-pass.result) c.in-Ok.field-0.number c.in-Ok.field-0.part c.in-Ok.field-0.tail.items b c.requires.owns.1 turn p.added.0 c.split_after-pass.ensures.new p.number.0 out.0 p.its_tail.0 in
+    let k = new_token (first_of c.args.self.now.turns) h u z y (view_of c.split_after-pass.result) c.in-Ok.field-0.number c.in-Ok.field-0.part c.in-Ok.field-0.tail.items b c.requires.owns.0.1 turn p.added.0 c.split_after-pass.ensures.new p.number.0 out.0 p.its_tail.0 in
     record {
       free = c.split_after-pass.ensures.turn.1;
       numbered = k.numbered;
@@ -152,6 +153,7 @@ invariant_of-result g c =
       local = k.local;
       part = ap (λ (q : Private). Some q) k.part;
       room = k.room;
+      used = λ e. absurd (let q : false ≡ true = e in cc);
       many = k.many;
       spare = p.its_tail.1;
       halts = not_halted (view_of c.split_after-pass.result).number ((view_of c.split_after-pass.result).seen ++ c.in-Ok.field-0.tail.items) k.mine;
@@ -168,7 +170,7 @@ invariant_of-from-in-Err g c =
     let z = c.value-core.result.now in
     let b = lent_begun f h u c.begin_turn-held.result.value z c.value-core.ensures.value c.begin_turn-held.ensures.begun in
     let room = (slice_index z.rooms.items n - length u.tail.items) + (256 - t.places) in
-    let found = room_found f h u z t.halted t.places b t.room in
+    let found = room_found f h u z (room_for t.halt_used) t.places (place_for t.end_kept) b t.room in
     let y = c.admit.new.self in
     let w = c.end_turn-in-Err.new.hold in
     let k = c.end_turn-in-Err.ensures.holds in
@@ -184,7 +186,8 @@ invariant_of-from-in-Err g c =
       legal = k.legal;
       local = k.local;
       part = k.part;
-      room = room_kept t.halted t.places u w _ left a.room_is found;
+      room = room_kept (room_for t.halt_used) t.places (place_for t.end_kept) u w _ left a.room_is found;
+      used = t.used;
       many = many_kept t.places h w (left ∙ ap (λ s. s.items) b.same_tail) t.many;
       spare = subst (λ m. 256 ≤ m) (sym (ap (λ q. deque_capacity q) c.end_turn-in-Err.ensures.kept.1 ∙ p.capacity ∙ ap (λ q. deque_capacity q) b.same_tail)) t.spare;
       halts = halted_same (view_of h.pass).number (view_of w.pass).number ((view_of h.pass).seen ++ h.tail.items) ((view_of w.pass).seen ++ w.tail.items) t.halted a.number t.halts (keeps_mine h w a.number learns);
@@ -201,7 +204,7 @@ returns-in-Ok-clause-mine g c =
     let z = c.value-core.result.now in
     let b = lent_begun f h u c.begin_turn-held.result.value z c.value-core.ensures.value c.begin_turn-held.ensures.begun in
     let room = (slice_index z.rooms.items n - length u.tail.items) + (256 - t.places) in
-    let found = room_found f h u z t.halted t.places b t.room in
+    let found = room_found f h u z (room_for t.halt_used) t.places (place_for t.end_kept) b t.room in
     let y = c.admit.new.self in
     let w = c.end_turn.new.hold in
     let k = c.end_turn.ensures.holds in
@@ -223,7 +226,7 @@ returns-in-Ok-clause-new_mine g c =
     let z = c.value-core.result.now in
     let b = lent_begun f h u c.begin_turn-held.result.value z c.value-core.ensures.value c.begin_turn-held.ensures.begun in
     let room = (slice_index z.rooms.items n - length u.tail.items) + (256 - t.places) in
-    let found = room_found f h u z t.halted t.places b t.room in
+    let found = room_found f h u z (room_for t.halt_used) t.places (place_for t.end_kept) b t.room in
     let y = c.admit.new.self in
     let p = c.in-Ok.ensures in
     let es = z.journal.entries ++ u.tail.items in
@@ -231,7 +234,7 @@ returns-in-Ok-clause-new_mine g c =
     let few : z.driver.made < 65536 = subst (λ m. m < 65536) p.number.0 p.number.1 in
     let out = p.part s (ready_replay (origin f) z.driver.made es (ready_at f.driver.state.windows f.driver.state.video z.driver.made b.sides few)) (b.turn.driver ∙ ap (λ l. hide l s) (sym (outs_new z.driver.away))) in
     let turn : IsTurn f y n [] = turn_admits f z y n room u.tail.items b.turn p.added.0 out.1 p.driver p.rooms.1 p.owed p.spare in
-    (new_token (first_of c.args.self.now.turns) h u z y (view_of c.split_after-pass.result) c.in-Ok.field-0.number c.in-Ok.field-0.part c.in-Ok.field-0.tail.items b c.requires.owns.1 turn p.added.0 c.split_after-pass.ensures.new p.number.0 out.0 p.its_tail.0).mine
+    (new_token (first_of c.args.self.now.turns) h u z y (view_of c.split_after-pass.result) c.in-Ok.field-0.number c.in-Ok.field-0.part c.in-Ok.field-0.tail.items b c.requires.owns.0.1 turn p.added.0 c.split_after-pass.ensures.new p.number.0 out.0 p.its_tail.0).mine
 
 pub returns-in-Err-clause-mine : goal.returns-in-Err-clause-mine
 returns-in-Err-clause-mine g c =
@@ -243,7 +246,7 @@ returns-in-Err-clause-mine g c =
     let z = c.value-core.result.now in
     let b = lent_begun f h u c.begin_turn-held.result.value z c.value-core.ensures.value c.begin_turn-held.ensures.begun in
     let room = (slice_index z.rooms.items n - length u.tail.items) + (256 - t.places) in
-    let found = room_found f h u z t.halted t.places b t.room in
+    let found = room_found f h u z (room_for t.halt_used) t.places (place_for t.end_kept) b t.room in
     let y = c.admit.new.self in
     let w = c.end_turn-in-Err.new.hold in
     let k = c.end_turn-in-Err.ensures.holds in
@@ -252,3 +255,20 @@ returns-in-Err-clause-mine g c =
     let left : w.tail.items ≡ u.tail.items = ap (λ s. s.items) c.end_turn-in-Err.ensures.kept.1 ∙ p.err.4 in
     let learns = keeps_learns f h u w z y _ b a left p.err.3 in
     keeps_mine h w a.number learns
+
+pub returns-in-Ok-clause-new_number : goal.returns-in-Ok-clause-new_number
+returns-in-Ok-clause-new_number g c =
+    let h = c.args.from.now.hold in
+    let f = (first_of c.args.self.now.turns).value in
+    let u = c.begin_turn-held.new.hold in
+    let z = c.value-core.result.now in
+    let b = lent_begun f h u c.begin_turn-held.result.value z c.value-core.ensures.value c.begin_turn-held.ensures.begun in
+    let y = c.admit.new.self in
+    let left = c.end_turn.ensures.view in
+    let grew = c.split_after-pass.ensures.view in
+    let v = view_of c.split_after-pass.result in
+    let w = view_of c.end_turn.new.hold.pass in
+    let new = c.split_after-pass.ensures.new in
+    let number = ap (λ (q : View Core Entry). q.number) left ∙ ap (λ (q : View Core Entry). q.number) grew ∙ ap (λ (q : View Core Entry). q.number) b.view in
+    let ended = ap (λ (q : View Core Entry). q.ended) left ∙ ap (λ (q : View Core Entry). q.ended) grew ∙ ap (λ (q : View Core Entry). q.ended) b.view in
+    (counted_before f h u z v y.journal.entries b new, owned_before f h u z v w y.journal.entries b new number ended)

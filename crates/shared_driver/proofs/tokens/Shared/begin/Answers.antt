@@ -1,7 +1,7 @@
-use Rattle.std.proofs.Common.{◌≡◌, ◌≤◌, ◌+◌, ◌-◌, ◌∙◌, ◌∷◌, ◌++◌, [], Bool, arith, refl, ap, sym, subst, length}
+use Rattle.std.proofs.Common.{◌≡◌, ◌≤◌, ◌+◌, ◌-◌, ◌||◌, ◌∙◌, ◌∷◌, ◌++◌, [], Bool, arith, refl, ap, sym, subst, length}
 use Rattle.std.specs.Prelude.{slice_index}
 use Rattle.std.specs.VecDeque.{deque_capacity}
-use Rattle.egl_calls.specs.Calls.{CallValue}
+use Rattle.egl_calls.specs.Calls.{CallValue, ReplyValue}
 use Rattle.egl_calls.specs.Journals.{is_halt_kind}
 use Rattle.turn_lock.specs.Passes.{first_of, view_of}
 use Rattle.shared_driver.specs.Cores.{entry, is_waiting, place_for, room_for}
@@ -57,6 +57,7 @@ invariant_of-thread g c =
     let a = after f h u u w z y _ b refl c.end_turn_with.ensures.view p.rooms in
     let none : w.tail.items ≡ [] = ap (λ q. q.items) c.end_turn_with.ensures.kept.1 ∙ p.tail in
     let goes = adds_goes f h u w z y _ c.args.mark c.args.call c.in-Ok.field-0.reply b a none p.added in
+    let waits : c.is_waiting-thread.result ≡ is_waiting c.in-Ok.field-0.reply.outcome = c.is_waiting-thread.ensures ∙ ap (λ (r : ReplyValue). is_waiting r.outcome) c.reply.view_is in
     record {
       free = k.free;
       numbered = k.numbered;
@@ -65,7 +66,10 @@ invariant_of-thread g c =
       legal = k.legal;
       local = k.local;
       part = k.part;
-      room = room_now c.either-thread.result 256 w _ none a.room_is (subst (λ (q : Bool). room_for q + 256 ≤ ((slice_index z.rooms.items u.number - length u.tail.items) + (256 - t.places)) + place_for (is_waiting c.in-Ok.field-0.reply.outcome)) (sym c.either-thread.ensures) (room_back t.halted c.is_halt-halts.result t.places (length u.tail.items) (slice_index z.rooms.items u.number) (place_for (is_waiting c.in-Ok.field-0.reply.outcome)) (room_found f h u z t.halted t.places b t.room) (omega (arith, t.many))));
+      room = room_now (room_for t.halt_used) 256 (place_for c.is_waiting-thread.result) w _ none a.room_is
+          (room_back (room_for t.halt_used) t.places (length u.tail.items) (slice_index z.rooms.items u.number) (place_for t.end_kept) (place_for (is_waiting c.in-Ok.field-0.reply.outcome)) (room_found f h u z (room_for t.halt_used) t.places (place_for t.end_kept) b t.room) (ap place_for c.requires.owns.1) (omega (arith, t.many))
+          ∙ ap (λ (q : Bool). room_for t.halt_used + 256 + place_for q) (sym waits));
+      used = λ e. c.either-thread.ensures ∙ ap (λ x. x || c.is_halt-halts.result) (t.used e);
       many = many_now 256 w none (omega arith);
       spare = subst (λ n. 256 ≤ n) (sym (ap (λ q. deque_capacity q) c.end_turn_with.ensures.kept.1 ∙ p.capacity ∙ ap (λ q. deque_capacity q) b.same_tail)) t.spare;
       halts = c.either-thread.ensures ∙ halted_more (view_of h.pass).number (view_of w.pass).number ((view_of h.pass).seen ++ h.tail.items) ((view_of w.pass).seen ++ w.tail.items) (entry (view_of h.pass).number c.args.mark c.args.call c.in-Ok.field-0.reply ∷ []) t.halted c.is_halt-halts.result a.number t.halts (adds_mine h w c.args.mark c.args.call c.in-Ok.field-0.reply a.number goes) (or_false (is_halt_kind c.args.call.kind) ∙ sym (c.is_halt-halts.ensures ∙ ap (λ (m : CallValue). is_halt_kind m.kind) c.call.view_is));
@@ -95,7 +99,8 @@ invariant_of-thread-in-Err g c =
       legal = k.legal;
       local = k.local;
       part = k.part;
-      room = room_kept t.halted t.places u w _ left a.room_is (room_found f h u z t.halted t.places b t.room);
+      room = room_kept (room_for t.halt_used) t.places (place_for t.end_kept) u w _ left a.room_is (room_found f h u z (room_for t.halt_used) t.places (place_for t.end_kept) b t.room);
+      used = t.used;
       many = many_kept t.places h w (left ∙ ap (λ q. q.items) b.same_tail) t.many;
       spare = subst (λ n. 256 ≤ n) (sym (ap (λ q. deque_capacity q) c.end_turn.ensures.kept.1 ∙ p.capacity ∙ ap (λ q. deque_capacity q) b.same_tail)) t.spare;
       halts = halted_same (view_of h.pass).number (view_of w.pass).number ((view_of h.pass).seen ++ h.tail.items) ((view_of w.pass).seen ++ w.tail.items) t.halted a.number t.halts (keeps_mine h w a.number learns);

@@ -1,4 +1,4 @@
-use Rattle.std.proofs.Common.{◌≡◌, ◌≤◌, ◌<◌, ◌+◌, ◌-◌, ◌∙◌, ◌++◌, [], ℕ, Bool, false, List, arith, refl, ap, sym, subst, length}
+use Rattle.std.proofs.Common.{◌≡◌, ◌≤◌, ◌<◌, ◌+◌, ◌-◌, ◌||◌, ◌∙◌, ◌++◌, [], ℕ, Bool, false, List, arith, refl, ap, sym, subst, length}
 use Rattle.std.specs.Prelude.{slice_index}
 use Rattle.std.specs.Prelude as std
 use Rattle.std.specs.VecDeque.{deque_capacity}
@@ -11,7 +11,7 @@ use Rattle.driver_core.specs.Machine.{Machine, outs}
 use Rattle.turn_lock.specs.Passes.{first_of, view_of}
 use Rattle.turn_lock.specs.declared.view.View.{View}
 use Rattle.shared_driver.specs.declared.cores.Core.{Core}
-use Rattle.shared_driver.specs.Cores.{origin, room_for}
+use Rattle.shared_driver.specs.Cores.{origin, place_for, room_for}
 use Rattle.shared_driver.specs.Picks.{picked_entries}
 use Rattle.shared_driver.proofs.Histories.{of_thread}
 use Rattle.shared_driver.proofs.Owned.{halted_more, halted_same, mine_goes, own_append}
@@ -117,7 +117,9 @@ invariant_of-thread g c =
       legal = k.legal;
       local = k.local;
       part = k.part;
-      room = room_now c.either-thread.result 256 w _ none a.room_is (subst (λ (x : Bool). room_for x + 256 ≤ slice_index m.rooms.items n + (256 - t.places)) (sym c.either-thread.ensures) (room_picks t.halted c.in-Ok.field-0.halts t.places (length u.tail.items) (slice_index z.rooms.items n) (slice_index m.rooms.items n) (room_found f h u z t.halted t.places b t.room) (omega (arith, t.many)) left));
+      room = room_now (room_for t.halt_used) 256 (place_for t.end_kept) w _ none a.room_is
+          (room_picks (room_for t.halt_used) t.places (length u.tail.items) (slice_index z.rooms.items n) (slice_index m.rooms.items n) (place_for t.end_kept) (room_found f h u z (room_for t.halt_used) t.places (place_for t.end_kept) b t.room) (omega (arith, t.many)) left);
+      used = λ e. c.either-thread.ensures ∙ ap (λ x. x || c.in-Ok.field-0.halts) (t.used e);
       many = many_now 256 w none (omega arith);
       spare = subst (λ k. 256 ≤ k) (sym (ap (λ s. deque_capacity s) c.end_turn_with.ensures.kept.1 ∙ p.tail.1 ∙ q.capacity ∙ ap (λ s. deque_capacity s) b.same_tail)) t.spare;
       halts = c.either-thread.ensures ∙ halted_more (view_of h.pass).number (view_of w.pass).number ((view_of h.pass).seen ++ h.tail.items) ((view_of w.pass).seen ++ w.tail.items) (picked_entries (view_of h.pass).number p.ok.0 r) t.halted c.in-Ok.field-0.halts a.number t.halts own (ap (λ k. are_halted (picked_entries k p.ok.0 r)) (sym its) ∙ picked_halts m y n p.ok.0 r c.in-Ok.field-0.drawing p.ok.2 ∙ sym p.ok.3);
@@ -152,7 +154,8 @@ invariant_of-thread-in-Err g c =
       legal = k.legal;
       local = k.local;
       part = k.part;
-      room = room_now t.halted t.places w _ none a.room_is (room_hands t.halted t.places _ _ (room_found f h u z t.halted t.places b t.room));
+      room = room_now (room_for t.halt_used) t.places (place_for t.end_kept) w _ none a.room_is (room_hands (room_for t.halt_used) t.places _ _ (place_for t.end_kept) (room_found f h u z (room_for t.halt_used) t.places (place_for t.end_kept) b t.room));
+      used = t.used;
       many = many_now t.places w none (omega (arith, t.many));
       spare = subst (λ k. 256 ≤ k) (sym (ap (λ s. deque_capacity s) c.end_turn.ensures.kept.1 ∙ p.tail.1 ∙ q.capacity ∙ ap (λ s. deque_capacity s) b.same_tail)) t.spare;
       halts = halted_same (view_of h.pass).number (view_of w.pass).number ((view_of h.pass).seen ++ h.tail.items) ((view_of w.pass).seen ++ w.tail.items) t.halted a.number t.halts (hands_mine h w a.number goes);

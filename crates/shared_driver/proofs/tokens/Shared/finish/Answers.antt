@@ -1,6 +1,7 @@
 use Rattle.std.proofs.Common.{◌≡◌, ◌≤◌, ◌∙◌, ◌++◌, [], arith, refl, ap, sym, subst}
 use Rattle.std.specs.VecDeque.{deque_capacity}
 use Rattle.turn_lock.specs.Passes.{first_of, view_of}
+use Rattle.shared_driver.specs.Cores.{place_for, room_for}
 use Rattle.shared_driver.proofs.Owned.{halted_same}
 use Rattle.shared_driver.proofs.Turning.{after, hands_ends, hands_goes, hands_mine, lent_begun, many_now, room_found, room_hands, room_now}
 use Rattle.shared_driver.proofs.tokens.Shared.finish.Goals as goal
@@ -39,7 +40,8 @@ invariant_of-thread g c =
       legal = k.legal;
       local = k.local;
       part = k.part;
-      room = room_now t.halted t.places w _ none a.room_is (room_hands t.halted t.places _ _ (room_found f h u z t.halted t.places b t.room));
+      room = room_now (room_for t.halt_used) t.places (place_for t.end_kept) w _ none a.room_is (room_hands (room_for t.halt_used) t.places _ _ (place_for t.end_kept) (room_found f h u z (room_for t.halt_used) t.places (place_for t.end_kept) b t.room));
+      used = t.used;
       many = many_now t.places w none (omega (arith, t.many));
       spare = subst (λ n. 256 ≤ n) (sym (ap (λ q. deque_capacity q) c.end_turn.ensures.kept.1 ∙ p.capacity ∙ ap (λ q. deque_capacity q) b.same_tail)) t.spare;
       halts = halted_same (view_of h.pass).number (view_of w.pass).number ((view_of h.pass).seen ++ h.tail.items) ((view_of w.pass).seen ++ w.tail.items) t.halted a.number t.halts (hands_mine h w a.number goes);

@@ -1,14 +1,13 @@
-use Rattle.std.proofs.Common.{◌≡◌, ◌≤◌, ◌+◌, ◌∙◌, ◌++◌, false, true, ap, sym, subst, length}
+use Rattle.std.proofs.Common.{◌≡◌, ◌∙◌, ◌++◌, false, true, ap, sym}
 use Rattle.egl_calls.specs.Journals.{JournalValue}
 use Rattle.egl_calls.specs.declared.entries.Entry.{Entry}
 use Rattle.turn_lock.specs.Passes.{first_of, view_of}
 use Rattle.turn_lock.specs.declared.view.View.{View}
 use Rattle.shared_driver.specs.declared.cores.Core.{Core}
-use Rattle.shared_driver.specs.Cores.{room_for}
 use Rattle.shared_driver.specs.Tokens.{token_of}
 use Rattle.shared_driver.proofs.Histories.{of_thread}
 use Rattle.shared_driver.proofs.Owned.{halted_same, includes_ended, includes_mine, learns_ended, none_other}
-use Rattle.shared_driver.proofs.Turning.{held, idle_holds, idle_learns, idle_room, included, joined_returns, keeps_mine, some_tail, tok}
+use Rattle.shared_driver.proofs.Turning.{disjoint_tokens, held, idle_holds, idle_learns, idle_room, included, joined_returns, keeps_mine, some_tail, tok}
 use Rattle.shared_driver.proofs.tokens.Shared.join.Goals as goal
 
 pub give_back-requires-clause-value : goal.give_back-requires-clause-value
@@ -34,8 +33,8 @@ invariant_of-into g c =
     let seen = ap (λ (v : View Core Entry). v.seen) left ∙ ap (λ (j : JournalValue). j.entries) kept.1 in
     let rooms = ap (λ (v : View Core Entry). v.rooms) left ∙ ap (λ r. r.items) kept.2 in
     let first = ap (λ (v : View Core Entry). v.first) left ∙ ap (λ (v : View Core Entry). v.first) joined ∙ ap (λ (v : View Core Entry). v.first) view in
-    let b = held t.hold t.free t.numbered t.few t.sides t.legal t.local t.part (some_tail _ _ _ _ t.room) in
-    let k = idle_holds f h q x z b c.requires.owns.0.1 found lent c.give_back.ensures.free number seen rooms first in
+    let b = held t.hold t.free t.numbered t.few t.sides t.legal t.local t.part (some_tail _ _ _ _ _ t.room) in
+    let k = idle_holds f h q x z b c.requires.owns.0.0.1 found lent c.give_back.ensures.free number seen rooms first in
     let learns = idle_learns f.value h q x z found lent seen in
     record {
       free = k.free;
@@ -45,7 +44,8 @@ invariant_of-into g c =
       legal = k.legal;
       local = k.local;
       part = k.part;
-      room = subst (λ r. room_for t.halted + t.places + length h.tail.items ≤ r) (sym (idle_room f.value h q x z found lent number rooms)) t.room;
+      room = idle_room f.value h q x z found lent number rooms ∙ t.room;
+      used = t.used;
       many = t.many;
       spare = t.spare;
       halts = halted_same (view_of h.pass).number (view_of q).number ((view_of h.pass).seen ++ h.tail.items) ((view_of q).seen ++ h.tail.items) t.halted number t.halts (keeps_mine h (record { pass = q; number = h.number; part = h.part; tail = h.tail }) number learns);
@@ -78,3 +78,9 @@ returns-clause-into_ended g c =
     let h = c.args.into.now.hold in
     learns_ended (token_of c.args.into.now) (tok (record { pass = c.give_back.new.pass; number = h.number; part = h.part; tail = h.tail }))
     (idle_learns (first_of c.args.self.now.turns).value h c.give_back.new.pass c.take_turn-held.result.value c.value.result.now c.take_turn-held.ensures.found c.value.ensures.value (ap (λ (v : View Core Entry). v.seen) c.give_back.ensures.view ∙ ap (λ (j : JournalValue). j.entries) c.dismiss.ensures.kept.1))
+
+pub returns-clause-disjoint : goal.returns-clause-disjoint
+returns-clause-disjoint g c =
+    let r = c.retire-pass.ensures.retires in
+    let came = c.take_turn-held.ensures.view in
+    disjoint_tokens c.args.into.now.hold c.args.other.hold c.take_turn-held.new.pass c.retire-pass.result (ap (λ (v : View Core Entry). v.number) came) (ap (λ (v : View Core Entry). v.ended) came) r.3 r.4 c.join.ensures.disjoint

@@ -1,4 +1,4 @@
-use Rattle.std.proofs.Common.{◌∙◌, ap, Some}
+use Rattle.std.proofs.Common.{◌≡◌, ◌∙◌, true, false, ap, Some}
 use Rattle.egl_model.specs.Parts.{Private}
 use Rattle.egl_model.specs.State.{opening}
 use Rattle.turn_lock.specs.Passes.{first_of, view_of}
@@ -32,6 +32,7 @@ invariant_of-result c =
       local = k.local;
       part = ap (λ (q : Private). Some q) k.part;
       room = k.room;
+      used = λ e. absurd (let s : false ≡ true = e in cc);
       many = k.many;
       spare = c.in_ok-tail.ensures.capacity;
       halts = k.halts;

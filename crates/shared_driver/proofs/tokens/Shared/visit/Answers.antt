@@ -1,9 +1,8 @@
-use Rattle.std.proofs.Common.{◌≤◌, ◌+◌, ◌∙◌, ◌++◌, ap, sym, subst, length}
+use Rattle.std.proofs.Common.{◌∙◌, ◌++◌, ap}
 use Rattle.egl_calls.specs.declared.entries.Entry.{Entry}
 use Rattle.turn_lock.specs.Passes.{first_of, view_of}
 use Rattle.turn_lock.specs.declared.view.View.{View}
 use Rattle.shared_driver.specs.declared.cores.Core.{Core}
-use Rattle.shared_driver.specs.Cores.{room_for}
 use Rattle.shared_driver.proofs.Owned.{halted_same}
 use Rattle.shared_driver.proofs.Turning.{held, idle_holds, idle_learns, idle_returns, idle_room, keeps_mine, some_tail}
 use Rattle.shared_driver.proofs.tokens.Shared.visit.Goals as goal
@@ -28,8 +27,8 @@ invariant_of-thread g c =
     let seen = ap (λ (v : View Core Entry). v.seen) left in
     let rooms = ap (λ (v : View Core Entry). v.rooms) left in
     let first = ap (λ (v : View Core Entry). v.first) left ∙ ap (λ (v : View Core Entry). v.first) view in
-    let b = held t.hold t.free t.numbered t.few t.sides t.legal t.local t.part (some_tail _ _ _ _ t.room) in
-    let k = idle_holds f h q x z b c.requires.owns.1 found lent c.give_back.ensures.free number seen rooms first in
+    let b = held t.hold t.free t.numbered t.few t.sides t.legal t.local t.part (some_tail _ _ _ _ _ t.room) in
+    let k = idle_holds f h q x z b c.requires.owns.0.1 found lent c.give_back.ensures.free number seen rooms first in
     let learns = idle_learns f.value h q x z found lent seen in
     record {
       free = k.free;
@@ -39,7 +38,8 @@ invariant_of-thread g c =
       legal = k.legal;
       local = k.local;
       part = k.part;
-      room = subst (λ r. room_for t.halted + t.places + length h.tail.items ≤ r) (sym (idle_room f.value h q x z found lent number rooms)) t.room;
+      room = idle_room f.value h q x z found lent number rooms ∙ t.room;
+      used = t.used;
       many = t.many;
       spare = t.spare;
       halts = halted_same (view_of h.pass).number (view_of q).number ((view_of h.pass).seen ++ h.tail.items) ((view_of q).seen ++ h.tail.items) t.halted number t.halts (keeps_mine h (record { pass = q; number = h.number; part = h.part; tail = h.tail }) number learns);

@@ -8,7 +8,7 @@ use Rattle.model_laws.proofs.OwnedPixels.{draw_owned}
 use Rattle.egl_model.specs.Parts.{Private, part_of}
 use Rattle.egl_model.specs.Step.{step}
 use Rattle.turn_lock.specs.Passes.{view_of}
-use Rattle.shared_driver.specs.Cores.{IsLegalAt, are_local, entry, has_halted, part_after, room_for, start_in}
+use Rattle.shared_driver.specs.Cores.{IsLegalAt, are_local, entry, has_halted, part_after, place_for, room_for, start_in}
 use Rattle.shared_driver.proofs.Histories.{ready_replay}
 use Rattle.shared_driver.proofs.OwnCalls.{free_place, halted_then, legal_then, local_then, many_then, never_halts, part_then, ready_start, room_then}
 use Rattle.shared_driver.proofs.Turning.{some_of}
@@ -39,7 +39,8 @@ invariant_of-self-2 c =
       legal = subst (λ (l : List Entry). IsLegalAt o (v.seen ++ l)) (sym items) (legal_then o v.seen tail e t.legal (c.in_ok-reply.field-0.same ∙ told.0));
       local = subst (λ (l : List Entry). are_local (replay_from o v.seen) n l ≡ true) (sym items) (local_then o n v.seen tail e t.local refl local);
       part = ap (λ (p : Private). Some p) (told.1 ∙ part_then o n v.seen tail e refl) ∙ ap (λ (l : List Entry). Some (part_after o n (v.seen ++ l))) (sym items);
-      room = subst (λ (l : List Entry). room_for t.halted + (t.places - 1) + length l ≤ own) (sym items) (room_then (room_for t.halted) t.places own tail e free t.room);
+      room = room_then (room_for t.halt_used) t.places own (place_for t.end_kept) tail e free t.room ∙ ap (λ (l : List Entry). room_for t.halt_used + (t.places - 1) + length l + place_for t.end_kept) (sym items);
+      used = t.used;
       many = subst (λ (l : List Entry). (t.places - 1) + length l ≤ 256) (sym items) (many_then t.places 256 tail e free t.many);
       spare = subst (λ k. 256 ≤ k) (sym c.push_back_reserved.ensures.capacity) t.spare;
       halts = halted_then v.number v.seen tail e t.halted t.halts t.numbered (never_halts (part_of s n) c.args.call.kind local) ∙ ap (λ (l : List Entry). has_halted v.number (v.seen ++ l)) (sym items);

@@ -1,5 +1,5 @@
 use Rattle.std.proofs.Common.{rules, ap, ◌∙◌}
-use Rattle.turn_lock.proofs.Joining.{joins, tells}
+use Rattle.turn_lock.proofs.Joining.{joins, tells, told_joined}
 use Rattle.turn_lock.proofs.turns.Turns.join.Goals as goal
 
 pub join_seat-requires : goal.join_seat-requires
@@ -12,3 +12,11 @@ pub load-requires : goal.load-requires
 load-requires g c =
     let j = c.join_seat.ensures in
     (j.0 ∙ c.requires.lock.0.0, search rules, tells _ _ _ _ _ (ap (λ me. me.0.live) j.2 ∙ c.requires.turn.0.0))
+
+pub returns-clause-includes : goal.returns-clause-includes
+returns-clause-includes g c =
+    (told_joined g.S.Replays.meaning c.args.self.now.table.shared.key c.args.into.now.seat.me.0 c.args.other.seat.me.0 c.join_seat.new.seat.me.0 (ap (λ me. me.0) c.join_seat.ensures.2) c.load.ensures.2.1).0
+
+pub returns-clause-disjoint : goal.returns-clause-disjoint
+returns-clause-disjoint g c =
+    (told_joined g.S.Replays.meaning c.args.self.now.table.shared.key c.args.into.now.seat.me.0 c.args.other.seat.me.0 c.join_seat.new.seat.me.0 (ap (λ me. me.0) c.join_seat.ensures.2) c.load.ensures.2.1).1

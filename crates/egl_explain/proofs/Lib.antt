@@ -1,0 +1,4 @@
+pub mod DecidingLaws
+pub mod ThreadLaws
+pub mod ReferenceLaws
+pub mod BirthLaws

@@ -1,0 +1,167 @@
+//! What is wrong with a line of an input.
+use crate::call_words::{CallWords, call_of};
+use crate::pages::{Ink, Page};
+use crate::source_lines::{line_at, put_bar, put_line};
+use crate::suspects::{Suspect, unknown_in, wanted_line, word_at_fault};
+use egl_calls::NoMemory;
+use std::alloc::Global;
+use trace_reader::Reason;
+use trace_reader::word_cuts::{word_at, words};
+
+/// The place of a word's first byte in a line; the line's end past the last word.
+fn column_of(line: &[u8], word: usize) -> usize {
+    let mut left = word;
+    let mut in_word = false;
+    'each: for (k, byte) in line.iter().enumerate() {
+        if *byte == b' ' {
+            in_word = false;
+        } else if !in_word {
+            in_word = true;
+            if left == 0 {
+                return k;
+            }
+            left -= 1;
+        }
+    }
+    line.len()
+}
+
+/// The mark under a word.
+fn put_mark(page: &mut Page, column: usize, width: usize) -> Result<(), NoMemory> {
+    put_bar(page)?;
+    page.put_spaces(column)?;
+    page.begin(Ink::Fault)?;
+    'each: for _ in 0..width.max(1) {
+        page.put("^")?;
+    }
+    page.end()?;
+    page.end_line()
+}
+
+/// A note behind a line.
+fn put_note(page: &mut Page, text: &str, more: &str) -> Result<(), NoMemory> {
+    put_bar(page)?;
+    page.put("  ")?;
+    page.put(text)?;
+    page.put(more)?;
+    page.end_line()
+}
+
+/// What the arguments of a call are.
+fn put_call(page: &mut Page, call: CallWords) -> Result<(), NoMemory> {
+    put_bar(page)?;
+    page.put("  the call is: ")?;
+    page.put(call.name)?;
+    'each: for argument in call.arguments.iter() {
+        page.put(" ")?;
+        page.put(argument)?;
+    }
+    page.end_line()
+}
+
+/// The call of a line whose arguments are at fault.
+fn put_called(page: &mut Page, words: &[&[u8]], reason: Reason) -> Result<(), NoMemory> {
+    if !matches!(reason, Reason::Argument) {
+        return Ok(());
+    }
+    'each: for word in words {
+        if let Some(call) = call_of(word) {
+            return put_call(page, call);
+        }
+    }
+    Ok(())
+}
+
+/// The part of a word that is no name; else the word.
+fn unknown_part_of(word: &[u8]) -> &[u8] {
+    match unknown_in(word) {
+        Some(part) => part,
+        None => word,
+    }
+}
+
+/// The word at fault with a mark under it, what should stand there, and the nearest name.
+fn put_suspect(
+    page: &mut Page,
+    line: &[u8],
+    words: &[&[u8]],
+    found: Suspect,
+) -> Result<(), NoMemory> {
+    put_mark(
+        page,
+        column_of(line, found.word),
+        word_at(words, found.word).len(),
+    )?;
+    put_note(page, "expected here: ", found.wanted)?;
+    if let Some(nearest) = found.nearest {
+        put_bar(page)?;
+        page.put("  ")?;
+        page.put_bytes(unknown_part_of(word_at(words, found.word)))?;
+        page.put(": did you mean ")?;
+        page.put_in(Ink::Answer, nearest)?;
+        page.put("?")?;
+        page.end_line()?;
+    }
+    Ok(())
+}
+
+/// The name of a reason, as the program `egl_cli` tells it.
+fn reason_name(reason: Reason) -> &'static str {
+    match reason {
+        Reason::Header => "Header",
+        Reason::Window => "Window",
+        Reason::Thread => "Thread",
+        Reason::Name => "Name",
+        Reason::Argument => "Argument",
+        Reason::Variable => "Variable",
+        Reason::Limit => "Limit",
+        Reason::Entry => "Entry",
+    }
+}
+
+/// The lines in front of one with a number.
+fn lines_before<'a, 'b>(lines: &'b [&'a [u8]], number: u64) -> &'b [&'a [u8]] {
+    let count = (number.saturating_sub(1) as usize).min(lines.len());
+    let (before, _) = lines.split_at(count);
+    before
+}
+
+/// The heading of a defect, and its line.
+fn put_head(page: &mut Page, lines: &[&[u8]], number: u64, reason: Reason) -> Result<(), NoMemory> {
+    page.put_in(Ink::Fault, "malformed: ")?;
+    page.put(reason_name(reason))?;
+    page.put(" in line ")?;
+    page.put_decimal(number)?;
+    page.end_line()?;
+    put_line(page, lines, number)
+}
+
+/// What is wrong with a line of these words.
+fn put_words(
+    alloc: Global,
+    page: &mut Page,
+    lines: &[&[u8]],
+    number: u64,
+    reason: Reason,
+    words: &[&[u8]],
+) -> Result<(), NoMemory> {
+    put_head(page, lines, number, reason)?;
+    let before = lines_before(lines, number);
+    match word_at_fault(alloc, lines, before, words, reason)? {
+        Some(found) => put_suspect(page, line_at(lines, number), words, found)?,
+        None => put_note(page, "expected here: ", wanted_line(reason))?,
+    }
+    put_called(page, words, reason)
+}
+
+/// The first line that isn't in its form: the line, the word at fault with a mark under it, and what should stand there.
+pub fn put_defect(
+    alloc: Global,
+    page: &mut Page,
+    lines: &[&[u8]],
+    number: u64,
+    reason: Reason,
+) -> Result<(), NoMemory> {
+    let words = words(alloc, line_at(lines, number))?;
+    put_words(alloc, page, lines, number, reason, &words)
+}

@@ -1,0 +1,27 @@
+//! Tells people about a trace: why its calls are refused, what is left of its objects and what leads to it, what is wrong with a line, and where a recording differs.
+//!
+//! Its tests are in `explain_check`.
+#![tactic(auto)]
+
+mod call_words;
+mod census_lines;
+mod defects;
+mod differences;
+mod distances;
+mod entry_lines;
+mod explaining;
+mod judging;
+pub mod laws;
+mod objects;
+mod pages;
+mod process;
+mod references;
+mod source_lines;
+mod suspects;
+
+pub use call_words::{CALLS, CallWords};
+pub use explaining::{Ending, Explained, explain};
+pub use judging::{Told, play_told};
+pub use pages::Look;
+pub use process::run;
+pub use references::{Holder, Reference, Role, Use, holders_of, references_in};

@@ -1,0 +1,76 @@
+//! The lines of an input as they stand there.
+ghost use Rattle.std.specs.Prelude.{◌≡◌};
+
+use crate::pages::{Ink, Page};
+use egl_calls::NoMemory;
+use std::alloc::Global;
+use trace_reader::line_cuts::cut_line;
+use trace_reader::word_cuts::{begins_with, cut_word};
+
+/// The width of a line's number.
+const NUMBER_WIDTH: usize = 6;
+
+/// The lines of bytes, which are numbered from 1.
+pub fn lines_of(alloc: Global, bytes: &[u8]) -> Result<Vec<&[u8]>, NoMemory> {
+    let mut found = Vec::new(alloc);
+    let mut rest = bytes;
+    'each: while let Some((line, more)) = cut_line(rest) {
+        let Ok(()) = found.push(line) else {
+            return Err(NoMemory);
+        };
+        rest = more;
+    }
+    Ok(found)
+}
+
+/// The line with a number; the empty one where there is none.
+pub fn line_at<'a>(lines: &[&'a [u8]], number: u64) -> &'a [u8] {
+    if number == 0 {
+        return b"";
+    }
+    match lines.get((number - 1) as usize) {
+        Some(line) => *line,
+        None => b"",
+    }
+}
+
+/// Whether a line is empty, has only spaces, or is a comment.
+pub fn says_nothing(line: &[u8]) -> bool {
+    begins_with(line, b'#') || cut_word(line).is_none()
+}
+
+/// How many digits a number has, seven at most.
+fn digit_count(number: u64) -> usize {
+    let mut count = 1;
+    let mut least = 10u64;
+    'each: for _ in 0..NUMBER_WIDTH {
+        if number < least {
+            return count;
+        }
+        count = count.saturating_add(1);
+        least = least.saturating_mul(10);
+    }
+    count
+}
+
+/// The number of a line, and the bar behind it.
+pub fn put_number(page: &mut Page, number: u64) -> Result<(), NoMemory> {
+    page.put_spaces(NUMBER_WIDTH.saturating_sub(digit_count(number)))?;
+    page.begin(Ink::Pale)?;
+    page.put_decimal(number)?;
+    page.put(" | ")?;
+    page.end()
+}
+
+/// A bar without a number.
+pub fn put_bar(page: &mut Page) -> Result<(), NoMemory> {
+    page.put_spaces(NUMBER_WIDTH)?;
+    page.put_in(Ink::Pale, " | ")
+}
+
+/// A line with its number.
+pub fn put_line(page: &mut Page, lines: &[&[u8]], number: u64) -> Result<(), NoMemory> {
+    put_number(page, number)?;
+    page.put_bytes(line_at(lines, number))?;
+    page.end_line()
+}
