@@ -267,7 +267,6 @@ fn push_objects(list: &mut Vec<Reference>, driver: &Driver) -> Result<(), NoMemo
 }
 
 /// All references of a driver: those of its valid handles, of its threads and of its objects, each in the order of their numbers.
-
 pub fn references_in(alloc: Global, driver: &Driver) -> Result<Vec<Reference>, NoMemory>
     ensures { IfOk result (λ list. list.items ≡ references_in driver.now.state) }
 {
