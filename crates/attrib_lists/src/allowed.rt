@@ -1,6 +1,6 @@
 //! Which attributes and values a list may have.
-ghost use Rattle.std.specs.Prelude.{◌≡◌, ℕ, [], ◌∷◌};
-ghost use Rattle.attrib_lists.specs.Ranges.{has_code, is_one_of, is_name_of, is_dont_care, is_size, is_choice, is_flag, size_attributes, choice_attributes, other_attributes, is_allowed, is_allowed_code, rows};
+ghost use Rattle.std.specs.Prelude.{◌≡◌, [], ◌∷◌};
+ghost use Rattle.attrib_lists.specs.Ranges.{has_code, is_dont_care, is_size, is_choice, is_flag, size_attributes, choice_attributes, other_attributes, is_allowed, is_allowed_code, rows};
 
 use egl_calls::unsigned;
 use egl_names::codes::{

@@ -1,6 +1,6 @@
 //! Attribute lists: which attributes and values the lists of a call may have, and the value that counts.
 //!
-//! Its tests are in `rule_check`.
+//! Its tests are in `topic_check`.
 #![tactic(auto)]
 
 mod allowed;

@@ -120,7 +120,7 @@ fn call_of(alloc: Global, text: &str) -> Result<Call> {
     let text = format!(in alloc; "0 {text}")?;
     let lines = lines_of(alloc, &text)?;
     match lines.line(0) {
-        Some(line) => match line.call.copy(alloc) {
+        Some(line) => match line.call.to_call(alloc) {
             Ok(call) => Ok(call),
             Err(_) => bail!("no memory for a call"),
         },
@@ -140,7 +140,7 @@ fn play_all<R: Wait>(
     ensures { IsOf shared.now token.new }
 {
     'lines: for line in lines.lines() {
-        let Ok(call) = line.call.copy(alloc) else {
+        let Ok(call) = line.call.to_call(alloc) else {
             return false;
         };
         if is_wait_end(call.kind) || shared.call(token, rt, alloc, 0, call).is_err() {
@@ -205,7 +205,10 @@ fn play_lines(alloc: Global, driver: &mut Driver, lines: &Trace) -> bool
     ensures { driver.new.made ≡ driver.old.made }
 {
     'lines: for line in lines.lines() {
-        if driver.play(alloc, 0, &line.call).is_err() {
+        let Ok(call) = line.call.to_call(alloc) else {
+            return false;
+        };
+        if driver.play(alloc, 0, &call).is_err() {
             return false;
         }
     }

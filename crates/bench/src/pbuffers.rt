@@ -67,16 +67,22 @@ fn measure<R: Files + Print + AllocGlobal>(
     let [first, create] = lines else {
         bail!("two lines");
     };
-    value(rt.alloc(), driver, &first.call);
+    let (Ok(initialize), Ok(create)) = (
+        first.call.to_call(rt.alloc()),
+        create.call.to_call(rt.alloc()),
+    ) else {
+        bail!("no memory for a call");
+    };
+    value(rt.alloc(), driver, &initialize);
     if extent == Extent::Little {
-        let done = turns(rt.alloc(), driver, &create.call, LITTLE);
+        let done = turns(rt.alloc(), driver, &create, LITTLE);
         ensure!(done, "a call was refused");
         println!(rt; "100 pbuffers: made and destroyed")?;
         return Ok(());
     }
-    let begun = turns(rt.alloc(), driver, &create.call, FIRST);
+    let begun = turns(rt.alloc(), driver, &create, FIRST);
     let first = kilobytes(rt, RESIDENT)?;
-    let done = turns(rt.alloc(), driver, &create.call, REST);
+    let done = turns(rt.alloc(), driver, &create, REST);
     let last = kilobytes(rt, RESIDENT)?;
     ensure!(begun && done, "a call was refused");
     println!(rt;

@@ -1,5 +1,5 @@
 //! Updates of a screen that a window fills, of which one row changed or all did, beside a plain copy of as many rows.
-ghost use Rattle.std.specs.Prelude.{◌≡◌, ◌≤◌};
+ghost use Rattle.std.specs.Prelude.{◌≤◌};
 
 use crate::extents::Extent;
 use crate::pixels::work::{ALL, GREY, ORANGE, copy, side};

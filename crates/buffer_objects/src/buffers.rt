@@ -1,5 +1,5 @@
 //! Buffer objects.
-ghost use Rattle.std.specs.Prelude.{◌≡◌, ◌+◌, ◌≤◌, [], true, length, slice_range, IfOk, IfSome, OnOk, OnErr};
+ghost use Rattle.std.specs.Prelude.{◌≡◌, ◌+◌, ◌≤◌, [], length, slice_range, IfOk, IfSome, OnOk, OnErr};
 ghost use Rattle.std.specs.Option.{option_copied};
 ghost use Rattle.egl_calls.specs.Ranges.{IsNumber, unsigned};
 ghost use Rattle.buffer_objects.specs.Buffers.{fresh, parameter, specified, replaced};

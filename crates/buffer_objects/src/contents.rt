@@ -1,5 +1,5 @@
 //! The bytes of a buffer.
-ghost use Rattle.std.specs.Prelude.{◌≡◌, ◌+◌, ◌-◌, ◌≤◌, length, replicate, slice_range, IfOk};
+ghost use Rattle.std.specs.Prelude.{◌≡◌, ◌+◌, ◌-◌, ◌≤◌, length, replicate, IfOk};
 ghost use Rattle.buffer_objects.specs.Contents.{filled, written};
 
 use egl_calls::NoMemory;

@@ -1,6 +1,6 @@
 //! Buffer objects (OpenGL ES 1.1, section 2.9).
 //!
-//! Its tests are in `rule_check`.
+//! Its tests are in `topic_check`.
 #![tactic(auto)]
 
 mod buffers;

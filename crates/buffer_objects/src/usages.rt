@@ -1,6 +1,6 @@
 //! What the contents of a buffer are meant for.
 ghost use Rattle.std.specs.Prelude.{◌≡◌, pos};
-ghost use Rattle.egl_calls.specs.Ranges.{IsNumber, unsigned};
+ghost use Rattle.egl_calls.specs.Ranges.{IsNumber};
 ghost use Rattle.buffer_objects.specs.Usages.{usage_code, usage_of};
 
 use egl_names::codes::{GL_DYNAMIC_DRAW, GL_STATIC_DRAW};

@@ -1,6 +1,6 @@
 //! The configs of the driver: their attributes, and which of them an attribute list chooses.
 //!
-//! Its tests are in `rule_check`.
+//! Its tests are in `topic_check`.
 #![tactic(auto)]
 
 mod choose;

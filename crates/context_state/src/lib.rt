@@ -1,6 +1,6 @@
 //! The state that a context of OpenGL ES keeps for itself, and the calls that ask and set it alone.
 //!
-//! Its tests are in `rule_check`.
+//! Its tests are in `topic_check`.
 #![tactic(auto)]
 
 mod arguments;

@@ -1,5 +1,4 @@
 //! The newest handle of a display, taken out of the tables of both.
-ghost use Rattle.std.specs.Prelude.{◌≡◌};
 ghost use Rattle.display_table.specs.Handles.{Takes};
 ghost use Rattle.display_table.specs.Tables.{at_number, handles_in, AreRows};
 

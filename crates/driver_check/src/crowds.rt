@@ -26,6 +26,18 @@ pub fn opened<R: Abort>(rt: &R, alloc: Global, video: u64) -> Opened
     }
 }
 
+/// The same for at most so many tokens.
+pub fn opened_for<R: Abort>(rt: &R, alloc: Global, video: u64, most: u32) -> Opened
+    requires video { video ≤ 1073741824 }
+    requires most { (1 ≤ most) × (most ≤ 65536) }
+    ensures { IsOf result.shared result.thread }
+{
+    match Shared::open_for(alloc, &[], video, most) {
+        Ok(opened) => opened,
+        Err(_) => panic!(rt; "memory"),
+    }
+}
+
 /// What a thread's private part may answer.
 static OWN: [&str; 21] = [
     "eglGetError",

@@ -169,8 +169,6 @@ fn opened_for<R: Abort>(rt: &R, alloc: Global, trace: &Trace) -> Opened
     ensures opening { opening_of result.shared ≡ opening trace.now.windows trace.now.video }
     ensures mine { mine (token_of result.thread) ≡ [] }
 {
-    // That a trace's windows and limit of bytes are within bounds stands on `lines`.
-    trace.lines();
     match Shared::open(alloc, trace.windows(), trace.video()) {
         Ok(opened) => opened,
         Err(_) => panic!(rt; "memory"),

@@ -19,7 +19,7 @@ fn read_call(rt: &impl Abort, alloc: Global, text: &str) -> Call {
     let Some(line) = trace.line(0) else {
         panic!(rt; "no line");
     };
-    line.call.copy(alloc).expect(rt, "memory")
+    line.call.to_call(alloc).expect(rt, "memory")
 }
 
 /// A call that no trace has: a Halt, or the end of a wait.

@@ -1,8 +1,7 @@
 //! What tokens do: calls, halts, waits, picks, and how many there are.
-ghost use Rattle.std.specs.Prelude.{All};
 ghost use Rattle.shared_driver.specs.Tokens.{IsOf};
 
-use crate::crowds::{attached_all, crowd, finish, opened};
+use crate::crowds::{attached_all, crowd, finish, opened, opened_for};
 use crate::places::{ROWS, holds, queries};
 use crate::readings::call_of;
 use crate::replays::is_replayed;
@@ -59,6 +58,16 @@ fn no_more_than_65_536_tokens(rt: HostRuntime) {
     let made = attached_all(&rt, &shared, &mut thread);
     let run = finish(&rt, shared, thread);
     assert_eq!(rt; (made, run.threads, run.journal.len()), (65536, 65536, 0));
+}
+
+#[test]
+fn no_more_tokens_than_the_driver_is_for(rt: HostRuntime) {
+    'limits: for most in 1..4u32 {
+        let Opened { shared, mut thread } = opened_for(&rt, rt.alloc(), 1000, most);
+        let made = attached_all(&rt, &shared, &mut thread);
+        let run = finish(&rt, shared, thread);
+        assert_eq!(rt; (made, run.threads), (most, most));
+    }
 }
 
 // Three tokens more, of which the second sets the scene.

@@ -1,5 +1,5 @@
 -- A surface to which a thread draws has its pixels for its own.
-use Rattle.std.proofs.Common.{◌≡◌, ℕ, ◌==◌, true, false, cond, not, List, refl, sym, ap, ◌∙◌, Option, None, Some}
+use Rattle.std.proofs.Common.{◌≡◌, ℕ, ◌==◌, true, cond, not, List, refl, sym, ap, ◌∙◌, Option, None, Some}
 use Rattle.std.specs.Prelude.{unwrap_or}
 use Rattle.std.specs.Option.{option_and_then, option_map}
 use Rattle.std.proofs.lemmas.Option.{none-some}
@@ -22,7 +22,7 @@ use Rattle.model_laws.proofs.Places.{frozen_at-shapes, own_at-shapes}
 use Rattle.model_laws.proofs.PutMoves.{surface_link}
 use Rattle.model_laws.proofs.StepPut.{whole-hide}
 use Rattle.object_table.specs.Memory.{is_own_in}
-use Rattle.driver_core.specs.Memory.{clears_own, draws_to_own}
+use Rattle.driver_facts.specs.Memory.{clears_own, draws_to_own}
 
 thawed : (o : Option Object) → is_own_in (as_storage o) ≡ not (frozen_in o)
 thawed None = refl

@@ -1,12 +1,11 @@
 -- Names are deleted, and new objects get names.
-use Rattle.std.proofs.Common.{◌≡◌, ℕ, suc, ◌+◌, ◌<◌, ◌≤◌, ℤ, pos, negsuc, Bool, true, false, cond, List, [], ◌∷◌, ◌++◌, length, drop, drop-cons, get_or, set, refl, sym, ap, ◌∙◌, inl, inr, arith, Option, None, Some}
+use Rattle.std.proofs.Common.{◌≡◌, ℕ, suc, ◌+◌, ◌<◌, ◌≤◌, ℤ, pos, Bool, true, false, cond, List, [], ◌∷◌, ◌++◌, length, drop, drop-cons, get_or, set, refl, sym, ap, ◌∙◌, inl, inr, arith, Option, None, Some}
 use Rattle.std.specs.Prelude.{IfSome, IsSome, is_some}
 use Rattle.std.specs.Option.{option_map_or}
 use Rattle.std.proofs.lemmas.Bool.{cases_eq, cases_lt, false≢true}
-use Rattle.std.proofs.lemmas.Int.{ints}
 use Rattle.std.proofs.lemmas.List.{get_or-set_other, get_or-set_same, set_past}
 use Rattle.std.proofs.Math.Seq.{get_or-append_seam}
-use Rattle.egl_calls.specs.Ranges.{IsNumber, unsigned}
+use Rattle.egl_calls.specs.Ranges.{unsigned}
 use Rattle.driver_objects.specs.Links.{bound_in}
 use Rattle.driver_objects.specs.Targets.{binding_of, name_kind, slot_of}
 use Rattle.driver_objects.specs.declared.targets.BindTarget.{BindTarget}
@@ -36,10 +35,6 @@ use Rattle.driver_core.proofs.LevelLaws.{named_weighs}
 pub deleted_same : (k : NameKind) (g n : ℕ) (xs : List ℤ) (s : State) → deleted_in k g n xs s ≡ record s { objects = (deleted_in k g n xs s).objects }
 deleted_same k g n [] s = refl
 deleted_same k g n (x ∷ xs) s = deleted_same k g n xs (deleted_name k g n (unsigned x) s)
-
-pub list_fits : (z : ℤ) → IsNumber z → unsigned z ≤ 4294967295
-list_fits (pos n) h = let l = h.high in omega (arith, ints, l)
-list_fits (negsuc n) h = omega arith
 
 -- ---- A context keeps its group.
 abbrev own_at : ℕ → Option Object → ℕ

@@ -1,12 +1,11 @@
 -- Levels that a glTexImage2D gives textures.
-use Rattle.std.proofs.Common.{◌≡◌, ℕ, ◌+◌, ◌<◌, ◌≤◌, ℤ, pos, negsuc, ◌≤ℤ◌, Bool, true, false, ◌||◌, List, [], ◌∷◌, ◌++◌, length, refl, sym, ap, ◌∙◌, subst, inl, inr, arith, Option, None, Some}
-use Rattle.std.proofs.lemmas.Bool.{cases_lt, eqb-true, ltb-false, not-false}
+use Rattle.std.proofs.Common.{◌≡◌, ℕ, ◌+◌, ◌<◌, ◌≤◌, true, List, [], ◌∷◌, ◌++◌, length, refl, sym, ap, ◌∙◌, subst, inl, inr, arith, Option, None, Some}
+use Rattle.std.proofs.lemmas.Bool.{cases_lt, eqb-true, not-false}
 use Rattle.std.proofs.lemmas.List.{set_past}
 use Rattle.std.specs.List.{sum_by}
 use Rattle.model_laws.proofs.Places.{same_at_set}
-use Rattle.std.proofs.lemmas.Int.{ints}
 use Rattle.std.proofs.lemmas.List.Sums.{sum_by-append, sum_by-set}
-use Rattle.std.specs.Prelude.{IfSome, IsSome, int_lt, is_some}
+use Rattle.std.specs.Prelude.{IfSome, IsSome, is_some}
 use Rattle.std.proofs.Common.{get_or}
 use Rattle.egl_model.specs.Links.{rank_in}
 use Rattle.egl_model.specs.Objects.{change_context, storage_in, with_context}
@@ -15,25 +14,21 @@ use Rattle.egl_model.specs.Bindings.{named_at}
 use Rattle.egl_model.specs.Textures.{level_of, level_storage}
 use Rattle.std.specs.Option.{option_and_then, option_map_or}
 use Rattle.egl_calls.specs.Calls.{CallValue}
-use Rattle.egl_calls.specs.Ranges.{unsigned}
 use Rattle.egl_calls.specs.declared.kinds.Kind.TheVariants.{Gl}
-use Rattle.egl_calls.specs.declared.kinds.GlKind.TheVariants.{TexImage2d, TexParameteriv, TexSubImage2d}
+use Rattle.egl_calls.specs.declared.kinds.GlKind.TheVariants.{TexParameteriv, TexSubImage2d}
 use Rattle.pixel_rows.specs.Rects.{IsInside}
 use Rattle.pixel_rows.specs.declared.rects.Rect.{Rect}
-use Rattle.egl_calls.specs.Arguments.{number, signed}
-use Rattle.call_rules.specs.GlAllowed.{ImageAllowed, PartAllowed}
+use Rattle.call_rules.specs.GlAllowed.{PartAllowed}
 use Rattle.call_rules.proofs.GlLaws.{part_allowed, rows_off}
 use Rattle.call_rules.specs.GlRules.{no_gl_facts}
-use Rattle.call_rules.specs.TextureRules.{is_no_level_side}
 use Rattle.call_rules.specs.declared.gl_facts.GlFacts.{GlFacts}
-use Rattle.texture_objects.specs.Uploads.{IsImageCall, IsSide, part_rect}
+use Rattle.texture_objects.specs.Uploads.{part_rect}
 use Rattle.driver_objects.specs.Objects.{edges_of}
 use Rattle.driver_objects.specs.Storages.{StorageValue}
 use Rattle.driver_objects.specs.declared.objects.Object.{Object}
 use Rattle.driver_objects.specs.declared.objects.Object.TheVariants.{Context, Storage}
 use Rattle.egl_model.specs.State.{State}
 use Rattle.egl_model.specs.Sweep.{swept}
-use Rattle.model_laws.proofs.TextureCalls.{side_few}
 use Rattle.object_table.specs.Lets.{Lets}
 use Rattle.object_table.specs.Links.{IsLeft}
 use Rattle.object_table.specs.Tables.{AreHolds, TableValue, weight_of}

@@ -6,7 +6,7 @@ ghost use Rattle.egl_model.specs.Framebuffers.{current_framebuffer_name};
 ghost use Rattle.egl_model.specs.State.{State};
 ghost use Rattle.model_laws.specs.Hidden.{hide};
 ghost use Rattle.model_laws.specs.Sound.{IsSound};
-ghost use Rattle.driver_core.specs.Memory.{clears_own};
+ghost use Rattle.driver_facts.specs.Memory.{clears_own};
 
 /// In a sound state surfaces have their pixels for their own: a glClear of a thread with the framebuffer of the window system bound takes no memory, whichever parts are out.
 pub fn a_surface_is_cleared_without_memory()

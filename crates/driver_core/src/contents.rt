@@ -2,7 +2,7 @@
 ghost use Rattle.std.specs.Prelude.{◌≡◌, ◌++◌, length, option_copied, OnOk, IfOk};
 ghost use Rattle.std.specs.Option.{option_to_list};
 ghost use Rattle.driver_core.specs.Contents.{numbered};
-ghost use Rattle.driver_core.specs.Threads.{padded};
+ghost use Rattle.driver_facts.specs.Threads.{padded};
 ghost use Rattle.egl_model.specs.State.{object_at};
 
 use crate::machine::Driver;
@@ -49,14 +49,14 @@ impl Driver {
     pub fn object_count(&self) -> u64
         ensures { result ≡ length self.now.state.objects }
     {
-        self.objects.len()
+        self.tables.objects.len()
     }
 
     /// The object of a number; none where it is gone, and where none has the number yet.
     pub fn object(&self, number: u64) -> Option<&Object>
         ensures { option_copied result ≡ object_at self.now.state number }
     {
-        self.objects.object(number)
+        self.tables.objects.object(number)
     }
 
     /// The valid handles in the order of their making. It looks once for each number that was given.
@@ -64,10 +64,10 @@ impl Driver {
     pub fn handles(&self, alloc: Global) -> Result<Vec<Handle>, NoMemory>
         ensures { IfOk result (λ list. list.items ≡ self.now.state.handles) }
     {
-        self.displays.handles_rise();
+        self.tables.displays.handles_rise();
         let mut list = Vec::new(alloc);
-        'numbers: for number in 0..self.displays.next_handle() {
-            push_found(&mut list, handle_numbered(&self.displays, number))?;
+        'numbers: for number in 0..self.tables.displays.next_handle() {
+            push_found(&mut list, handle_numbered(&self.tables.displays, number))?;
         }
         Ok(list)
     }
@@ -76,6 +76,6 @@ impl Driver {
     pub fn records(&self) -> &[ThreadRecord]
         ensures { padded result.now ≡ self.now.state.threads }
     {
-        self.threads.as_slice()
+        self.tables.threads.as_slice()
     }
 }

@@ -1,5 +1,5 @@
 //! glDrawTexiOES and glDrawTexxOES (OES_draw_texture).
-ghost use Rattle.std.specs.Prelude.{◌≡◌, ◌<◌, true, false, None, IfOk, IfSome, OnErr, OnOk, if◌then◌else◌};
+ghost use Rattle.std.specs.Prelude.{◌≡◌, ◌<◌, true, false, None, IfSome, OnErr, OnOk};
 ghost use Rattle.std.specs.Option.{option_map};
 ghost use Rattle.egl_calls.specs.declared.kinds.Kind.TheVariants.{Gl as GlCall};
 ghost use Rattle.egl_calls.specs.Arguments.{signed};
@@ -63,36 +63,6 @@ pub(crate) fn drawn_rect(kind: GlKind, call: &Call) -> Rect
 }
 
 impl Driver {
-    /// What a draw of a rectangle samples of the texture on which calls work.
-    fn sample(&self, context: u64, rect: Rect) -> Result<Option<Sampled>, NoMemory>
-        requires { IsDrawnRect rect }
-        ensures value { IfOk result (λ o. option_map (λ s. samplers.sampled s.image s.texture s.base_w s.base_h) o ≡ sampler self.now.state context rect) }
-        ensures sides { IfOk result (λ o. IfSome o (λ s. HasSides (samplers.sampled s.image s.texture s.base_w s.base_h))) }
-    {
-        match self.target_texture(context) {
-            Some(texture) => self.objects.sample(texture, rect),
-            None => Ok(None),
-        }
-    }
-
-    /// The same, where GL_TEXTURE_2D is enabled.
-    pub(crate) fn sample_if_textured(
-        &self,
-        context: u64,
-        part: &ContextPart,
-        rect: Rect,
-    ) -> Result<Option<Sampled>, NoMemory>
-        requires { IsDrawnRect rect }
-        ensures value { IfOk result (λ o. option_map (λ s. samplers.sampled s.image s.texture s.base_w s.base_h) o ≡ (if part.now.is_texture_enabled then sampler self.now.state context rect else None)) }
-        ensures sides { IfOk result (λ o. IfSome o (λ s. HasSides (samplers.sampled s.image s.texture s.base_w s.base_h))) }
-    {
-        if part.textured() {
-            self.sample(context, rect)
-        } else {
-            Ok(None)
-        }
-    }
-
     fn draw_storage_with(
         &mut self,
         storage: u64,
@@ -113,9 +83,9 @@ impl Driver {
                     base_w: sampled.base_w,
                     base_h: sampled.base_h,
                 };
-                self.objects.draw(storage, part, Some(sampler), rect)
+                self.tables.objects.draw(storage, part, Some(sampler), rect)
             }
-            None => self.objects.draw(storage, part, None, rect),
+            None => self.tables.objects.draw(storage, part, None, rect),
         }
     }
 
@@ -138,10 +108,10 @@ impl Driver {
         let Some(part) = self.context_part(context) else {
             return Ok(());
         };
-        let Some(storage) = self.bound_framebuffer(thread).draw else {
+        let Some(storage) = self.tables.bound_framebuffer(thread).draw else {
             return Ok(());
         };
-        let sampled = self.sample_if_textured(context, &part, rect)?;
+        let sampled = self.tables.sample_if_textured(context, &part, rect)?;
         self.draw_storage_with(storage, &part, &sampled, rect)
     }
 }

@@ -1,6 +1,5 @@
 //! Draws to a thread's own surface, whose pixels may be drawn once its part is out (OES_draw_texture).
 ghost use Rattle.std.specs.Prelude.{◌≡◌, ◌<◌, true, false, None, Some, IfOk, IfSome, OnErr, slice_index_or};
-ghost use Rattle.call_rules.specs.GlRules.{draws_nothing};
 ghost use Rattle.egl_calls.specs.declared.kinds.Kind.TheVariants.{Gl as GlCall};
 ghost use Rattle.driver_objects.specs.Storages.{IsDrawnRect};
 ghost use Rattle.rect_pipeline.specs.Samplers.{HasSides, sampled};
@@ -12,7 +11,7 @@ ghost use Rattle.egl_model.specs.State.{State};
 ghost use Rattle.egl_model.specs.Step.{step};
 ghost use Rattle.model_laws.specs.Frame.{IsReady};
 ghost use Rattle.model_laws.specs.Hidden.{hide};
-ghost use Rattle.model_laws.specs.Late.{drawing, drawn_state, draws_to_surface, is_late, late_rect, late_sampler, sampled_by};
+ghost use Rattle.model_laws.specs.Late.{drawing, draws_to_surface, is_late, late_rect, late_sampler, sampled_by};
 ghost use Rattle.driver_core.specs.Draws.{is_draw};
 ghost use Rattle.driver_core.specs.LateDraws.{IsLeft, drawn_late, sampler_of};
 ghost use Rattle.driver_core.specs.Machine.{outs};
@@ -74,7 +73,7 @@ impl Driver {
         ensures sides { IfOk result (λ o. IfSome o (λ s. HasSides (sampled s.image s.texture s.base_w s.base_h))) }
     {
         match self.context_part(context) {
-            Some(part) => self.sample_if_textured(context, &part, rect),
+            Some(part) => self.tables.sample_if_textured(context, &part, rect),
             None => Ok(None),
         }
     }

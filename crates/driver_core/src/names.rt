@@ -1,13 +1,13 @@
 //! Names of share groups (OpenGL ES 1.1, section 3.7.11).
-ghost use Rattle.std.specs.Prelude.{◌≡◌, ◌+◌, ◌-◌, ◌<◌, ◌≤◌, [], map, pos, false, length, slice_index_or, All, IfOk, IfSome, OnErr, OnOk, None, Some};
+ghost use Rattle.std.specs.Prelude.{◌≡◌, ◌+◌, ◌-◌, ◌<◌, ◌≤◌, [], map, pos, false, length, All, IfOk, IfSome, OnErr, OnOk, None, Some};
 ghost use Rattle.std.specs.Option.{option_map_or};
 ghost use Rattle.driver_core.specs.Costs.{IsCheap};
-ghost use Rattle.driver_core.specs.Groups.{IsGroup};
+ghost use Rattle.driver_facts.specs.Groups.{IsGroup};
 ghost use Rattle.driver_objects.specs.Objects.{edges_of, rank_of};
-ghost use Rattle.egl_calls.specs.Ranges.{IsNumber, is_client_wait, unsigned};
+ghost use Rattle.egl_calls.specs.Ranges.{IsNumber, is_client_wait};
 ghost use Rattle.egl_model.specs.Arguments.{number};
 ghost use Rattle.egl_model.specs.Bindings.{bound_anew, bound_name, bound_object, deleted_in, deleted_names, new_object};
-ghost use Rattle.egl_model.specs.Names.{generated, group_of, name_value, names_in, object_named};
+ghost use Rattle.egl_model.specs.Names.{generated, group_of, names_in};
 ghost use Rattle.egl_model.specs.Objects.{context_in};
 ghost use Rattle.egl_model.specs.State.{State};
 ghost use Rattle.egl_model.specs.Step.{done};
@@ -19,9 +19,10 @@ ghost use Rattle.share_group.specs.Names.{given};
 use crate::contexts::new_texture;
 use crate::machine::Driver;
 use buffer_objects::Buffer;
+use driver_facts::{listed_name, name_of};
 use driver_objects::{BackedRenderbuffer, BindTarget, Object};
 use egl_calls::places::{BOUND_NAME, COUNT};
-use egl_calls::{Call, NoMemory, Numbers, unsigned};
+use egl_calls::{Call, NoMemory, Numbers};
 use framebuffer_objects::{Framebuffer, Renderbuffer};
 use object_table::ObjectTable;
 use ref_store::Steps;
@@ -29,15 +30,6 @@ use share_group::{Group, NameKind};
 use std::alloc::Global;
 use std::sync::ledger::Ledger;
 use thread_part::Replies;
-
-/// A name, or a number of names, that a call of OpenGL ES gives at a place.
-pub(crate) fn name_of(call: &Call, place: usize) -> u32
-    requires place { place < 8 }
-    requires kind { is_client_wait call.now.kind ≡ false }
-    ensures { result ≡ number call.now place }
-{
-    unsigned(call.args[place]) as u32
-}
 
 /// What a name gets that has no object: a texture or a renderbuffer without storage, a buffer without bytes, a framebuffer with nothing attached.
 fn new_object(alloc: Global, target: BindTarget) -> Object
@@ -56,14 +48,6 @@ fn new_object(alloc: Global, target: BindTarget) -> Object
         }),
         BindTarget::Framebuffer => Object::Framebuffer(Framebuffer::new()),
     }
-}
-
-/// A name that a list of a call gives at a place.
-pub(crate) fn listed_name(call: &Call, k: usize) -> u32
-    requires { k < length call.now.list }
-    ensures { result ≡ unsigned (slice_index_or call.now.list k (pos 0)) }
-{
-    unsigned(call.list.as_slice()[k]) as u32
 }
 
 /// Frees the names of a list, one after another, and detaches and unbinds what has them.
@@ -85,35 +69,6 @@ fn delete_all<L: Ledger>(
 }
 
 impl Driver {
-    /// The group of a context; 0 where there is no such context.
-    pub(crate) fn group_number(&self, context: u64) -> u64
-        ensures { result ≡ group_of self.now.state context }
-    {
-        match self.objects.context(context) {
-            Some(context) => context.group,
-            None => 0,
-        }
-    }
-
-    /// The object of a name in the group of a context, where it has one.
-    pub(crate) fn object_named(&self, context: u64, kind: NameKind, name: u32) -> Option<u64>
-        ensures value { result ≡ object_named self.now.state (group_of self.now.state context) kind name }
-        ensures there { IfSome result (IsGroup self.now.state.objects) }
-    {
-        self.objects.named(self.group_number(context), kind, name)
-    }
-
-    /// 1 where a name has an object, else 0.
-    pub(crate) fn is_name(&self, context: u64, kind: NameKind, name: u32) -> i64
-        ensures value { result ≡ name_value (object_named self.now.state (group_of self.now.state context) kind name) }
-        ensures number { IsNumber result }
-    {
-        match self.object_named(context, kind, name) {
-            Some(_) => 1,
-            None => 0,
-        }
-    }
-
     /// Gives so many of the smallest unused names of a group. Where there is no such group they are those of a new one.
     fn give_names(
         &mut self,
@@ -128,8 +83,8 @@ impl Driver {
         ensures state { OnOk result (self.new ≡ record self.old { state = (generated self.old.state group kind count).state }) }
         ensures err { OnErr result (self.new ≡ self.old) }
     {
-        if self.objects.is_group(group) {
-            return self.objects.generate(group, kind, count);
+        if self.tables.objects.is_group(group) {
+            return self.tables.objects.generate(group, kind, count);
         }
         Group::new(alloc).generate(kind, count)
     }
@@ -149,7 +104,7 @@ impl Driver {
     {
         let count = name_of(call, COUNT);
         let room = R::room_for(alloc, count)?;
-        let group = self.group_number(context);
+        let group = self.tables.group_number(context);
         let names = self.give_names(alloc, group, kind, count)?;
         Ok(R::of_list(alloc, names, room))
     }
@@ -167,9 +122,13 @@ impl Driver {
         ensures state { self.new ≡ record self.old { state = sweep (record self.old.state { objects = bound_object target context object name self.old.state.objects }) } }
         ensures steps { IsCheap self.old.state self.new.state steps.old steps.new }
     {
-        self.objects.bind_name(context, target.binding(), name);
-        self.objects.link_bound(context, target, object, steps);
-        self.objects.left();
+        self.tables
+            .objects
+            .bind_name(context, target.binding(), name);
+        self.tables
+            .objects
+            .link_bound(context, target, object, steps);
+        self.tables.objects.left();
     }
 
     /// Makes an object that has a name and is bound. It is held until the context refers to it.
@@ -186,20 +145,25 @@ impl Driver {
         ensures steps { IsCheap self.old.state self.new.state steps.old steps.new }
         ensures err { OnErr result (self.new ≡ self.old) }
     {
-        let group = self.group_number(context);
-        self.objects.reserve(1)?;
-        let new = self.objects.len();
+        let group = self.tables.group_number(context);
+        self.tables.objects.reserve(1)?;
+        let new = self.tables.objects.len();
         let first = new_object(alloc, target);
         match self
+            .tables
             .objects
             .make_named(group, target.names(), name, first, steps)
         {
             Ok(()) => {
-                self.objects.held_exist();
-                self.objects.bind_name(context, target.binding(), name);
-                self.objects.link_bound(context, target, Some(new), steps);
-                self.objects.release(new, steps);
-                self.objects.left();
+                self.tables.objects.held_exist();
+                self.tables
+                    .objects
+                    .bind_name(context, target.binding(), name);
+                self.tables
+                    .objects
+                    .link_bound(context, target, Some(new), steps);
+                self.tables.objects.release(new, steps);
+                self.tables.objects.left();
                 Ok(())
             }
             Err(NoMemory) => Err(NoMemory),
@@ -225,7 +189,7 @@ impl Driver {
             self.bind_object(context, target, None, 0, steps);
             return Ok(());
         }
-        match self.object_named(context, target.names(), name) {
+        match self.tables.object_named(context, target.names(), name) {
             Some(object) => {
                 self.bind_object(context, target, Some(object), name, steps);
                 Ok(())
@@ -245,8 +209,8 @@ impl Driver {
         ensures state { self.new ≡ record self.old { state = sweep (deleted_names kind self.old.state context call.now.list) } }
         ensures steps { IsCheap self.old.state self.new.state steps.old steps.new }
     {
-        let group = self.group_number(context);
-        delete_all(&mut self.objects, group, context, kind, call, steps);
-        self.objects.left();
+        let group = self.tables.group_number(context);
+        delete_all(&mut self.tables.objects, group, context, kind, call, steps);
+        self.tables.objects.left();
     }
 }

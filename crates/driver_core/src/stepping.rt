@@ -4,7 +4,7 @@ ghost use Rattle.driver_core.specs.Costs.{IsCheap, IsBounded};
 ghost use Rattle.driver_core.specs.Releases.{links, releases};
 ghost use Rattle.egl_model.specs.Sweep.{sweep};
 ghost use Rattle.thread_part.specs.Memory.{clears_nothing};
-ghost use Rattle.driver_core.specs.Memory.{clears_own, egl_takes_no_memory, gl_clears_own, gl_takes_no_memory, takes_no_memory, is_bare, is_bare_on};
+ghost use Rattle.driver_facts.specs.Memory.{clears_own, egl_takes_no_memory, gl_clears_own, gl_takes_no_memory, takes_no_memory, is_bare, is_bare_on};
 ghost use Rattle.context_state.specs.Kinds.{context_gl_call};
 ghost use Rattle.egl_calls.specs.declared.kinds.Kind.TheVariants.{Egl as EglCall, Gl as GlCall};
 ghost use Rattle.egl_calls.specs.Ranges.{IsNumber};
@@ -22,13 +22,12 @@ ghost use Rattle.model_laws.specs.Sound.{IsSound};
 ghost use Rattle.model_laws.specs.Hidden.{hide};
 ghost use Rattle.driver_core.specs.Machine.{outs};
 
-use crate::configs::attribute_value;
 use crate::machine::Driver;
-use crate::names::name_of;
 use attrib_lists::AttribError;
 use config_match::Configs;
 use context_state::context_gl_call;
 use display_table::HandleKind;
+use driver_facts::{attribute_value, name_of};
 use driver_objects::{BindTarget, buffer_target};
 use egl_calls::arguments::number;
 use egl_calls::places::{ASKED_NAME, TARGET};
@@ -85,7 +84,10 @@ impl Driver {
             EglKind::GetConfigAttrib => Ok(valued(alloc, attribute_value(call))),
             EglKind::CreateWindowSurface => Ok(valued(alloc, self.create_window(alloc, call)?)),
             EglKind::CreatePbufferSurface => Ok(valued(alloc, self.create_pbuffer(alloc, call)?)),
-            EglKind::QuerySurface => Ok(valued(alloc, self.surface_value(call).unwrap_or(0))),
+            EglKind::QuerySurface => Ok(valued(
+                alloc,
+                self.tables.surface_value(call).unwrap_or(0),
+            )),
             EglKind::SurfaceAttrib => {
                 self.set_attribute(call);
                 Ok(valued(alloc, 1))
@@ -93,10 +95,16 @@ impl Driver {
             EglKind::BindApi => Ok(valued(alloc, 1)),
             EglKind::QueryApi => Ok(valued(alloc, api_code(self.record(thread).api))),
             EglKind::CreateContext => Ok(valued(alloc, self.create_context(alloc, call)?)),
-            EglKind::GetCurrentContext => Ok(valued(alloc, self.current_number(thread))),
-            EglKind::GetCurrentSurface => Ok(valued(alloc, self.surface_number(thread, call))),
-            EglKind::GetCurrentDisplay => Ok(valued(alloc, self.current_display(thread))),
-            EglKind::QueryContext => Ok(valued(alloc, self.context_value(call).unwrap_or(0))),
+            EglKind::GetCurrentContext => Ok(valued(alloc, self.tables.current_number(thread))),
+            EglKind::GetCurrentSurface => Ok(valued(
+                alloc,
+                self.tables.surface_number(thread, call),
+            )),
+            EglKind::GetCurrentDisplay => Ok(valued(alloc, self.tables.current_display(thread))),
+            EglKind::QueryContext => Ok(valued(
+                alloc,
+                self.tables.context_value(call).unwrap_or(0),
+            )),
             EglKind::SwapBuffers => {
                 self.swap(thread);
                 self.flush(thread);
@@ -112,7 +120,7 @@ impl Driver {
                 self.serve(call);
                 Ok(valued(alloc, 1))
             }
-            EglKind::GetSyncAttrib => Ok(valued(alloc, self.sync_value(call).unwrap_or(0))),
+            EglKind::GetSyncAttrib => Ok(valued(alloc, self.tables.sync_value(call).unwrap_or(0))),
             EglKind::CreateImage => Ok(valued(alloc, self.create_image(call)?)),
             EglKind::Terminate | EglKind::MakeCurrent | EglKind::ReleaseThread => unreachable!(),
             EglKind::DestroySurface | EglKind::DestroyContext => unreachable!(),
@@ -242,11 +250,14 @@ impl Driver {
                 self.draw(thread, context, kind, call)?;
                 Ok(valued(alloc, 0))
             }
-            GlKind::ReadPixels => read(alloc, self.read_pixels(alloc, thread, context, call)?),
+            GlKind::ReadPixels => read(
+                alloc,
+                self.tables.read_pixels(alloc, thread, context, call)?,
+            ),
             GlKind::GenTextures => self.generate(alloc, context, NameKind::Texture, call),
             GlKind::IsTexture => {
                 let name = name_of(call, ASKED_NAME);
-                Ok(valued(alloc, self.is_name(context, NameKind::Texture, name)))
+                Ok(valued(alloc, self.tables.is_name(context, NameKind::Texture, name)))
             }
             GlKind::TexParameterx => {
                 self.set_parameter(context, call);
@@ -267,7 +278,7 @@ impl Driver {
             GlKind::GenBuffers => self.generate(alloc, context, NameKind::Buffer, call),
             GlKind::IsBuffer => {
                 let name = name_of(call, ASKED_NAME);
-                Ok(valued(alloc, self.is_name(context, NameKind::Buffer, name)))
+                Ok(valued(alloc, self.tables.is_name(context, NameKind::Buffer, name)))
             }
             GlKind::BufferData => {
                 self.set_data(alloc, context, call)?;
@@ -278,26 +289,35 @@ impl Driver {
                 Ok(valued(alloc, 0))
             }
             GlKind::GetBufferParameteriv => {
-                Ok(valued(alloc, self.buffer_parameter(context, call)))
+                Ok(valued(alloc, self.tables.buffer_parameter(context, call)))
             }
             GlKind::GenRenderbuffers => {
                 self.generate(alloc, context, NameKind::Renderbuffer, call)
             }
             GlKind::IsRenderbuffer => {
                 let name = name_of(call, ASKED_NAME);
-                Ok(valued(alloc, self.is_name(context, NameKind::Renderbuffer, name)))
+                Ok(valued(
+                    alloc,
+                    self.tables.is_name(context, NameKind::Renderbuffer, name),
+                ))
             }
             GlKind::GetRenderbufferParameteriv => {
-                Ok(valued(alloc, self.renderbuffer_parameter(context, call)))
+                Ok(valued(alloc, self.tables.renderbuffer_parameter(context, call)))
             }
             GlKind::GenFramebuffers => self.generate(alloc, context, NameKind::Framebuffer, call),
             GlKind::IsFramebuffer => {
                 let name = name_of(call, ASKED_NAME);
-                Ok(valued(alloc, self.is_name(context, NameKind::Framebuffer, name)))
+                Ok(valued(
+                    alloc,
+                    self.tables.is_name(context, NameKind::Framebuffer, name),
+                ))
             }
-            GlKind::CheckFramebufferStatus => Ok(valued(alloc, self.framebuffer_status(thread))),
+            GlKind::CheckFramebufferStatus => Ok(valued(
+                alloc,
+                self.tables.framebuffer_status(thread),
+            )),
             GlKind::GetFramebufferAttachmentParameteriv => {
-                Ok(valued(alloc, self.attachment_parameter(context, call)))
+                Ok(valued(alloc, self.tables.attachment_parameter(context, call)))
             }
             _ => unreachable!(),
         }

@@ -19,30 +19,17 @@ use std::sync::ledger::Ledger;
 use thread_part::new_level;
 
 impl Driver {
-    /// The texture on which calls work: what the context has bound, or its texture 0.
-    pub(crate) fn target_texture(&self, context: u64) -> Option<u64>
-        ensures { result ≡ target_texture self.now.state context }
-    {
-        match self.objects.context(context) {
-            Some(context) => match context.bound.texture {
-                Some(texture) => Some(texture),
-                None => Some(context.texture),
-            },
-            None => None,
-        }
-    }
-
     fn set_parameter_of(&mut self, texture: u64, call: &Call)
         ensures { self.new ≡ record self.old { state = set_parameter (number call.now 1) (number call.now 2) (Some texture) self.old.state } }
     {
-        self.objects.set_parameter(texture, call);
+        self.tables.objects.set_parameter(texture, call);
     }
 
     /// Sets a parameter of the texture on which calls work.
     pub(crate) fn set_parameter(&mut self, context: u64, call: &Call)
         ensures { self.new ≡ record self.old { state = set_parameter (number call.now 1) (number call.now 2) (target_texture self.old.state context) self.old.state } }
     {
-        match self.target_texture(context) {
+        match self.tables.target_texture(context) {
             Some(texture) => self.set_parameter_of(texture, call),
             None => (),
         }
@@ -52,7 +39,7 @@ impl Driver {
         requires { length call.now.list ≡ 4 }
         ensures { self.new ≡ record self.old { state = set_crop call.now.list (Some texture) self.old.state } }
     {
-        self.objects.set_crop(texture, call);
+        self.tables.objects.set_crop(texture, call);
     }
 
     /// Sets the crop rectangle of the texture on which calls work.
@@ -62,7 +49,7 @@ impl Driver {
         ensures { self.new ≡ record self.old { state = set_crop call.now.list (target_texture self.old.state context) self.old.state } }
     {
         let _ = thread;
-        match self.target_texture(context) {
+        match self.tables.target_texture(context) {
             Some(texture) => self.set_crop_of(texture, call),
             None => (),
         }
@@ -74,8 +61,8 @@ impl Driver {
         ensures state { self.new ≡ record self.old { state = sweep (specified level None (Some texture) self.old.state) } }
         ensures steps { IsCheap self.old.state self.new.state steps.old steps.new }
     {
-        self.objects.link_pixels(texture, level, None, steps);
-        self.objects.left();
+        self.tables.objects.link_pixels(texture, level, None, steps);
+        self.tables.objects.left();
     }
 
     /// Gives a level of a texture a new storage. It is held until the level refers to it.
@@ -91,12 +78,14 @@ impl Driver {
         ensures steps { IsCheap self.old.state self.new.state steps.old steps.new }
         ensures err { OnErr result (self.new ≡ self.old) }
     {
-        self.objects.reserve(1)?;
-        let new = self.objects.len();
-        self.objects.make_one(Object::Storage(storage));
-        self.objects.link_pixels(texture, level, Some(new), steps);
-        self.objects.release(new, steps);
-        self.objects.left();
+        self.tables.objects.reserve(1)?;
+        let new = self.tables.objects.len();
+        self.tables.objects.make_one(Object::Storage(storage));
+        self.tables
+            .objects
+            .link_pixels(texture, level, Some(new), steps);
+        self.tables.objects.release(new, steps);
+        self.tables.objects.left();
         Ok(())
     }
 
@@ -113,7 +102,7 @@ impl Driver {
         ensures steps { IsCheap self.old.state self.new.state steps.old steps.new }
         ensures err { OnErr result (self.new ≡ self.old) }
     {
-        let Some(texture) = self.target_texture(context) else {
+        let Some(texture) = self.tables.target_texture(context) else {
             self.settled();
             return Ok(());
         };
@@ -143,18 +132,8 @@ impl Driver {
     {
         let _ = thread;
         let level = number(call, LEVEL);
-        let storage = new_level(alloc, call, self.objects.alignments(context).unpack)?;
+        let storage = new_level(alloc, call, self.tables.objects.alignments(context).unpack)?;
         self.give_level(context, level, storage, steps)
-    }
-
-    /// The storage of a level of the texture on which calls work, where it has one.
-    pub(crate) fn level_storage(&self, context: u64, level: u64) -> Option<u64>
-        ensures { result ≡ level_storage self.now.state context level }
-    {
-        match self.target_texture(context) {
-            Some(texture) => self.objects.level(texture, level),
-            None => None,
-        }
     }
 
     /// Writes the part of a level's pixels that a glTexSubImage2D names.
@@ -171,10 +150,10 @@ impl Driver {
         ensures err { OnErr result (self.new ≡ self.old) }
     {
         let _ = thread;
-        match self.level_storage(context, number(call, LEVEL)) {
+        match self.tables.level_storage(context, number(call, LEVEL)) {
             Some(storage) => {
-                let align = self.objects.alignments(context).unpack;
-                self.objects.rewrite(alloc, storage, call, align)
+                let align = self.tables.objects.alignments(context).unpack;
+                self.tables.objects.rewrite(alloc, storage, call, align)
             }
             None => Ok(()),
         }

@@ -12,7 +12,7 @@ ghost use Rattle.model_laws.specs.Sound.{IsSound};
 ghost use Rattle.thread_part.specs.Uploads.{upload_of};
 ghost use Rattle.driver_core.specs.Costs.{IsBounded, IsCheap};
 ghost use Rattle.driver_core.specs.Machine.{outs};
-ghost use Rattle.driver_core.specs.Memory.{is_bare, is_bare_on};
+ghost use Rattle.driver_facts.specs.Memory.{is_bare, is_bare_on};
 
 use crate::machine::Driver;
 use egl_calls::arguments::number;

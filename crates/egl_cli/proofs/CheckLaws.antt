@@ -19,7 +19,7 @@ use Rattle.egl_cli.specs.declared.inputs.Claim.{Claim}
 use Rattle.egl_cli.specs.declared.statuses.Status.{Status}
 use Rattle.egl_cli.specs.declared.statuses.Status.TheVariants.{Ok as Fine, WriteFault, NoMemory, Differs}
 use Rattle.egl_cli.specs.declared.commands.Command.TheVariants.{Check}
-use Rattle.egl_cli.specs.Answers.{check_answer, verdict_answer, claim_answer, with_lines, then_lines, claimed_at, claimed}
+use Rattle.egl_cli.specs.Answers.{check_answer, verdict_answer, claim_answer, then_lines, claimed_at, claimed}
 use Rattle.egl_cli.specs.Inputs.{WasRead}
 use Rattle.egl_cli.specs.Says.{WhereTold, Wrote, WroteIfMade, Says, IsClaimTrue, IsHeadline}
 use Rattle.egl_cli.proofs.AnswerLaws.{check_is}

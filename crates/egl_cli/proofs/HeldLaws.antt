@@ -1,5 +1,5 @@
 -- The recording of a run, behind its trace, holds.
-use Rattle.std.proofs.Common.{◌≡◌, ℕ, ◌+◌, ◌≤◌, List, ◌++◌, length, take, drop, refl, ap, ◌∙◌, arith, length-append, Some, Result, Ok, Err}
+use Rattle.std.proofs.Common.{◌≡◌, ℕ, ◌+◌, ◌≤◌, List, ◌++◌, length, drop, ap, ◌∙◌, length-append, Result, Ok}
 use Rattle.std.proofs.lemmas.List.{take_at, drop_at}
 use Rattle.std.specs.Prelude.{codes}
 use Rattle.std.specs.Char.{is_newline}
@@ -15,16 +15,11 @@ use Rattle.trace_model.specs.Serial.{state_behind}
 use Rattle.trace_model.specs.Stalled.{IsComplete}
 use Rattle.journal_text.proofs.CutLaws.{cut_off}
 use Rattle.journal_text.specs.Readings.{recorded}
-use Rattle.journal_text.specs.declared.cuts.Cut.{Cut}
-use Rattle.journal_text.specs.declared.recordings.RecordedLine.{RecordedLine}
 use Rattle.trace_check.proofs.FrontLaws.{front_other}
 use Rattle.trace_check.proofs.RunLaws.{run_holds}
 use Rattle.trace_check.proofs.WrittenLaws.{read_back}
 use Rattle.trace_check.specs.Recordings.{lines_recorded, IsSized}
-use Rattle.trace_check.specs.Verdicts.{verdict}
-use Rattle.trace_check.specs.declared.verdicts.Verdict.{Verdict}
 use Rattle.egl_cli.specs.declared.inputs.Claim.{Claim}
-use Rattle.egl_cli.specs.declared.answers.Answer.{Answer}
 use Rattle.egl_cli.specs.declared.statuses.Status.TheVariants.{Ok as Fine}
 use Rattle.egl_cli.specs.Answers.{check_answer, verdict_answer, claim_answer, then_lines, claimed_at, claimed, answer_or_defect, most_input}
 use Rattle.egl_cli.proofs.SaysLaws.{within}

@@ -13,7 +13,7 @@ use Rattle.egl_cli.specs.declared.answers.Answer.{Answer}
 use Rattle.egl_cli.specs.declared.statuses.Status.{Status}
 use Rattle.egl_cli.specs.declared.statuses.Status.TheVariants.{Ok as Fine, Usage, ReadFault, Malformed, WriteFault, Stalled, NoMemory, TooLong, Differs}
 use Rattle.egl_cli.specs.declared.commands.Command.TheVariants.{Play}
-use Rattle.egl_cli.specs.Answers.{IsPlayAnswer, journal_answer, read_fault_text, told}
+use Rattle.egl_cli.specs.Answers.{journal_answer, read_fault_text, told}
 use Rattle.egl_cli.specs.Inputs.{WasRead}
 use Rattle.egl_cli.specs.Says.{IsPlayText, IsTold, IsToldStalled, IsWhole, Says, Spells, WhereTold, Wrote, WrotePlay}
 use Rattle.egl_cli.proofs.SaysLaws.{ended, wanted, where_told}

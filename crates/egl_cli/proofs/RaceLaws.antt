@@ -1,7 +1,7 @@
 -- What `races` says to a trace, and what that is worth.
 use Rattle.std.proofs.Common.{◌≡◌, ℕ, ◌++◌, Bool, true, false, List, refl, sym, ap, ◌∙◌, subst, Option, None, Some, Result, Ok, Err, inl, inr}
-use Rattle.std.specs.Prelude.{◌⊎◌, nat_le, if◌then◌else◌, codes}
-use Rattle.egl_flow.specs.Flow.{AtEnd, Took}
+use Rattle.std.specs.Prelude.{◌⊎◌, nat_le, if◌then◌else◌}
+use Rattle.egl_flow.specs.Flow.{Took}
 use Rattle.egl_calls.specs.declared.entries.Entry.{Entry}
 use Rattle.egl_model.specs.State.{State}
 use Rattle.trace_reader.specs.declared.traces.Defect.{Defect}

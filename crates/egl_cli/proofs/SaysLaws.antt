@@ -1,15 +1,14 @@
 -- What each status promises, from what was read and written.
-use Rattle.std.proofs.Common.{◌≡◌, ℕ, ◌<◌, ◌≤◌, true, false, List, [], ◌++◌, length, refl, sym, ap, ◌∙◌, arith, subst, Option, None, Some, Result, Ok, Err, inl, inr, length-append}
+use Rattle.std.proofs.Common.{◌≡◌, ℕ, ◌<◌, ◌≤◌, true, false, List, [], ◌++◌, length, refl, sym, ap, ◌∙◌, arith, subst, Option, None, Some, Result, Err, inl, inr, length-append}
 use Rattle.std.proofs.lemmas.Bool.{cond-true, cond-false}
 use Rattle.std.proofs.lemmas.List.{append-nil}
 use Rattle.std.specs.Prelude.{codes, nat_lt}
 use Rattle.egl_flow.specs.Flow.{HasRisen, Took, TookFront}
 use Rattle.egl_flow.specs.Causes.{GavePast}
-use Rattle.trace_gen.specs.Generated.{generated}
 use Rattle.trace_reader.specs.declared.traces.Defect.{Defect}
 use Rattle.trace_reader.specs.declared.traces.Reason.{Reason}
 use Rattle.egl_cli.specs.declared.statuses.Status.{Status}
-use Rattle.egl_cli.specs.declared.statuses.Status.TheVariants.{Ok as Fine, Usage, ReadFault, Malformed, WriteFault, NoMemory, TooLong}
+use Rattle.egl_cli.specs.declared.statuses.Status.TheVariants.{Usage, ReadFault, Malformed, WriteFault, NoMemory, TooLong}
 use Rattle.egl_cli.specs.declared.answers.Answer.{Answer}
 use Rattle.egl_cli.specs.declared.commands.Command.{Command}
 use Rattle.egl_cli.specs.declared.commands.Command.TheVariants.{Serial, Play, Check, Configs, Generate, Compose, Scene, Races}
@@ -17,7 +16,7 @@ use Rattle.egl_cli.specs.declared.inputs.InputError.{InputError}
 use Rattle.egl_cli.specs.declared.inputs.InputError.TheVariants.{ReadFault as Unread, TooLong as Overlong, Malformed as Defective, NoMemory as Unmade}
 use Rattle.egl_cli.specs.Answers.{within_limit, answer_or_defect, malformed_text, usage_text, read_fault_text, too_long_text, most_input}
 use Rattle.egl_cli.specs.Inputs.{WasRead, GivesNone}
-use Rattle.egl_cli.specs.Says.{WhereTold, Wrote, WroteIfMade, WroteRefusal, IsAnswered, ReadsInput, answer_of, IsMeant, Says}
+use Rattle.egl_cli.specs.Says.{WhereTold, Wrote, WroteRefusal, IsAnswered, ReadsInput, answer_of, IsMeant, Says}
 
 -- ---- What was read.
 pub within : (b : List ℕ) (a : Answer) → length b ≤ most_input → within_limit b a ≡ a

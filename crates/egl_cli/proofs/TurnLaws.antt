@@ -1,5 +1,5 @@
 -- A run by turns whose entries are written as they are played.
-use Rattle.std.proofs.Common.{◌≡◌, ℕ, suc, ◌+◌, ◌-◌, ◌<◌, ◌≤◌, List, [], ◌∷◌, ◌++◌, sym, ap, ◌∙◌, arith, append_assoc, Option, None, Some}
+use Rattle.std.proofs.Common.{◌≡◌, ℕ, suc, ◌+◌, ◌-◌, List, [], ◌∷◌, ◌++◌, sym, ap, ◌∙◌, append_assoc, Option, None, Some}
 use Rattle.std.proofs.lemmas.List.{append-nil}
 use Rattle.std.specs.Prelude.{codes}
 use Rattle.egl_calls.specs.declared.entries.Entry.{Entry}
@@ -7,7 +7,7 @@ use Rattle.egl_model.specs.State.{State}
 use Rattle.trace_reader.specs.Traces.{TraceValue}
 use Rattle.trace_model.specs.Recording.{entry_line, entry_lines, recording_of, recording}
 use Rattle.trace_model.specs.Serial.{state_behind, next_entry, played, most_turns, serial}
-use Rattle.trace_session.specs.Sessions.{SessionValue, Knows}
+use Rattle.trace_session.specs.Sessions.{SessionValue}
 use Rattle.trace_session.specs.Runs.{StandBehind}
 use Rattle.trace_session.proofs.RunLaws.{played_none, played_one}
 use Rattle.journal_text.specs.Rests.{rest_text}

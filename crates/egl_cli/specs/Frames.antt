@@ -1,9 +1,8 @@
 -- The frames of a run: what a screen shows on which the windows of its trace are stacked.
 use Rattle.std.specs.Prelude.{ℕ, ◌+◌, ◌*◌, pos, Bool, true, false, ◌&&◌, List, [], ◌∷◌, ◌++◌, if◌then◌else◌, length, codes, count_by, decimal, map}
+use Rattle.egl_calls.specs.Errors.{is_done}
 use Rattle.std.specs.List.{sum}
 use Rattle.egl_calls.specs.declared.entries.Entry.{Entry}
-use Rattle.egl_calls.specs.declared.errors.Outcome.{Outcome}
-use Rattle.egl_calls.specs.declared.errors.Outcome.TheVariants.{Done}
 use Rattle.egl_calls.specs.declared.kinds.Kind.{Kind}
 use Rattle.egl_calls.specs.declared.kinds.Kind.TheVariants.{Egl}
 use Rattle.egl_calls.specs.declared.kinds.EglKind.TheVariants.{SwapBuffers}
@@ -38,10 +37,6 @@ picture_of w h placed windows = picture_bytes (composed (map (layer_of windows) 
 abbrev pub is_swap : Kind → Bool
 is_swap (Egl SwapBuffers) = true
 is_swap k = false
-
-abbrev pub is_done : Outcome → Bool
-is_done Done = true
-is_done o = false
 
 -- a swap that isn't refused, of a window's surface or of any other
 abbrev pub makes_frame : Entry → Bool

@@ -1,5 +1,5 @@
 -- What each status of the program promises of what was read and written.
-use Rattle.std.specs.Prelude.{◌≡◌, ℕ, ◌≤◌, ◌⊎◌, Bool, true, false, List, [], ◌++◌, length, take, drop, codes, Option, None, Some, Ok as Spelt}
+use Rattle.std.specs.Prelude.{◌≡◌, ℕ, ◌≤◌, ◌⊎◌, Bool, false, List, [], ◌++◌, length, take, drop, codes, Option, None, Some, Ok as Spelt}
 use Rattle.egl_calls.specs.declared.entries.Entry.{Entry}
 use Rattle.egl_flow.specs.Flow.{AtEnd, Took, TookFront}
 use Rattle.egl_flow.specs.Causes.{GavePast, GaveWithin}

@@ -195,8 +195,8 @@ pub fn run_frames(alloc: Global, width: u32, height: u32, trace: &Trace) -> Resu
     requires high { (0 < height) × (height ≤ 2048) }
     ensures { IfOk result (λ a. a ≡ run_frames width height trace.now) }
 {
-    // That each entry's thread is one of the trace stands on `lines`.
-    trace.lines();
+    // Each entry's thread is one of the trace.
+    trace.in_order();
     match run_serial(alloc, trace) {
         Ok(run) => ended_frames(alloc, width, height, trace, &journal_of(run)),
         Err(RunError::Stalled(run)) => {

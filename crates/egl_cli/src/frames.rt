@@ -4,7 +4,7 @@ ghost use Rattle.std.specs.List.{sum};
 ghost use Rattle.egl_cli.specs.Frames as values;
 
 use driver_core::Driver;
-use egl_calls::{Bytes, EglKind, Entry, Journal, Kind, NoMemory, Outcome};
+use egl_calls::{Bytes, EglKind, Entry, Journal, Kind, NoMemory, is_done};
 use journal_text::texts::{put_decimal, put_text};
 use screen_compose::{Fronts, Placed, Screen};
 use std::alloc::Global;
@@ -46,8 +46,7 @@ fn stacked(alloc: Global, specs: &[WindowSpec]) -> Result<Vec<Placed>, NoMemory>
 fn makes_frame(entry: &Entry) -> bool
     ensures { result ≡ values.makes_frame entry.now }
 {
-    matches!(entry.call.kind, Kind::Egl(EglKind::SwapBuffers))
-        && matches!(entry.reply.outcome, Outcome::Done)
+    matches!(entry.call.kind, Kind::Egl(EglKind::SwapBuffers)) && is_done(entry.reply.outcome)
 }
 
 /// The sum of the bytes of a picture.

@@ -1,5 +1,5 @@
 //! What the program reads: a trace, a trace and a recording behind it, or a scene, or why there is none.
-ghost use Rattle.std.specs.Prelude.{◌≡◌, ◌≤◌, length, IfOk, IfErr};
+ghost use Rattle.std.specs.Prelude.{◌≤◌, length, IfOk, IfErr};
 ghost use Rattle.trace_reader.specs.Grammar.{trace};
 ghost use Rattle.trace_reader.specs.Reading.{Gives};
 ghost use Rattle.scene_reader.specs.Grammar.{scene};

@@ -50,7 +50,7 @@ fn tell_play<R: Threads + Wait + Sync, K: Sink, G: Gate + Sync>(
     ensures trace { IsTrace trace.now }
     ensures wrote { WrotePlay summary trace.now (K.taken sink.old) (K.taken sink.new) (HasRisen (K.faults sink.old) (K.faults sink.new)) result }
 {
-    trace.lines();
+    trace.in_order();
     match play_answer(rt, alloc, summary, trace, gate) {
         Ok(answer) => finish(sink, answer.status, answer.text.as_slice()),
         Err(_) => Status::NoMemory,

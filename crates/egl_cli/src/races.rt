@@ -84,8 +84,8 @@ fn stalled_races(alloc: Global, trace: &Trace, run: &Run) -> Result<Answer, NoMe
 pub fn run_races(alloc: Global, trace: &Trace) -> Result<Answer, NoMemory>
     ensures { IfOk result (IsRacesAnswer trace.now) }
 {
-    // That each entry's thread is one of the trace stands on `lines`.
-    trace.lines();
+    // Each entry's thread is one of the trace.
+    trace.in_order();
     match run_serial(alloc, trace) {
         Ok(run) => ended_races(alloc, trace, &run),
         Err(RunError::Stalled(run)) => stalled_races(alloc, trace, &run),

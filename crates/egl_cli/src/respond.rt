@@ -66,8 +66,7 @@ fn tell_run<K: Sink>(alloc: Global, sink: &mut K, trace: &Trace) -> Status
     ensures trace { IsTrace trace.now }
     ensures wrote { WroteIfMade (K.taken sink.old) (run_answer trace.now).text (K.taken sink.new) (HasRisen (K.faults sink.old) (K.faults sink.new)) (run_answer trace.now).status result }
 {
-    // That a trace's lines are in order is what `lines` says of every trace, and the headline builds on it.
-    trace.lines();
+    trace.in_order();
     match run_answer(alloc, trace) {
         Ok(answer) => finish(sink, answer.status, answer.text.as_slice()),
         Err(_) => Status::NoMemory,
@@ -100,7 +99,7 @@ fn tell_frames<K: Sink>(
     ensures trace { IsTrace trace.now }
     ensures wrote { WroteIfMade (K.taken sink.old) (run_frames width height trace.now).text (K.taken sink.new) (HasRisen (K.faults sink.old) (K.faults sink.new)) (run_frames width height trace.now).status result }
 {
-    trace.lines();
+    trace.in_order();
     match run_frames(alloc, width, height, trace) {
         Ok(answer) => finish(sink, answer.status, answer.text.as_slice()),
         Err(_) => Status::NoMemory,
@@ -133,7 +132,7 @@ fn tell_races<K: Sink>(alloc: Global, sink: &mut K, trace: &Trace) -> Status
     ensures trace { IsTrace trace.now }
     ensures wrote { WroteRaces trace.now (K.taken sink.old) (K.taken sink.new) (HasRisen (K.faults sink.old) (K.faults sink.new)) result }
 {
-    trace.lines();
+    trace.in_order();
     match run_races(alloc, trace) {
         Ok(answer) => finish(sink, answer.status, answer.text.as_slice()),
         Err(_) => Status::NoMemory,
@@ -158,7 +157,7 @@ fn tell_claim<K: Sink>(alloc: Global, sink: &mut K, claim: &Claim) -> Status
     ensures trace { IsTrace claim.now.trace }
     ensures wrote { WroteIfMade (K.taken sink.old) (claim_answer claim.now).text (K.taken sink.new) (HasRisen (K.faults sink.old) (K.faults sink.new)) (claim_answer claim.now).status result }
 {
-    claim.trace.lines();
+    claim.trace.in_order();
     match claim_answer(alloc, claim) {
         Ok(answer) => finish(sink, answer.status, answer.text.as_slice()),
         Err(_) => Status::NoMemory,

@@ -27,8 +27,8 @@ use Rattle.egl_model.specs.OwnCalls.{buffer_effect, buffer_refusal, own_effect}
 use Rattle.egl_model.specs.State.{State, record_of}
 use Rattle.egl_model.specs.Step.{after_egl_rules, after_gl_rules, buffer_step_on, egl_step, gl_step, gl_step_on, step, step_by, step_in, wait_step}
 use Rattle.egl_model.specs.Waits.{ended, is_signalled, is_wait_end}
-use Rattle.driver_core.specs.Verdicts.{buffer_refusals, gl_refusals, refusals, refusals_by}
-use Rattle.driver_core.specs.declared.verdicts.Refusals.TheVariants.{Unjudged}
+use Rattle.driver_facts.specs.Verdicts.{buffer_refusals, gl_refusals, refusals, refusals_by}
+use Rattle.driver_facts.specs.declared.verdicts.Refusals.TheVariants.{Unjudged}
 use Rattle.egl_explain.specs.Deciding.{deciding, first_of, refusal_in}
 
 -- ---- Lists of rows.

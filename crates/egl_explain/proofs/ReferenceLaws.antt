@@ -10,7 +10,7 @@ use Rattle.display_table.specs.declared.handles.Handle.{Handle}
 use Rattle.driver_objects.specs.Objects.{filled}
 use Rattle.driver_objects.specs.declared.objects.Object.{Object}
 use Rattle.driver_objects.specs.declared.objects.Object.TheVariants.{Context, Group, Texture, Buffer, Renderbuffer, Framebuffer, Surface, Storage, Image, Sync}
-use Rattle.driver_core.specs.Threads.{padded}
+use Rattle.driver_facts.specs.Threads.{padded}
 use Rattle.egl_model.specs.declared.records.Bound.{Bound}
 use Rattle.egl_model.specs.declared.records.ThreadRecord.{ThreadRecord}
 use Rattle.egl_model.specs.State.{State, capacity, initial}

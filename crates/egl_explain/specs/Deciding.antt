@@ -3,8 +3,8 @@ use Rattle.std.specs.Prelude.{List, [], ◌∷◌, Option, None, Some}
 use Rattle.std.specs.Option.{option_map}
 use Rattle.egl_calls.specs.declared.errors.Outcome.{Outcome}
 use Rattle.egl_calls.specs.declared.errors.Outcome.TheVariants.{Egl as RefusedEgl, Gl as RefusedGl}
-use Rattle.driver_core.specs.declared.verdicts.Refusals.{Refusals}
-use Rattle.driver_core.specs.declared.verdicts.Refusals.TheVariants.{Egl as EglRows, Gl as GlRows, Unjudged}
+use Rattle.driver_facts.specs.declared.verdicts.Refusals.{Refusals}
+use Rattle.driver_facts.specs.declared.verdicts.Refusals.TheVariants.{Egl as EglRows, Gl as GlRows, Unjudged}
 
 -- the first error of a list
 abbrev pub first_of : {E : Type 0} → List (Option E) → Option E

@@ -1,5 +1,5 @@
 //! The text that is made of an input.
-ghost use Rattle.std.specs.Prelude.{◌≡◌, ◌≤◌, ◌<◌, length, All, IfOk, OnOk};
+ghost use Rattle.std.specs.Prelude.{◌≡◌, ◌≤◌, ◌<◌, length, All, OnOk};
 ghost use Rattle.egl_model.specs.History.{replay_from};
 ghost use Rattle.egl_model.specs.Step.{step};
 
@@ -229,8 +229,8 @@ fn put_trace(
     lines: &[&[u8]],
     trace: &Trace,
 ) -> Result<Ending, NoMemory> {
-    // That each entry's thread is one of the trace stands on `lines`.
-    trace.lines();
+    // Each entry's thread is one of the trace.
+    trace.in_order();
     match run_serial(alloc, trace) {
         Ok(run) => put_ended(alloc, page, lines, trace, &run),
         Err(RunError::Stalled(run)) => put_stalled(alloc, page, lines, trace, &run),

@@ -1,7 +1,7 @@
 //! What is told of a call: what came of it, and what the table of refusals says of it.
 ghost use Rattle.std.specs.Prelude.{◌≡◌, ◌<◌, IfOk, OnOk};
 ghost use Rattle.egl_model.specs.Step.{step};
-ghost use Rattle.driver_core.specs.Verdicts.{refusals};
+ghost use Rattle.driver_facts.specs.Verdicts.{refusals};
 ghost use Rattle.egl_explain.specs.Deciding.{deciding, refusal_in};
 
 use driver_core::{Driver, Refusals};

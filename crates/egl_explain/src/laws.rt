@@ -4,7 +4,7 @@ ghost use Rattle.egl_calls.specs.Calls.{CallValue};
 ghost use Rattle.egl_model.specs.State.{State};
 ghost use Rattle.egl_model.specs.Step.{step};
 ghost use Rattle.egl_model.specs.Sweep.{edges_at, references, roots};
-ghost use Rattle.driver_core.specs.Verdicts.{refusals};
+ghost use Rattle.driver_facts.specs.Verdicts.{refusals};
 ghost use Rattle.egl_explain.specs.Deciding.{deciding, refusal_in};
 ghost use Rattle.egl_explain.specs.References.{holders_of, is_object, is_outside, references_in, targets};
 

@@ -1,5 +1,4 @@
 //! The lines of an input as they stand there.
-ghost use Rattle.std.specs.Prelude.{◌≡◌};
 
 use crate::pages::{Ink, Page};
 use egl_calls::NoMemory;

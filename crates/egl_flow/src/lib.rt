@@ -1,6 +1,6 @@
 //! Bytes in and out of a program, with counted faults: what a contract may say of input and output.
 //!
-//! Its tests are in `rule_check`.
+//! Its tests are in `topic_check`.
 #![tactic(auto)]
 
 mod memory;

@@ -1,7 +1,5 @@
 //! A source and a sink in memory, which fail at listed calls.
-ghost use Rattle.std.specs.Prelude.{◌≡◌, ℕ, ◌+◌, ◌-◌, ◌*◌, ◌<◌, ◌≤◌, ◌==◌, ◌||◌, ◌&&◌, not, pos, Some, [], ◌++◌, length, take, drop, min, IfOk, OnOk, OnErr, is_err, vec_len, vec_capacity};
-ghost use Rattle.std.specs.Ordering.{int_eq};
-ghost use Rattle.std.specs.List.{list_any};
+ghost use Rattle.std.specs.Prelude.{◌≡◌, ◌+◌, ◌-◌, ◌*◌, ◌<◌, ◌≤◌, ◌==◌, ◌||◌, ◌&&◌, not, Some, [], ◌++◌, length, take, drop, min, IfOk, OnOk, OnErr, is_err, vec_len, vec_capacity};
 ghost use Rattle.egl_flow.specs.Flow.{HasRisen, Gave, AtEnd, Took};
 ghost use Rattle.egl_flow.specs.Memory.{is_listed, raised};
 

@@ -1,5 +1,5 @@
 //! std's readers and writers as a source and a sink. They tell of the bytes what std tells: all where the bytes are in memory, and nothing of a terminal, which is the trusted edge.
-ghost use Rattle.std.specs.Prelude.{◌≡◌, ℕ, ◌+◌, ◌<◌, ◌≤◌, length, take, OnOk, IfOk, OnErr, IfSome, IfNone};
+ghost use Rattle.std.specs.Prelude.{◌≡◌, ◌+◌, ◌<◌, ◌≤◌, length, take, OnOk, IfOk, OnErr, IfSome, IfNone};
 ghost use Rattle.std.specs.Io.KnownBytes.{Keeps};
 ghost use Rattle.egl_flow.specs.Flow.{HasRisen, Gave, AtEnd};
 

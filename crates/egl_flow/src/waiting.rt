@@ -1,5 +1,5 @@
 //! A source that waits for input that isn't there yet.
-ghost use Rattle.std.specs.Prelude.{◌≡◌, ℕ, ◌+◌};
+ghost use Rattle.std.specs.Prelude.{◌≡◌, ◌+◌};
 
 use crate::reading::{Failed, Source};
 use crate::streams::StdSource;

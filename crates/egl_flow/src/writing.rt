@@ -1,5 +1,5 @@
 //! Sinks of bytes.
-ghost use Rattle.std.specs.Prelude.{◌≡◌, ℕ, ◌+◌, ◌-◌, ◌<◌, ◌≤◌, List, [], length, take, Option, IfOk, OnOk, OnErr};
+ghost use Rattle.std.specs.Prelude.{ℕ, ◌+◌, ◌-◌, ◌<◌, ◌≤◌, List, [], length, take, Option, IfOk, OnOk, OnErr};
 ghost use Rattle.egl_flow.specs.Flow.{HasRisen, Took, TookFront};
 
 use crate::reading::Failed;

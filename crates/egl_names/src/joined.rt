@@ -1,7 +1,7 @@
 //! Words joined by `|`.
 ghost use Rattle.std.specs.Prelude.{◌≡◌, ◌≤◌, length};
 ghost use Rattle.std.specs.List.{position_or_len};
-ghost use Rattle.egl_names.specs.Joined.{known_word, is_name_start, begins_with, is_unknown_name, is_bar, parts, joined_bits, joined_word};
+ghost use Rattle.egl_names.specs.Joined.{known_word, is_name_start, begins_with, is_unknown_name, is_bar, parts, joined_word};
 ghost use Rattle.egl_names.specs.Parts.{part_of, is_unknown_part, with_part, word_of_bits, single_word, joined_parts};
 
 use crate::names::code_of_word;

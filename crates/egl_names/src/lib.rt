@@ -1,6 +1,6 @@
 //! The names of EGL and OpenGL ES that a trace may use, their codes, and the words that stand for a number.
 //!
-//! Its tests are in `rule_check`.
+//! Its tests are in `topic_check`.
 #![tactic(auto)]
 
 pub mod codes;

@@ -1,5 +1,5 @@
 //! The names of EGL and OpenGL ES and their codes.
-ghost use Rattle.std.specs.Prelude.{◌≡◌, ℕ, ◌+◌, ◌^◌, ◌<◌, ◌≤◌, map, length};
+ghost use Rattle.std.specs.Prelude.{◌≡◌, ◌+◌, ◌<◌, map, length};
 ghost use Rattle.std.specs.Option.{option_copied};
 ghost use Rattle.egl_names.specs.Names.{name_at, name_of, code_of, place_of};
 ghost use Rattle.egl_names.specs.Rows.{stands_at, first_at, AreByLength};

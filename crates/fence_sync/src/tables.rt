@@ -1,5 +1,5 @@
 //! Fences and contexts by their numbers.
-ghost use Rattle.std.specs.Prelude.{◌≡◌, ℕ, ◌+◌, ◌<◌, ◌==◌, ◌||◌, nat_lt, true, false, if◌then◌else◌, IfSome, IfNone, IfOk, OnOk, OnErr, None, Some, [], ◌∷◌, ◌++◌, is_some};
+ghost use Rattle.std.specs.Prelude.{◌≡◌, ℕ, ◌+◌, ◌<◌, ◌==◌, ◌||◌, true, false, if◌then◌else◌, IfOk, OnOk, OnErr, None, Some, [], ◌∷◌, ◌++◌, is_some};
 ghost use Rattle.std.specs.Option.{option_map};
 ghost use Rattle.std.specs.Ordering.{nat_cmp};
 ghost use Rattle.std.specs.BTreeMap.{get, keys};

@@ -1,9 +1,7 @@
 //! Where a recording begins among bytes.
 ghost use Rattle.std.specs.Prelude.{◌≡◌, ◌+◌, ◌<◌, ◌≤◌, ◌^◌, length, IfSome};
-ghost use Rattle.std.specs.Char.{is_newline};
-ghost use Rattle.std.specs.List.{slice_split};
 ghost use Rattle.std.specs.Str.Lines.{lines};
-ghost use Rattle.journal_text.specs.Cuts.{cut_recording, cut_parts};
+ghost use Rattle.journal_text.specs.Cuts.{cut_recording};
 
 use trace_reader::line_cuts::{cut_ended_line, cut_line};
 

@@ -19,7 +19,7 @@ use Rattle.egl_model.specs.Objects.{as_context, as_fence, as_storage, as_surface
 use Rattle.egl_model.specs.Currents.{current_context, draw_storage, has_context, has_surface, is_bound, is_context_elsewhere, is_surface_elsewhere, part_of_context, read_storage, display_at}
 use Rattle.egl_model.specs.Graph.{is_in}
 use Rattle.egl_model.specs.Waits.{has_flushed, is_signalled, signals}
-use Rattle.egl_model.specs.Parts.{Own, Places, is_place, places, put_at, set_image, set_part, write, written}
+use Rattle.egl_model.specs.Parts.{Own, OwnObjects, is_place, own_objects, put_at, set_image, set_part, write, written}
 use Rattle.model_laws.specs.Shapes.{IsFree, own_at, pixels_in, shapes}
 use Rattle.model_laws.specs.Sound.{IsWhole}
 use Rattle.egl_model.specs.Sweep.{live_bytes}
@@ -32,13 +32,13 @@ use Rattle.model_laws.proofs.Writes.{IsBlind, blind-written, get_or-write, lengt
 
 -- ---- What all threads see.
 pub blind-length : (t : ℕ) (s : State) → Blind t s (λ a. length a.objects)
-blind-length t s w v x ne = length-written (places s v) x s.objects
+blind-length t s w v x ne = length-written (own_objects s v) x s.objects
 
 pub blind-live_bytes : (t : ℕ) (s : State) → Blind t s (λ a. live_bytes a.objects)
-blind-live_bytes t s w v x ne = live_bytes-written (places s v) x s.objects
+blind-live_bytes t s w v x ne = live_bytes-written (own_objects s v) x s.objects
 
 pub blind-object : {A : Type 0} (g : Option Object → A) → IsBlind g → (t n : ℕ) (s : State) → Blind t s (λ a. g (object_at a n))
-blind-object g b t n s w v x ne = blind-written g b (places s v) x s.objects n
+blind-object g b t n s w v x ne = blind-written g b (own_objects s v) x s.objects n
 
 -- whatever a context has but what it keeps for itself
 pub context-blind : {A : Type 0} (h : Option ContextObject → A) → ((c : ContextObject) (x : Option PartValue) → h (Some (record c { part = x })) ≡ h (Some c)) → IsBlind (λ o. h (as_context o))
@@ -52,7 +52,7 @@ blind-context h e t n s = blind-object (λ o. h (as_context o)) (context-blind h
 -- the object of a handle, if there is one
 pub blind-of : {A : Type 0} (g : Option Object → Option A) → IsBlind g → (t : ℕ) (h : Option Handle) (s : State) → Blind t s (λ a. option_and_then (λ h. g (object_at a h.object)) h)
 blind-of g b t None s w v x ne = refl
-blind-of g b t (Some h) s w v x ne = blind-written g b (places s v) x s.objects h.object
+blind-of g b t (Some h) s w v x ne = blind-written g b (own_objects s v) x s.objects h.object
 
 pub blind-context_of : {A : Type 0} (g : Option ContextObject → A) → ((c : ContextObject) (x : Option PartValue) → g (Some (record c { part = x })) ≡ g (Some c)) → (t : ℕ) (h : Option Handle) (s : State) → Blind t s (λ a. g (option_and_then (λ h. context_in a.objects h.object) h))
 blind-context_of g e t None s w v x ne = refl
@@ -72,8 +72,8 @@ fence-blind (Some (Context c)) = refl
 fence-blind (Some (Storage v)) = refl
 fence-blind o = refl
 
--- at any places
-pub signalled-put : (p : Places) (v n : ℕ) (x : Own) (s : State) → is_signalled (put_at p v x s) n ≡ is_signalled s n
+-- at any objects
+pub signalled-put : (p : OwnObjects) (v n : ℕ) (x : Own) (s : State) → is_signalled (put_at p v x s) n ≡ is_signalled s n
 signalled-put p v n x s = ap (λ o. option_map_or (signals (written p x s.objects) n) o false) (blind-written as_fence fence-blind p x s.objects n) ∙ by (fence_in s.objects n)
   where
     by : (o : Option Fence) → option_map_or (signals (written p x s.objects) n) o false ≡ option_map_or (signals s.objects n) o false
@@ -81,20 +81,20 @@ signalled-put p v n x s = ap (λ o. option_map_or (signals (written p x s.object
     by (Some f) = ap (λ b. f.served || b) (blind-written (λ o. has_flushed n (as_context o)) (context-blind (has_flushed n) (λ c y. refl)) p x s.objects f.context)
 
 pub blind-signalled : (t n : ℕ) (s : State) → Blind t s (λ a. is_signalled a n)
-blind-signalled t n s w v x ne = signalled-put (places s v) v n x s
+blind-signalled t n s w v x ne = signalled-put (own_objects s v) v n x s
 
 -- ---- Records.
 pub blind-record : (t : ℕ) (s : State) → Blind t s (λ a. record_of a t)
-blind-record t s w v x ne = record_of-put (places s v) v t x s (λ e. ne (sym e))
+blind-record t s w v x ne = record_of-put (own_objects s v) v t x s (λ e. ne (sym e))
 
 pub blind-current : (t : ℕ) (s : State) → Blind t s (λ a. current_context a t)
-blind-current t s w v x ne = same_context s (places s v) v t x
+blind-current t s w v x ne = same_context s (own_objects s v) v t x
 
 pub blind-draw : (t : ℕ) (s : State) → Blind t s (λ a. draw_storage a t)
-blind-draw t s w v x ne = same_draw s (places s v) v t x
+blind-draw t s w v x ne = same_draw s (own_objects s v) v t x
 
 pub blind-read : (t : ℕ) (s : State) → Blind t s (λ a. read_storage a t)
-blind-read t s w v x ne = same_read s (places s v) v t x
+blind-read t s w v x ne = same_read s (own_objects s v) v t x
 
 any-set : (q : ThreadRecord → Bool) (rs : List ThreadRecord) (i : ℕ) (y d : ThreadRecord) → q y ≡ q (get_or rs i d) → list_any q (set rs i y) ≡ list_any q rs
 any-set q [] i y d e = refl
@@ -137,14 +137,14 @@ storage_in-part : (y : _) (o : Option Object) → as_storage (set_part y o) ≡ 
 storage_in-part y (Some (Context v)) = refl
 storage_in-part y o = refl
 
-context_in-written : (p : Places) (x : Own) (os : List (Option Object)) (n : ℕ) → IsNoContext n p → context_in (written p x os) n ≡ context_in os n
+context_in-written : (p : OwnObjects) (x : Own) (os : List (Option Object)) (n : ℕ) → IsNoContext n p → context_in (written p x os) n ≡ context_in os n
 unfolding written
 context_in-written p x os n away =
     same_there as_context (set_image x.read) (context_in-image x.read) p.read _ n
     ∙ same_there as_context (set_image x.draw) (context_in-image x.draw) p.draw _ n
     ∙ other_place as_context (set_part x.context) refl p.context os n away
 
-storage_in-written : (p : Places) (x : Own) (os : List (Option Object)) (n : ℕ) → IsNoImage n p → storage_in (written p x os) n ≡ storage_in os n
+storage_in-written : (p : OwnObjects) (x : Own) (os : List (Option Object)) (n : ℕ) → IsNoImage n p → storage_in (written p x os) n ≡ storage_in os n
 unfolding written
 storage_in-written p x os n away =
     other_place as_storage (set_image x.read) refl p.read _ n away.read
@@ -164,7 +164,7 @@ alone_with s t n e w u ne = ne_true (has_context n (record_of s u)) (λ h. ne (w
     is_current (Some b) n e = eq-eqb b.object n (same_Some b.object n e)
 
 pub blind-own_part : (t n : ℕ) (s : State) → current_context s t ≡ Some n → Blind t s (λ a. part_of_context a n)
-blind-own_part t n s e w v x ne = ap (λ o. option_and_then (λ c. c.part) o) (context_in-written (places s v) x s.objects n (no_context s v n (alone_with s t n e w v ne)))
+blind-own_part t n s e w v x ne = ap (λ o. option_and_then (λ c. c.part) o) (context_in-written (own_objects s v) x s.objects n (no_context s v n (alone_with s t n e w v ne)))
 
 -- and to a storage that it draws to or reads from no other thread draws, nor reads from it
 record Linked (s : State) (b : Option Bound) (n : ℕ) : Type 0 where
@@ -222,4 +222,4 @@ read_alone s t n e = draws_alone s t n (record_of s t).read (λ m i. or_right (i
 
 pub blind-own_storage : (t : ℕ) (o : Option ℕ) (s : State) → ((n : ℕ) → o ≡ Some n → IsWhole (shapes s.objects) s → NoneElse (draws s.objects n) s.threads t) → Blind t s (λ a. option_and_then (storage_in a.objects) o)
 blind-own_storage t None s mine w v x ne = refl
-blind-own_storage t (Some n) s mine w v x ne = storage_in-written (places s v) x s.objects n (no_image s v n (mine n refl w v ne))
+blind-own_storage t (Some n) s mine w v x ne = storage_in-written (own_objects s v) x s.objects n (no_image s v n (mine n refl w v ne))

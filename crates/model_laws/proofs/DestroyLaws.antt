@@ -7,6 +7,7 @@ use Rattle.std.proofs.Math.ListN.{get_or-map}
 use Rattle.std.proofs.lemmas.Bool.{not-false}
 use Rattle.std.proofs.lemmas.List.Elements.{filter_passes}
 use Rattle.egl_calls.specs.Calls.{CallValue}
+use Rattle.egl_calls.specs.declared.kinds.EglKind.{EglKind}
 use Rattle.egl_calls.specs.declared.kinds.EglKind.TheVariants.{DestroySurface, DestroyContext, DestroySync, DestroyImage, ReleaseThread}
 use Rattle.egl_calls.specs.declared.errors.EglError.TheVariants.{Success}
 use Rattle.call_rules.proofs.EglLaws.{rows_off}
@@ -21,6 +22,8 @@ use Rattle.egl_model.specs.State.{State, initial, record_of, set_error}
 use Rattle.egl_model.specs.Arguments.{number}
 use Rattle.egl_model.specs.Handles.{destroyed, handle_at}
 use Rattle.egl_model.specs.EglFacts.{egl_facts, egl_refusal}
+use Rattle.egl_model.specs.EglEffects.{egl_effect}
+use Rattle.model_laws.specs.Extents.{destroyed_handle}
 use Rattle.model_laws.specs.Laws.{IsAllowedEgl}
 use Rattle.model_laws.specs.DisplayCalls.{IsTerminated}
 use Rattle.model_laws.specs.Destroyed.{IsRemoved, KeepsCurrents}
@@ -69,29 +72,17 @@ removes s a n e = record {
   others = λ h ne k. rw e (stays_in (λ (x : Handle). not (x.number == n)) s.handles h (ap not ne) k);
 }
 
-pub surface_removed : (s : State) (t : ℕ) (c : CallValue) → IsAllowedEgl s t DestroySurface c → IsRemoved s (step s t c).state (number c 1)
-unfolding egl_refusal
-surface_removed s t c h =
-    let off = rows_off c (egl_facts s t DestroySurface c) DestroySurface h.call.kind h.allowed in
-    removes s (step s t c).state (number c 1) (ap (λ (a : State). a.handles) (allowed_egl_state s t DestroySurface c h) ∙ without_named s c a_surface (not-false _ off.1.1.0))
+removed : (s : State) (t : ℕ) (k : EglKind) (c : CallValue) (kind : HandleKind) → IsAllowedEgl s t k c → (egl_effect s t k c).state ≡ destroyed s c kind → is_some (handle_at s c 1 kind) ≡ true → IsRemoved s (step s t c).state (number c 1)
+removed s t k c kind h e i =
+    removes s (step s t c).state (number c 1) (ap (λ (a : State). a.handles) (allowed_egl_state s t k c h) ∙ ap (λ (a : State). a.handles) e ∙ without_named s c kind i)
 
-pub context_removed : (s : State) (t : ℕ) (c : CallValue) → IsAllowedEgl s t DestroyContext c → IsRemoved s (step s t c).state (number c 1)
+pub handle_removed : (s : State) (t : ℕ) (k : EglKind) (c : CallValue) (kind : HandleKind) → IsAllowedEgl s t k c → destroyed_handle k ≡ Some kind → IsRemoved s (step s t c).state (number c 1)
 unfolding egl_refusal
-context_removed s t c h =
-    let off = rows_off c (egl_facts s t DestroyContext c) DestroyContext h.call.kind h.allowed in
-    removes s (step s t c).state (number c 1) (ap (λ (a : State). a.handles) (allowed_egl_state s t DestroyContext c h) ∙ without_named s c a_context (not-false _ off.1.1.0))
-
-pub sync_removed : (s : State) (t : ℕ) (c : CallValue) → IsAllowedEgl s t DestroySync c → IsRemoved s (step s t c).state (number c 1)
-unfolding egl_refusal
-sync_removed s t c h =
-    let off = rows_off c (egl_facts s t DestroySync c) DestroySync h.call.kind h.allowed in
-    removes s (step s t c).state (number c 1) (ap (λ (a : State). a.handles) (allowed_egl_state s t DestroySync c h) ∙ without_named s c a_sync (not-false _ off.1.1.0))
-
-pub image_removed : (s : State) (t : ℕ) (c : CallValue) → IsAllowedEgl s t DestroyImage c → IsRemoved s (step s t c).state (number c 1)
-unfolding egl_refusal
-image_removed s t c h =
-    let off = rows_off c (egl_facts s t DestroyImage c) DestroyImage h.call.kind h.allowed in
-    removes s (step s t c).state (number c 1) (ap (λ (a : State). a.handles) (allowed_egl_state s t DestroyImage c h) ∙ without_named s c an_image (not-false _ off.1.1.0))
+handle_removed s t DestroySurface c kind h e = removed s t DestroySurface c a_surface h refl (not-false _ (rows_off c (egl_facts s t DestroySurface c) DestroySurface h.call.kind h.allowed).1.1.0)
+handle_removed s t DestroyContext c kind h e = removed s t DestroyContext c a_context h refl (not-false _ (rows_off c (egl_facts s t DestroyContext c) DestroyContext h.call.kind h.allowed).1.1.0)
+handle_removed s t DestroySync c kind h e = removed s t DestroySync c a_sync h refl (not-false _ (rows_off c (egl_facts s t DestroySync c) DestroySync h.call.kind h.allowed).1.1.0)
+handle_removed s t DestroyImage c kind h e = removed s t DestroyImage c an_image h refl (not-false _ (rows_off c (egl_facts s t DestroyImage c) DestroyImage h.call.kind h.allowed).1.1.0)
+handle_removed s t k c kind h e = absurd (let f : None ≡ Some kind = e in cc)
 
 -- a record changes its error alone
 but_error : {A : Type 0} (f : ThreadRecord → A) (ts : List ThreadRecord) (t u : ℕ) → ((r : ThreadRecord) → f (record r { error = Success }) ≡ f r) → f (get_or (set ts t (record (get_or ts t initial) { error = Success })) u initial) ≡ f (get_or ts u initial)

@@ -1,5 +1,5 @@
 -- The sides that a context takes the first time that it is current.
-use Rattle.std.proofs.Common.{◌≡◌, ℕ, Bool, true, false, cond, List, get_or, refl, sym, ap, subst, ◌∙◌, Option, None, Some}
+use Rattle.std.proofs.Common.{◌≡◌, ℕ, Bool, true, false, cond, get_or, refl, sym, ap, subst, ◌∙◌, Option, None, Some}
 use Rattle.std.specs.Option.{option_map}
 use Rattle.context_state.specs.Parts.{PartValue, first_current}
 use Rattle.egl_calls.specs.Calls.{CallValue}
@@ -17,7 +17,7 @@ use Rattle.egl_model.specs.Flushes.{flushed_to}
 use Rattle.egl_model.specs.MakeCurrent.{bound_anew, bound_by, context_handle, draw_handle, first_use, height_of, made_current, width_of}
 use Rattle.egl_model.specs.Objects.{change_part, surface_of, with_context, with_part}
 use Rattle.egl_model.specs.Parts.{part_in}
-use Rattle.egl_model.specs.State.{State, has_object, object_at, record_of, set_error}
+use Rattle.egl_model.specs.State.{State, has_object, object_at, set_error}
 use Rattle.egl_model.specs.Step.{step}
 use Rattle.egl_model.specs.Sweep.{roots, sweep}
 use Rattle.model_laws.specs.CurrentCalls.{IsGiven, with_box}

@@ -30,10 +30,10 @@ use Rattle.model_laws.proofs.Blinds.{context-blind}
 use Rattle.model_laws.proofs.StepKeeps.{keeps-step, sound-step}
 use Rattle.model_laws.specs.Frame.{HasFrame, IsReady, as_step}
 use Rattle.model_laws.specs.Full.{Full}
-use Rattle.egl_model.specs.Parts.{Kept, Own, Places, Private, are_same, at_place, image_in, kept_of, own_at, own_of, part_in, part_of, places, put_at, put_own}
+use Rattle.egl_model.specs.Parts.{Kept, Own, OwnObjects, Private, are_same, at_place, image_in, kept_of, own_at, own_of, part_in, part_of, own_objects, put_at, put_own}
 use Rattle.model_laws.specs.Local.{LocalEffect, after_rules, by_kind, egl_locally, egl_value, facts_locally, gl_locally, gl_with, in_wait, is_local, local_refusal, locally, locally_by, object_locally, part_after}
 use Rattle.model_laws.proofs.Writes.{blind-written}
-use Rattle.model_laws.proofs.Puts.{distinct-places, places-put, record-put, same_context, same_draw, same_read}
+use Rattle.model_laws.proofs.Puts.{distinct-own_objects, own_objects-put, record-put, same_context, same_draw, same_read}
 use Rattle.model_laws.proofs.OtherParts.{HasNoMore, fits, is_context_there, is_storage_there, no_more, own_at-put, part-step}
 use Rattle.model_laws.proofs.Locals.{HasOwn, local_step}
 
@@ -123,12 +123,12 @@ within : (p : Private) (c : CallValue) → IsWithin (locally p c).own p.own
 unfolding locally
 within p c = within-wait p c p.kept.waits
 
-no_more-locally : (s : State) (t : ℕ) (c : CallValue) → HasNoMore (places s t) (locally (part_of s t) c).own
-no_more-locally s t c = let m = no_more (places s t) t s in let w = within (part_of s t) c in
+no_more-locally : (s : State) (t : ℕ) (c : CallValue) → HasNoMore (own_objects s t) (locally (part_of s t) c).own
+no_more-locally s t c = let m = no_more (own_objects s t) t s in let w = within (part_of s t) c in
     record { context = λ h. w.context (m.context h); draw = λ h. w.draw (m.draw h); read = λ h. w.read (m.read h) }
 
 -- ---- What is put is the thread's own then, and what else the part has stays.
-display-put : (p : Places) (t : ℕ) (x : Own) (s : State) (o : Option ℕ) → display_at (put_at p t x s) o ≡ display_at s o
+display-put : (p : OwnObjects) (t : ℕ) (x : Own) (s : State) (o : Option ℕ) → display_at (put_at p t x s) o ≡ display_at s o
 display-put p t x s None = refl
 display-put p t x s (Some n) = blind-written (λ o. option_map_or (λ x. x.display) (as_context o) 0) (context-blind (λ o. option_map_or (λ x. x.display) o 0) (λ c x. refl)) p x s.objects n
 
@@ -136,7 +136,7 @@ display-put p t x s (Some n) = blind-written (λ o. option_map_or (λ x. x.displ
 abbrev kept : ThreadRecord → ℕ → Bool → Kept
 kept r d same = record { api = r.api; display = d; context = handle_of r.context; draw = handle_of r.draw; read = handle_of r.read; waits = is_some r.wait; same = same }
 
-pub kept-put : (s : State) (p : Places) (t u : ℕ) (x : Own) → kept_of (put_at p t x s) u ≡ kept_of s u
+pub kept-put : (s : State) (p : OwnObjects) (t u : ℕ) (x : Own) → kept_of (put_at p t x s) u ≡ kept_of s u
 kept-put s p t u x =
     let a = put_at p t x s in
     let e = display-put p t x s (current_context a u) ∙ ap (display_at s) (same_context s p t u x) in
@@ -147,13 +147,13 @@ kept-put s p t u x =
 abbrev both : Kept → Own → Private
 both k x = record { kept = k; own = x }
 
-pub own-put : (s : State) (t : ℕ) (x : Own) → IsWhole (shapes s.objects) s → t < length s.threads → HasNoMore (places s t) x → own_of (put_own s t x) t ≡ x
+pub own-put : (s : State) (t : ℕ) (x : Own) → IsWhole (shapes s.objects) s → t < length s.threads → HasNoMore (own_objects s t) x → own_of (put_own s t x) t ≡ x
 own-put s t x h l m =
-    ap (λ (p : Places). own_at p t (put_own s t x)) (places-put s (places s t) t t x)
-    ∙ own_at-put (places s t) t x s (distinct-places s t) (fits s t x h l m)
+    ap (λ (p : OwnObjects). own_at p t (put_own s t x)) (own_objects-put s (own_objects s t) t t x)
+    ∙ own_at-put (own_objects s t) t x s (distinct-own_objects s t) (fits s t x h l m)
 
-part-put : (s : State) (t : ℕ) (x : Own) → IsWhole (shapes s.objects) s → t < length s.threads → HasNoMore (places s t) x → part_of (put_own s t x) t ≡ record (part_of s t) { own = x }
-part-put s t x h l m = ap (λ k. both k (own_of (put_own s t x) t)) (kept-put s (places s t) t t x) ∙ ap (both (kept_of s t)) (own-put s t x h l m)
+part-put : (s : State) (t : ℕ) (x : Own) → IsWhole (shapes s.objects) s → t < length s.threads → HasNoMore (own_objects s t) x → part_of (put_own s t x) t ≡ record (part_of s t) { own = x }
+part-put s t x h l m = ap (λ k. both k (own_of (put_own s t x) t)) (kept-put s (own_objects s t) t t x) ∙ ap (both (kept_of s t)) (own-put s t x h l m)
 
 -- ---- The laws.
 pub local_as_step : (s : State) (t : ℕ) (c : CallValue) → IsReady s t → is_local (part_of s t) c ≡ true → step s t c ≡ as_step s t (locally (part_of s t) c)

@@ -26,7 +26,7 @@ use Rattle.egl_model.specs.Handles.{handle_at, valid, with_handle}
 use Rattle.egl_model.specs.Images.{above_base, add_image, asked_level, created_image, has_pixels, image_kind, image_storage, is_incomplete_in, is_renderable, is_sibling, is_source_in, level_pixels, levels_dropped, new_image_facts, renderbuffer_of_image, source_kind, source_object, source_storage, target_handle, target_image, texture_of_image, with_pixels_in}
 use Rattle.egl_model.specs.Names.{group_of, object_named}
 use Rattle.egl_model.specs.Objects.{as_egl_image, as_storage, change_renderbuffer, egl_image_in, storage_in, with_renderbuffer}
-use Rattle.egl_model.specs.Parts.{places, put_own}
+use Rattle.egl_model.specs.Parts.{own_objects, put_own}
 use Rattle.egl_model.specs.Renderbuffers.{target_renderbuffer, with_kind}
 use Rattle.egl_model.specs.State.{State, object_at}
 use Rattle.egl_model.specs.Sweep.{edges_in, live_bytes, references, roots}
@@ -126,7 +126,7 @@ blind-is_incomplete t c s w v x ne =
 blind-references : (t n : ℕ) (s : State) → Blind t s (λ a. references a n)
 unfolding references
 blind-references t n s w v x ne =
-    ap (λ k. k + count_by (λ m. m == n) (roots (put_own s v x))) (sum-written (λ o. count_by (λ m. m == n) (edges_in o)) (λ o. ap (count_by (λ m. m == n)) (blind-edges o)) (places s v) x s.objects)
+    ap (λ k. k + count_by (λ m. m == n) (roots (put_own s v x))) (sum-written (λ o. count_by (λ m. m == n) (edges_in o)) (λ o. ap (count_by (λ m. m == n)) (blind-edges o)) (own_objects s v) x s.objects)
     ∙ ap (λ rs. sum_by (λ o. count_by (λ m. m == n) (edges_in o)) s.objects + count_by (λ m. m == n) rs) (roots-set_error s v x.error)
 
 blind-is_sibling : (t : ℕ) (o : Option ℕ) (s : State) → Blind t s (λ a. is_sibling a o)

@@ -2,7 +2,7 @@
 use Rattle.std.proofs.Common.{◌≡◌, ◌≢◌, ℕ, ◌+◌, ◌≤◌, Bool, true, false, cond, List, refl, sym, ap, ◌∙◌, arith}
 use Rattle.model_laws.specs.Extents.{Extent, quiet}
 use Rattle.egl_model.specs.State.{State}
-use Rattle.egl_model.specs.Parts.{Own, Places, own_of, places, put_at, put_own}
+use Rattle.egl_model.specs.Parts.{Own, OwnObjects, own_of, own_objects, put_at, put_own}
 use Rattle.model_laws.specs.Shapes.{shapes}
 use Rattle.model_laws.specs.Sound.{IsWhole}
 use Rattle.model_laws.specs.Wants.{PixelsFit}
@@ -12,7 +12,7 @@ use Rattle.model_laws.proofs.Moves.{extent, AllFit, AllHold, AllSet, Move, bytes
 use Rattle.model_laws.specs.Full.{IsFull}
 use Rattle.model_laws.proofs.FullMoves.{full-play, full_swept, holds_of}
 use Rattle.model_laws.proofs.PixelLaws.{live_bytes-swept}
-use Rattle.model_laws.proofs.PutMoves.{Stands, passes-play, places-stand, stands-swept, stands_then, sweep-put}
+use Rattle.model_laws.proofs.PutMoves.{Stands, passes-play, own_objects-stand, stands-swept, stands_then, sweep-put}
 use Rattle.model_laws.proofs.WholeMoves.{whole-play}
 use Rattle.model_laws.proofs.WholeSweep.{whole-sweep}
 
@@ -26,7 +26,7 @@ pub record Keeps (e : Extent) (t : ℕ) (s a : State) : Type 0 where
 -- a change by thread t, which keeps all this in a state and does the same whatever is put there for another thread
 pub record Moved (e : Extent) (t : ℕ) (s : State) (f : State → State) : Type 0 where
   pub keeps : Keeps e t s (f s)
-  pub put : IsWhole (shapes s.objects) s → (v : ℕ) (x : Own) → v ≢ t → f (put_own s v x) ≡ put_at (places s v) v x (f s)
+  pub put : IsWhole (shapes s.objects) s → (v : ℕ) (x : Own) → v ≢ t → f (put_own s v x) ≡ put_at (own_objects s v) v x (f s)
 
 -- what thread t looks at, and what is put for another thread doesn't change
 abbrev pub Blind : {A : Type 0} → ℕ → State → (State → A) → Type 0
@@ -47,9 +47,9 @@ keeps_then e t a b c f g = record {
 pub moved_then : (e : Extent) (t : ℕ) (s : State) (f g : State → State) → Moved e t s f → Moved quiet t (f s) g → Moved e t s (λ a. g (f a))
 moved_then e t s f g x y = record {
   keeps = keeps_then e t s (f s) (g (f s)) x.keeps y.keeps;
-  put = λ w v o ne. let same = places-stand s (f s) v (x.keeps.stands w v ne) in
-      ap g (x.put w v o ne ∙ ap (λ (p : Places). put_at p v o (f s)) (sym same))
-      ∙ y.put (x.keeps.whole w) v o ne ∙ ap (λ (p : Places). put_at p v o (g (f s))) same;
+  put = λ w v o ne. let same = own_objects-stand s (f s) v (x.keeps.stands w v ne) in
+      ap g (x.put w v o ne ∙ ap (λ (p : OwnObjects). put_at p v o (f s)) (sym same))
+      ∙ y.put (x.keeps.whole w) v o ne ∙ ap (λ (p : OwnObjects). put_at p v o (g (f s))) same;
 }
 
 pub moved_cond : (e : Extent) (t : ℕ) (s : State) (b : Bool) (f g : State → State) → (b ≡ true → Moved e t s f) → (b ≡ false → Moved e t s g) → Moved e t s (λ a. cond b (f a) (g a))
@@ -69,7 +69,7 @@ keeps_swept e t s a f = record {
 }
 
 pub moved_swept : (e : Extent) (t : ℕ) (s : State) (f : State → State) → Moved e t s f → Moved e t s (λ a. sweep (f a))
-moved_swept e t s f x = record { keeps = keeps_swept e t s (f s) x.keeps; put = λ w v o ne. ap sweep (x.put w v o ne) ∙ sweep-put (places s v) v o (f s) }
+moved_swept e t s f x = record { keeps = keeps_swept e t s (f s) x.keeps; put = λ w v o ne. ap sweep (x.put w v o ne) ∙ sweep-put (own_objects s v) v o (f s) }
 
 -- what goes nowhere goes no further
 keeps_within : (e : Extent) (t : ℕ) (s a : State) → Keeps quiet t s a → Keeps e t s a

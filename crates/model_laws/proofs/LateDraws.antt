@@ -21,7 +21,7 @@ use Rattle.egl_model.specs.Draws.{draw_into, drawn, drawn_rect, sampler}
 use Rattle.egl_model.specs.Effects.{valued}
 use Rattle.egl_model.specs.Framebuffers.{BoundFramebuffer, bound_framebuffer, is_complete}
 use Rattle.egl_model.specs.GlFacts.{framebuffer_facts, gl_refusal}
-use Rattle.egl_model.specs.Parts.{Kept, Own, Private, at_place, kept_of, own_of, part_in, part_of, places, put_at, put_own}
+use Rattle.egl_model.specs.Parts.{Kept, Own, Private, at_place, kept_of, own_of, part_in, part_of, own_objects, put_at, put_own}
 use Rattle.egl_model.specs.State.{State, record_of}
 use Rattle.egl_model.specs.Step.{Stepped, after_gl_rules, bare, gl_step, gl_step_on, note_error, step, step_by, step_in}
 use Rattle.egl_model.specs.Sweep.{sweep}
@@ -75,8 +75,8 @@ none_still : (f : ImageValue → ImageValue) (x : Option ImageValue) → x ≡ N
 none_still f None h = refl
 none_still f (Some x) h = absurd (none-some x (sym h))
 
-no_more_drawn : (s : State) (t : ℕ) (f : ImageValue → ImageValue) → HasNoMore (places s t) (drawn_own f (own_of s t))
-no_more_drawn s t f = let m = no_more (places s t) t s in
+no_more_drawn : (s : State) (t : ℕ) (f : ImageValue → ImageValue) → HasNoMore (own_objects s t) (drawn_own f (own_of s t))
+no_more_drawn s t f = let m = no_more (own_objects s t) t s in
     record { context = m.context; draw = λ h. none_still f (own_of s t).draw (m.draw h); read = m.read }
 
 abbrev both : Kept → Own → Private
@@ -85,7 +85,7 @@ both k x = record { kept = k; own = x }
 pub part_drawn : (s : State) (t : ℕ) (f : ImageValue → ImageValue) → IsReady s t → part_of (drawn_state s t f) t ≡ drawn_part f (part_of s t)
 part_drawn s t f r =
     let x = drawn_own f (own_of s t) in
-    ap (λ k. both k (own_of (put_own s t x) t)) (kept-put s (places s t) t t x)
+    ap (λ k. both k (own_of (put_own s t x) t)) (kept-put s (own_objects s t) t t x)
     ∙ ap (both (kept_of s t)) (own-put s t x r.sound.whole r.thread (no_more_drawn s t f))
 
 -- ---- What a draw samples.
@@ -122,7 +122,7 @@ drawn-late s t n q k c h e u =
     ∙ ap (λ (o : Option PartValue). draw_into o (draw_storage s t) (sampler s n r) r s) e
     ∙ into_surface s t q (draw_storage s t) (sampler s n r) r refl
 
--- the step with what the part and the state have at their places
+-- the step with what the part and the state have at their own objects
 abbrev step_with : State → ℕ → Rect → Option PartValue → Option ℕ → Option GlError → Stepped
 step_with s t r x o (Some e) = record { reply = bare (RefusedGl e); state = put_own s t (record (own_of s t) { context = option_map (noted e) x }) }
 step_with s t r x o None = record { reply = bare Done; state = drawn_state s t (drawing x (sampled_by x (texture_sampler s o r)) r) }
@@ -132,7 +132,7 @@ by_refusal : (s : State) (t n : ℕ) (q : PartValue) (k : GlKind) (c : CallValue
 by_refusal s t n q k c (Some e) clean h i u = answered _ _ _ (part_as_put s t n (noted e) q h i)
 by_refusal s t n q k c None clean h i u =
     let x = drawn_own (drawn_image q (cond q.is_texture_enabled (sampler s n (drawn_rect k c)) None) (drawn_rect k c)) (own_of s t) in
-    answered _ _ _ (ap sweep (drawn-late s t n q k c h i u) ∙ sweep-put (places s t) t x s ∙ ap (put_at (places s t) t x) clean)
+    answered _ _ _ (ap sweep (drawn-late s t n q k c h i u) ∙ sweep-put (own_objects s t) t x s ∙ ap (put_at (own_objects s t) t x) clean)
 
 not_drawn : {A : Type 0} → false ≡ true → A
 not_drawn h = absurd (let e : false ≡ true = h in cc)
@@ -234,7 +234,7 @@ late_as_step s t c r late = let l = late_kind s t c late in by_current (current_
 -- ---- The same in a state from which other parts are out.
 kept-hide : (out : List ℕ) (s : State) (t : ℕ) → kept_of (hide out s) t ≡ kept_of s t
 kept-hide [] s t = refl
-kept-hide (u ∷ us) s t = kept-put (hide us s) (places (hide us s) u) u t nothing ∙ kept-hide us s t
+kept-hide (u ∷ us) s t = kept-put (hide us s) (own_objects (hide us s) u) u t nothing ∙ kept-hide us s t
 
 pub part-hide : (s : State) (t : ℕ) (out : List ℕ) → IsReady s t → IsNone t out → part_of (hide out s) t ≡ part_of s t
 part-hide s t out r i = ap (λ k. both k (own_of (hide out s) t)) (kept-hide out s t) ∙ ap (both (kept_of s t)) (own-hide s t out r.sound.whole r.thread i)

@@ -44,10 +44,10 @@ use Rattle.egl_model.specs.Waits.{is_signalled, is_wait_end}
 use Rattle.egl_model.specs.Step.{after_egl_rules, after_gl_rules, bare, wait_step, egl_step, gl_step, gl_step_on, step, step_by, step_in}
 use Rattle.model_laws.proofs.SweepLaws.{length-swept, object_at-swept}
 use Rattle.model_laws.specs.Frame.{as_step}
-use Rattle.egl_model.specs.Parts.{Own, Places, are_same, at_place, image_in, own_at, own_of, part_in, part_of, places, put_at, put_own, set_image, set_part, write, written}
+use Rattle.egl_model.specs.Parts.{Own, OwnObjects, are_same, at_place, image_in, own_at, own_of, part_in, part_of, own_objects, put_at, put_own, set_image, set_part, write, written}
 use Rattle.model_laws.specs.Local.{LocalEffect, after_rules, by_kind, egl_locally, egl_value, facts_locally, gl_locally, gl_with, in_wait, is_local, is_local_egl, is_local_gl, is_local_kind, is_local_unbound, is_unbound, local_refusal, locally, locally_by, object_locally, read_locally}
 use Rattle.model_laws.proofs.Writes.{write-write}
-use Rattle.model_laws.proofs.Puts.{IsDistinct, distinct-places, image_back, part_back, part_past_image, put-own_of, written_back}
+use Rattle.model_laws.proofs.Puts.{IsDistinct, distinct-own_objects, image_back, part_back, part_past_image, put-own_of, written_back}
 use Rattle.model_laws.proofs.PutMoves.{sweep-put}
 use Rattle.model_laws.proofs.StepPut.{answered}
 use Rattle.model_laws.specs.Sound.{IsSound}
@@ -65,18 +65,18 @@ sweep_clean s l = ap (λ (os : List (Option Object)). record s { objects = os })
     (λ m h. object_at-swept (roots s) s.objects m ∙ kept_all (is_reached s m) (object_at s m) (l.each m)))
 
 pub put_swept : (s : State) (t : ℕ) (x : Own) → IsSound s → sweep (put_own s t x) ≡ put_own s t x
-put_swept s t x h = sweep-put (places s t) t x s ∙ ap (put_at (places s t) t x) (sweep_clean s h.litter)
+put_swept s t x h = sweep-put (own_objects s t) t x s ∙ ap (put_at (own_objects s t) t x) (sweep_clean s h.litter)
 
 -- ---- Changes of the thread's own, as what is put.
 pub error_as_put : (s : State) (t : ℕ) (e : EglError) → set_error s t e ≡ put_own s t (record (own_of s t) { error = e })
 unfolding written
 error_as_put s t e = ap (λ (os : List (Option Object)). record (set_error s t e) { objects = os }) (sym (objects_back s t))
   where
-    objects_back : (s : State) (t : ℕ) → write (set_image (own_of s t).read) (places s t).read (write (set_image (own_of s t).draw) (places s t).draw (write (set_part (own_of s t).context) (places s t).context s.objects)) ≡ s.objects
-    objects_back s t = written_back (places s t) t s
+    objects_back : (s : State) (t : ℕ) → write (set_image (own_of s t).read) (own_objects s t).read (write (set_image (own_of s t).draw) (own_objects s t).draw (write (set_part (own_of s t).context) (own_objects s t).context s.objects)) ≡ s.objects
+    objects_back s t = written_back (own_objects s t) t s
 
 -- the context's part alone
-written-part : (p : Places) (t : ℕ) (s : State) (x : Option PartValue) → written p (record (own_at p t s) { context = x }) s.objects ≡ write (set_part x) p.context s.objects
+written-part : (p : OwnObjects) (t : ℕ) (s : State) (x : Option PartValue) → written p (record (own_at p t s) { context = x }) s.objects ≡ write (set_part x) p.context s.objects
 unfolding written
 written-part p t s x =
     let D = write (set_image (at_place image_in p.draw s.objects)) p.draw in let R = write (set_image (at_place image_in p.read s.objects)) p.read in
@@ -84,7 +84,7 @@ written-part p t s x =
     ∙ sym (part_past_image x (at_place image_in p.read s.objects) p.context p.read s.objects) ∙ ap (write (set_part x) p.context) (image_back p.read s.objects)
 
 -- the image to draw to alone
-written-draw : (p : Places) (t : ℕ) (s : State) (x : Option ImageValue) → IsDistinct p → written p (record (own_at p t s) { draw = x }) s.objects ≡ write (set_image x) p.draw s.objects
+written-draw : (p : OwnObjects) (t : ℕ) (s : State) (x : Option ImageValue) → IsDistinct p → written p (record (own_at p t s) { draw = x }) s.objects ≡ write (set_image x) p.draw s.objects
 unfolding written
 written-draw p t s x w =
     let R = write (set_image (at_place image_in p.read s.objects)) p.read in
@@ -106,8 +106,8 @@ change_part-write f q n os e = ap (set os n) (part_changed f q (get_or os n None
 pub part_as_put : (s : State) (t n : ℕ) (f : PartValue → PartValue) (q : PartValue) → current_context s t ≡ Some n → part_of_context s n ≡ Some q →
     record s { objects = change_part f n s.objects } ≡ put_own s t (record (own_of s t) { context = Some (f q) })
 part_as_put s t n f q h e =
-    ap (λ (os : List (Option Object)). record s { objects = os }) (change_part-write f q n s.objects e ∙ ap (λ (p : Option ℕ). write (set_part (Some (f q))) p s.objects) (sym h) ∙ sym (written-part (places s t) t s (Some (f q))))
-    ∙ same_threads s t (written (places s t) (record (own_of s t) { context = Some (f q) }) s.objects)
+    ap (λ (os : List (Option Object)). record s { objects = os }) (change_part-write f q n s.objects e ∙ ap (λ (p : Option ℕ). write (set_part (Some (f q))) p s.objects) (sym h) ∙ sym (written-part (own_objects s t) t s (Some (f q))))
+    ∙ same_threads s t (written (own_objects s t) (record (own_of s t) { context = Some (f q) }) s.objects)
 
 image_changed : (f : ImageValue → ImageValue) (g : StorageValue → StorageValue) → ((v : StorageValue) → g v ≡ record v { image = option_map f v.image }) → (o : Option Object) → with_storage g o ≡ set_image (option_map f (image_in o)) o
 image_changed f g h (Some (Storage x)) = ap (λ (v : StorageValue). Some (Storage v)) (h x)
@@ -120,8 +120,8 @@ image_as_put s t n f g h e =
     ap (λ (os : List (Option Object)). record s { objects = os })
     (ap (set s.objects n) (image_changed f g h (get_or s.objects n None))
     ∙ ap (λ (p : Option ℕ). write (set_image (option_map f (at_place image_in p s.objects))) p s.objects) (sym e)
-    ∙ sym (written-draw (places s t) t s (option_map f (own_of s t).draw) (distinct-places s t)))
-    ∙ same_threads s t (written (places s t) (record (own_of s t) { draw = option_map f (own_of s t).draw }) s.objects)
+    ∙ sym (written-draw (own_objects s t) t s (option_map f (own_of s t).draw) (distinct-own_objects s t)))
+    ∙ same_threads s t (written (own_objects s t) (record (own_of s t) { draw = option_map f (own_of s t).draw }) s.objects)
 
 -- ---- Steps.
 same_valued : (v w : ℤ) (a b : State) → v ≡ w → a ≡ b → valued v a ≡ valued w b

@@ -43,9 +43,9 @@ use Rattle.model_laws.proofs.LinkLaws.{root_marked, same_object}
 use Rattle.model_laws.proofs.Places.{new_at}
 use Rattle.model_laws.proofs.LinkedSteps.{at_head, from_handle, in_right, named_by}
 use Rattle.model_laws.proofs.RefusalLaws.{allowed_egl, allowed_egl_state}
-use Rattle.model_laws.proofs.FrameLaws.{done_or_quiet, makes_no_handle}
+use Rattle.model_laws.proofs.FrameLaws.{done_or_quiet}
 use Rattle.model_laws.proofs.StepKeeps.{next-step}
-use Rattle.model_laws.specs.Extents.{extent_of_kind}
+use Rattle.model_laws.specs.Extents.{extent_of_kind, made_handle}
 use Rattle.egl_model.specs.Waits.{is_signalled, is_wait_end}
 
 -- ---- The handle and what it names.
@@ -79,13 +79,13 @@ has_new s t d k new first = record {
   next = refl;
 }
 
-pub pbuffer_gets_handle : (s : State) (t : ℕ) (c : CallValue) → IsAllowedEgl s t CreatePbufferSurface c → HasNewHandle s (step s t c).state (number c 0) a_surface
+pbuffer_gets_handle : (s : State) (t : ℕ) (c : CallValue) → IsAllowedEgl s t CreatePbufferSurface c → HasNewHandle s (step s t c).state (number c 0) a_surface
 unfolding made
 pbuffer_gets_handle s t c h =
     subst (λ (a : State). HasNewHandle s a (number c 0) a_surface) (sym (allowed_egl_state s t CreatePbufferSurface c h))
     (has_new s t (number c 0) a_surface (pbuffer_objects (length s.objects) (signed c 1) (side_of (asked_width c)) (side_of (asked_height c)) (asks_for_largest c)) refl)
 
-pub window_gets_handle : (s : State) (t : ℕ) (c : CallValue) → IsAllowedEgl s t CreateWindowSurface c → HasNewHandle s (step s t c).state (number c 0) a_surface
+window_gets_handle : (s : State) (t : ℕ) (c : CallValue) → IsAllowedEgl s t CreateWindowSurface c → HasNewHandle s (step s t c).state (number c 0) a_surface
 unfolding made
 window_gets_handle s t c h =
     subst (λ (a : State). HasNewHandle s a (number c 0) a_surface) (sym (allowed_egl_state s t CreateWindowSurface c h))
@@ -95,7 +95,7 @@ context_first : (n : ℕ) (config d : ℕ) (group : Option ℕ) → option_map k
 context_first n config d None = refl
 context_first n config d (Some g) = refl
 
-pub context_gets_handle : (s : State) (t : ℕ) (c : CallValue) → IsAllowedEgl s t CreateContext c → HasNewHandle s (step s t c).state (number c 0) a_context
+context_gets_handle : (s : State) (t : ℕ) (c : CallValue) → IsAllowedEgl s t CreateContext c → HasNewHandle s (step s t c).state (number c 0) a_context
 unfolding made
 context_gets_handle s t c h =
     subst (λ (a : State). HasNewHandle s a (number c 0) a_context) (sym (allowed_egl_state s t CreateContext c h))
@@ -106,22 +106,19 @@ unfolding made
 sync_made s t d None i = absurd (let e : false ≡ true = i in cc)
 sync_made s t d (Some context) i = has_new s t d a_sync (fence_objects context) refl
 
-pub sync_gets_handle : (s : State) (t : ℕ) (c : CallValue) → IsAllowedEgl s t CreateSync c → HasNewHandle s (step s t c).state (number c 0) a_sync
+sync_gets_handle : (s : State) (t : ℕ) (c : CallValue) → IsAllowedEgl s t CreateSync c → HasNewHandle s (step s t c).state (number c 0) a_sync
 unfolding egl_refusal
 sync_gets_handle s t c h =
     let off = rows_off c (egl_facts s t CreateSync c) CreateSync h.call.kind h.allowed in
     let here = and_parts (is_some (current_context s t)) (display_at s (current_context s t) == number c 0) (not-false _ off.1.1.1.1.0) in
     subst (λ (a : State). HasNewHandle s a (number c 0) a_sync) (sym (allowed_egl_state s t CreateSync c h)) (sync_made s t (number c 0) (current_context s t) here.0)
 
-pub sync_answers_number : (s : State) (t : ℕ) (c : CallValue) → IsAllowedEgl s t CreateSync c → (step s t c).reply.value ≡ pos s.next_handle
-sync_answers_number s t c h = ap (λ (x : Stepped). x.reply.value) (allowed_egl s t CreateSync c h)
-
 image_made : (s : State) (t d : ℕ) (o : Option ℕ) → is_some o ≡ true → HasNewHandle s (sweep (set_error (option_map_or (add_image s d) o s) t Success)) d an_image
 unfolding made
 image_made s t d None i = absurd (let e : false ≡ true = i in cc)
 image_made s t d (Some k) i = has_new s t d an_image (Some (Image (record { storage = k })) ∷ []) refl
 
-pub image_gets_handle : (s : State) (t : ℕ) (c : CallValue) → IsAllowedEgl s t CreateImage c → HasNewHandle s (step s t c).state (number c 0) an_image
+image_gets_handle : (s : State) (t : ℕ) (c : CallValue) → IsAllowedEgl s t CreateImage c → HasNewHandle s (step s t c).state (number c 0) an_image
 unfolding egl_refusal
 image_gets_handle s t c h =
     let a = image_allowed c (new_image_facts s c) h.call.kind h.allowed in
@@ -144,23 +141,27 @@ image_made_of s t d k (Some j) e =
 pub image_gets_storage : (s : State) (t : ℕ) (c : CallValue) (k : ℕ) → IsAllowedEgl s t CreateImage c → source_storage s c ≡ Some k → HasNewImage s (step s t c).state (number c 0) k
 image_gets_storage s t c k h e = subst (λ (a : State). HasNewImage s a (number c 0) k) (sym (allowed_egl_state s t CreateImage c h)) (image_made_of s t (number c 0) k (source_storage s c) e)
 
-pub image_answers_number : (s : State) (t : ℕ) (c : CallValue) → IsAllowedEgl s t CreateImage c → (step s t c).reply.value ≡ pos s.next_handle
-image_answers_number s t c h = ap (λ (x : Stepped). x.reply.value) (allowed_egl s t CreateImage c h)
+-- ---- Each call that makes a handle.
+pub gets_handle : (s : State) (t : ℕ) (k : EglKind) (c : CallValue) (kind : HandleKind) → IsAllowedEgl s t k c → made_handle k ≡ Some kind → HasNewHandle s (step s t c).state (number c 0) kind
+gets_handle s t CreateWindowSurface c kind h e = subst (HasNewHandle s (step s t c).state (number c 0)) (let f : Some a_surface ≡ Some kind = e in cc) (window_gets_handle s t c h)
+gets_handle s t CreatePbufferSurface c kind h e = subst (HasNewHandle s (step s t c).state (number c 0)) (let f : Some a_surface ≡ Some kind = e in cc) (pbuffer_gets_handle s t c h)
+gets_handle s t CreateContext c kind h e = subst (HasNewHandle s (step s t c).state (number c 0)) (let f : Some a_context ≡ Some kind = e in cc) (context_gets_handle s t c h)
+gets_handle s t CreateSync c kind h e = subst (HasNewHandle s (step s t c).state (number c 0)) (let f : Some a_sync ≡ Some kind = e in cc) (sync_gets_handle s t c h)
+gets_handle s t CreateImage c kind h e = subst (HasNewHandle s (step s t c).state (number c 0)) (let f : Some an_image ≡ Some kind = e in cc) (image_gets_handle s t c h)
+gets_handle s t k c kind h e = absurd (let f : None ≡ Some kind = e in cc)
 
-pub pbuffer_answers_number : (s : State) (t : ℕ) (c : CallValue) → IsAllowedEgl s t CreatePbufferSurface c → (step s t c).reply.value ≡ pos s.next_handle
-pbuffer_answers_number s t c h = ap (λ (x : Stepped). x.reply.value) (allowed_egl s t CreatePbufferSurface c h)
+made_value : (s : State) (t : ℕ) (k : EglKind) (c : CallValue) (kind : HandleKind) → made_handle k ≡ Some kind → (egl_effect s t k c).value ≡ pos s.next_handle
+made_value s t CreateWindowSurface c kind e = refl
+made_value s t CreatePbufferSurface c kind e = refl
+made_value s t CreateContext c kind e = refl
+made_value s t CreateSync c kind e = refl
+made_value s t CreateImage c kind e = refl
+made_value s t k c kind e = absurd (let f : None ≡ Some kind = e in cc)
 
-pub window_answers_number : (s : State) (t : ℕ) (c : CallValue) → IsAllowedEgl s t CreateWindowSurface c → (step s t c).reply.value ≡ pos s.next_handle
-window_answers_number s t c h = ap (λ (x : Stepped). x.reply.value) (allowed_egl s t CreateWindowSurface c h)
+pub answers_number : (s : State) (t : ℕ) (k : EglKind) (c : CallValue) (kind : HandleKind) → IsAllowedEgl s t k c → made_handle k ≡ Some kind → (step s t c).reply.value ≡ pos s.next_handle
+answers_number s t k c kind h e = ap (λ (x : Stepped). x.reply.value) (allowed_egl s t k c h) ∙ made_value s t k c kind e
 
-pub context_answers_number : (s : State) (t : ℕ) (c : CallValue) → IsAllowedEgl s t CreateContext c → (step s t c).reply.value ≡ pos s.next_handle
-context_answers_number s t c h = ap (λ (x : Stepped). x.reply.value) (allowed_egl s t CreateContext c h)
-
--- ---- The number of the next handle stays at each other call.
-pub next_stays : (s : State) (t : ℕ) (c : CallValue) → c.kind ≢ Egl CreateWindowSurface → c.kind ≢ Egl CreatePbufferSurface → c.kind ≢ Egl CreateContext → c.kind ≢ Egl CreateSync → c.kind ≢ Egl CreateImage → (step s t c).state.next_handle ≡ s.next_handle
-next_stays s t c w p x y i = next-step s t c (makes_no_handle c.kind w p x y i)
-
--- ---- And at each that isn't done.
+-- ---- A call that isn't done makes none.
 undone_egl : (s : State) (t : ℕ) (o : Option EglError) (f : Effect) → f.waits ≡ false → (after_egl_rules s t o f).reply.outcome ≢ Done → (after_egl_rules s t o f).state.next_handle ≡ s.next_handle
 undone_egl s t None f d u = absurd (u (ap (λ b. cond b Waiting Done) d))
 undone_egl s t (Some e) f d u = refl

@@ -21,15 +21,15 @@ use Rattle.driver_objects.specs.declared.kinds.ObjectKind.{ObjectKind}
 use Rattle.driver_objects.specs.declared.kinds.ObjectKind.TheVariants.{Context as a_context, Storage as a_storage}
 use Rattle.std.specs.Option.{option_map, option_map_or}
 use Rattle.egl_model.specs.declared.records.Bound.{Bound}
-use Rattle.egl_model.specs.Parts.{Kept, Own, Places, Private, are_same, at_place, image_in, is_place, kept_of, own_at, own_of, part_in, part_of, places, put_at, read_place, set_image, set_part, write, written}
+use Rattle.egl_model.specs.Parts.{Kept, Own, OwnObjects, Private, are_same, at_place, image_in, is_place, kept_of, own_at, own_of, part_in, part_of, own_objects, put_at, read_place, set_image, set_part, write, written}
 use Rattle.model_laws.proofs.Blinds.{other_place, same_there}
 use Rattle.model_laws.proofs.Moves.{link}
 use Rattle.model_laws.proofs.Places.{kind_at-shapes}
 use Rattle.model_laws.proofs.PutMoves.{kept-stand, surface_link}
-use Rattle.model_laws.proofs.Puts.{IsDistinct, distinct-places, put-own_of}
+use Rattle.model_laws.proofs.Puts.{IsDistinct, distinct-own_objects, put-own_of}
 use Rattle.model_laws.proofs.Slots.{own_is_storage}
 use Rattle.model_laws.proofs.StepKeeps.{keeps-step}
-use Rattle.model_laws.proofs.StepPut.{places-step, step-put_at}
+use Rattle.model_laws.proofs.StepPut.{own_objects-step, step-put_at}
 use Rattle.model_laws.proofs.Writes.{get_or-write}
 
 -- ---- What is put is what is then there, where there is room for it.
@@ -41,7 +41,7 @@ abbrev pub FitsImage : Option ℕ → Option ImageValue → List (Option Object)
 FitsImage None x os = x ≡ None
 FitsImage (Some n) x os = is_some (as_storage (get_or os n None)) ≡ true
 
-pub record Fits (p : Places) (t : ℕ) (x : Own) (s : State) : Type 0 where
+pub record Fits (p : OwnObjects) (t : ℕ) (x : Own) (s : State) : Type 0 where
   pub thread : t < length s.threads
   pub context : FitsPart p.context x.context s.objects
   pub draw : FitsImage p.draw x.draw s.objects
@@ -105,7 +105,7 @@ read-written q d (Some n) x os f =
 abbrev pub owned : EglError → Option PartValue → Option ImageValue → Option ImageValue → Own
 owned e c d r = record { error = e; context = c; draw = d; read = r }
 
-pub own_at-put : (p : Places) (t : ℕ) (x : Own) (s : State) → IsDistinct p → Fits p t x s → own_at p t (put_at p t x s) ≡ x
+pub own_at-put : (p : OwnObjects) (t : ℕ) (x : Own) (s : State) → IsDistinct p → Fits p t x s → own_at p t (put_at p t x s) ≡ x
 own_at-put p t x s w f =
     let a = ap (λ (r : ThreadRecord). r.error) (get_or-set_same s.threads t (record (record_of s t) { error = x.error }) initial f.thread) in
     let b = part-written p.context p.draw p.read x s.objects f.context in
@@ -157,7 +157,7 @@ is_storage_there s (Some b) n w e =
     storage_kind (object_at s n) ∙ ap (λ k. option_map_or is_storage_kind k false) (sym (kind_at-shapes s.objects n) ∙ k.is)
 
 -- x has nothing where there is no place
-pub record HasNoMore (p : Places) (x : Own) : Type 0 where
+pub record HasNoMore (p : OwnObjects) (x : Own) : Type 0 where
   pub context : p.context ≡ None → x.context ≡ None
   pub draw : p.draw ≡ None → x.draw ≡ None
   pub read : p.read ≡ None → x.read ≡ None
@@ -174,7 +174,7 @@ some_read : (b : Bool) (o : Option ℕ) (n : ℕ) → cond b None o ≡ Some n �
 some_read true o n h = absurd (none-some n h)
 some_read false o n h = h
 
-pub fits : (s : State) (t : ℕ) (x : Own) → IsWhole (shapes s.objects) s → t < length s.threads → HasNoMore (places s t) x → Fits (places s t) t x s
+pub fits : (s : State) (t : ℕ) (x : Own) → IsWhole (shapes s.objects) s → t < length s.threads → HasNoMore (own_objects s t) x → Fits (own_objects s t) t x s
 fits s t x h l m = record {
   thread = l;
   context = fits_part (current_context s t) x.context s.objects m.context (λ n e. is_context_there s t n h e);
@@ -187,7 +187,7 @@ unfolding at_place
 nothing_there g None os e = refl
 nothing_there g (Some n) os e = absurd (none-some n (sym e))
 
-pub no_more : (p : Places) (t : ℕ) (s : State) → HasNoMore p (own_at p t s)
+pub no_more : (p : OwnObjects) (t : ℕ) (s : State) → HasNoMore p (own_at p t s)
 no_more p t s = record {
   context = nothing_there part_in p.context s.objects;
   draw = nothing_there image_in p.draw s.objects;
@@ -195,7 +195,7 @@ no_more p t s = record {
 }
 
 -- ---- The second law of frame, from the first: a step keeps the parts of other threads.
-as_put : (s : State) (t u : ℕ) (c : CallValue) → IsWhole (shapes s.objects) s → t ≢ u → (step s u c).state ≡ put_at (places s t) t (own_of s t) (step s u c).state
+as_put : (s : State) (t u : ℕ) (c : CallValue) → IsWhole (shapes s.objects) s → t ≢ u → (step s u c).state ≡ put_at (own_objects s t) t (own_of s t) (step s u c).state
 as_put s t u c h ne =
     ap (λ (a : State). (step a u c).state) (sym (put-own_of s t))
     ∙ ap (λ (r : Stepped). r.state) (step-put_at s u t (own_of s t) c ne h)
@@ -203,11 +203,11 @@ as_put s t u c h ne =
 own-step : (s : State) (t u : ℕ) (c : CallValue) → IsWhole (shapes s.objects) s → t ≢ u → t < length s.threads → own_of (step s u c).state t ≡ own_of s t
 own-step s t u c h ne l =
     let a = (step s u c).state in
-    let same = places-step s u t c ne h in
-    let room = fits a t (own_of s t) ((keeps-step s u c).whole h) (let e = (keeps-step s u c).frame.count in omega (arith, e, l)) (rw same (no_more (places s t) t s)) in
-    ap (λ (p : Places). own_at p t a) same
-    ∙ ap (own_at (places s t) t) (as_put s t u c h ne)
-    ∙ own_at-put (places s t) t (own_of s t) a (distinct-places s t) (rw (sym same) room)
+    let same = own_objects-step s u t c ne h in
+    let room = fits a t (own_of s t) ((keeps-step s u c).whole h) (let e = (keeps-step s u c).frame.count in omega (arith, e, l)) (rw same (no_more (own_objects s t) t s)) in
+    ap (λ (p : OwnObjects). own_at p t a) same
+    ∙ ap (own_at (own_objects s t) t) (as_put s t u c h ne)
+    ∙ own_at-put (own_objects s t) t (own_of s t) a (distinct-own_objects s t) (rw (sym same) room)
 
 pub part-step : (s : State) (t u : ℕ) (c : CallValue) → IsWhole (shapes s.objects) s → t ≢ u → t < length s.threads → part_of (step s u c).state t ≡ part_of s t
 part-step s t u c h ne l =

@@ -15,7 +15,7 @@ use Rattle.egl_model.specs.Graph.{is_in}
 use Rattle.egl_model.specs.State.{State, initial, object_at, record_of}
 use Rattle.egl_model.specs.Objects.{as_context, as_surface, change}
 use Rattle.egl_model.specs.Currents.{current_context, draw_storage, has_context, is_bound, read_storage, display_at, handle_of}
-use Rattle.egl_model.specs.Parts.{Kept, Own, Places, are_same, kept_of, is_place, places, put_at, put_own, read_place, set_image, set_part, write, written}
+use Rattle.egl_model.specs.Parts.{Kept, Own, OwnObjects, are_same, kept_of, is_place, own_objects, put_at, put_own, read_place, set_image, set_part, write, written}
 use Rattle.model_laws.specs.Shapes.{Goes, Leads, Shape, shape_in, shapes, slots_in}
 use Rattle.model_laws.specs.Sound.{IsWhole}
 use Rattle.egl_model.specs.Sweep.{roots, sweep, swept}
@@ -31,11 +31,11 @@ use Rattle.model_laws.proofs.WholeSweep.{by_slots, is_held, reached_root, held_a
 use Rattle.model_laws.proofs.Writes.{AreBelow, IsBelow, IsBlind, write-write, written-append, written-by, written-swept}
 
 -- ---- Objects.
--- no context, or no image, of this number is at these places
-abbrev pub IsNoContext : ℕ → Places → Type 0
+-- no context, or no image, of this number is at these own objects
+abbrev pub IsNoContext : ℕ → OwnObjects → Type 0
 IsNoContext n p = is_place n p.context ≡ true → ⊥
 
-pub record IsNoImage (n : ℕ) (p : Places) : Type 0 where
+pub record IsNoImage (n : ℕ) (p : OwnObjects) : Type 0 where
   pub draw : is_place n p.draw ≡ true → ⊥
   pub read : is_place n p.read ≡ true → ⊥
 
@@ -46,7 +46,7 @@ at_one n m (Some j) away h k = away (let e : (j == m) ≡ true = h in let f : (n
     both : (j n m : ℕ) → (j == m) ≡ true → (n == m) ≡ true → (j == n) ≡ true
     both j n m e f = let a = eqb-true j m e in let b = eqb-true n m f in eq-eqb j n (omega (arith, a, b))
 
-pub change-written : (f : Option Object → Option Object) (n : ℕ) (p : Places) (x : Own) (os : List (Option Object)) → f None ≡ None → PastPart f ⊎ IsNoContext n p → PastImage f ⊎ IsNoImage n p → change f n (written p x os) ≡ written p x (change f n os)
+pub change-written : (f : Option Object → Option Object) (n : ℕ) (p : OwnObjects) (x : Own) (os : List (Option Object)) → f None ≡ None → PastPart f ⊎ IsNoContext n p → PastImage f ⊎ IsNoImage n p → change f n (written p x os) ≡ written p x (change f n os)
 unfolding write
 change-written f n p x os z a b = sym (written-by (write f (Some n)) p x
     (write-write (set_part x.context) f p.context (Some n) refl z (λ m h k. elim a [
@@ -72,7 +72,7 @@ unfolding write
 write-map g f c None os = refl
 write-map g f c (Some n) os = map_set g f c os n
 
-pub objects-put : (p : Places) (t : ℕ) (x : Own) (s : State) (os ps : List (Option Object)) → ps ≡ written p x os → record (put_at p t x s) { objects = ps } ≡ put_at p t x (record s { objects = os })
+pub objects-put : (p : OwnObjects) (t : ℕ) (x : Own) (s : State) (os ps : List (Option Object)) → ps ≡ written p x os → record (put_at p t x s) { objects = ps } ≡ put_at p t x (record s { objects = os })
 objects-put p t x s os ps e = ap (λ (qs : List (Option Object)). record (put_at p t x s) { objects = qs }) e
 
 -- ---- Records.
@@ -83,15 +83,15 @@ records_apart g h ts t u ne =
     ∙ set_comm ts t u (g (get_or ts t initial)) (h (get_or ts u initial)) ne
     ∙ ap (λ r. set (set ts u (h (get_or ts u initial))) t (g r)) (sym (get_or-set_other ts u t (h (get_or ts u initial)) initial ne))
 
-pub record_of-put : (p : Places) (t u : ℕ) (x : Own) (s : State) → u ≢ t → record_of (put_at p t x s) u ≡ record_of s u
+pub record_of-put : (p : OwnObjects) (t u : ℕ) (x : Own) (s : State) → u ≢ t → record_of (put_at p t x s) u ≡ record_of s u
 record_of-put p t u x s ne = get_or-set_other s.threads t u _ initial ne
 
-record-past : (p : Places) (v t : ℕ) (x : Own) (s : State) (h : ThreadRecord → ThreadRecord) → v ≢ t →
+record-past : (p : OwnObjects) (v t : ℕ) (x : Own) (s : State) (h : ThreadRecord → ThreadRecord) → v ≢ t →
     record (put_at p v x s) { threads = set (put_at p v x s).threads t (h (record_of (put_at p v x s) t)) } ≡ put_at p v x (record s { threads = set s.threads t (h (record_of s t)) })
 record-past p v t x s h ne = ap (λ (ts : List ThreadRecord). record s { objects = written p x s.objects; threads = ts })
     (records_apart (λ r. record r { error = x.error }) h s.threads v t ne)
 
--- ---- Where the places of a thread stand.
+-- ---- Where the own objects of a thread stand.
 pub surface_link : (o : Option Object) → option_map (λ (x : BackedSurface). x.storage) (as_surface o) ≡ own_in o
 surface_link (Some (Surface x)) = refl
 surface_link o = refl
@@ -100,7 +100,7 @@ link-same : (os ps : List (Option Object)) (b : Option Bound) → ((n : ℕ) →
 link-same os ps None h = refl
 link-same os ps (Some b) h = surface_link (get_or os b.object None) ∙ h b.object (eq-eqb b.object b.object refl) ∙ sym (surface_link (get_or ps b.object None))
 
-abbrev placed : Option ℕ → Option ℕ → Option ℕ → Places
+abbrev placed : Option ℕ → Option ℕ → Option ℕ → OwnObjects
 placed c d r = record { context = c; draw = d; read = read_place d r }
 
 own_shaped : (o p : Option Object) → shape_in o ≡ shape_in p → own_in o ≡ own_in p
@@ -131,8 +131,8 @@ held_draw n r h = in_right n (option_to_list (option_map (λ (b : Bound). b.obje
 held_read : (n : ℕ) (r : ThreadRecord) → is_bound n r.read ≡ true → is_in n (ends (held_slots r)) ≡ true
 held_read n r h = in_right n (option_to_list (option_map (λ (b : Bound). b.object) r.context)) _ (in_right n (option_to_list (option_map (λ (b : Bound). b.object) r.draw)) _ (in_left n (option_to_list (option_map (λ (b : Bound). b.object) r.read)) _ (bound_in n r.read h)))
 
-pub places-stand : (s a : State) (v : ℕ) → Stands s a v → places a v ≡ places s v
-places-stand s a v h =
+pub own_objects-stand : (s a : State) (v : ℕ) → Stands s a v → own_objects a v ≡ own_objects s v
+own_objects-stand s a v h =
     ap (λ (r : ThreadRecord). placed (option_map (λ (b : Bound). b.object) r.context) (link a.objects r.draw) (link a.objects r.read)) h.same
     ∙ ap (λ d. placed (current_context s v) d (link a.objects (record_of s v).read)) (link-same a.objects s.objects (record_of s v).draw (λ n i. own_shaped (object_at a n) (object_at s n) (h.held n (held_draw n (record_of s v) i))))
     ∙ ap (λ r. placed (current_context s v) (draw_storage s v) r) (link-same a.objects s.objects (record_of s v).read (λ n i. own_shaped (object_at a n) (object_at s n) (h.held n (held_read n (record_of s v) i))))
@@ -198,14 +198,14 @@ read_below : (k : ℕ) (b : Bool) (o : Option ℕ) → IsBelow o k → IsBelow (
 read_below k true o h = tt
 read_below k false o h = h
 
-below-places : (sh : List (Option Shape)) (s : State) (v : ℕ) → IsWhole sh s → AreBelow (places s v) (length sh)
-below-places sh s v w = record {
+below-own_objects : (sh : List (Option Shape)) (s : State) (v : ℕ) → IsWhole sh s → AreBelow (own_objects s v) (length sh)
+below-own_objects sh s v w = record {
   context = context_below sh (record_of s v).context (w.kinds.threads v).0;
   draw = link_below sh s (record_of s v).draw w;
   read = read_below (length sh) (are_same (draw_storage s v) (read_storage s v)) (read_storage s v) (link_below sh s (record_of s v).read w);
 }
 
--- a place of no other thread is none of this thread's places
+-- a place of no other thread is none of this thread's own objects
 pub of_read_place : (n : ℕ) (b : Bool) (o : Option ℕ) → is_place n (cond b None o) ≡ true → is_place n o ≡ true
 of_read_place n true o h = absurd (let e : false ≡ true = h in cc)
 of_read_place n false o h = h
@@ -214,10 +214,10 @@ is_bound-place : (n : ℕ) (o : Option Bound) → is_place n (option_map (λ (b 
 is_bound-place n None h = h
 is_bound-place n (Some b) h = h
 
-pub no_context : (s : State) (v n : ℕ) → has_context n (record_of s v) ≡ false → IsNoContext n (places s v)
+pub no_context : (s : State) (v n : ℕ) → has_context n (record_of s v) ≡ false → IsNoContext n (own_objects s v)
 no_context s v n h = λ i. both_ways (has_context n (record_of s v)) h (is_bound-place n (record_of s v).context i)
 
-pub no_image : (s : State) (v n : ℕ) → draws s.objects n (record_of s v) ≡ false → IsNoImage n (places s v)
+pub no_image : (s : State) (v n : ℕ) → draws s.objects n (record_of s v) ≡ false → IsNoImage n (own_objects s v)
 no_image s v n h = record {
   draw = λ i. both_ways (draws s.objects n (record_of s v)) h (or_left (is_place n (draw_storage s v)) (is_place n (read_storage s v)) i);
   read = λ i. both_ways (draws s.objects n (record_of s v)) h (or_right (is_place n (draw_storage s v)) (is_place n (read_storage s v)) (of_read_place n (are_same (draw_storage s v) (read_storage s v)) (read_storage s v) i));
@@ -229,8 +229,8 @@ none_stays None e = refl
 none_stays (Some o) e = absurd (let f : Some _ ≡ None = e in cc)
 
 change-put : (t v n : ℕ) (f : Option Object → Option Object) (x : Own) (sh : List (Option Shape)) (s : State) → v ≢ t → shape_in (f None) ≡ None → Suits t sh s n f →
-    record (put_own s v x) { objects = change f n (put_own s v x).objects } ≡ put_at (places s v) v x (record s { objects = change f n s.objects })
-change-put t v n f x sh s ne z u = objects-put (places s v) v x s (change f n s.objects) _ (change-written f n (places s v) x s.objects (none_stays (f None) z)
+    record (put_own s v x) { objects = change f n (put_own s v x).objects } ≡ put_at (own_objects s v) v x (record s { objects = change f n s.objects })
+change-put t v n f x sh s ne z u = objects-put (own_objects s v) v x s (change f n s.objects) _ (change-written f n (own_objects s v) x s.objects (none_stays (f None) z)
     (elim u.part [
       | inl past ↦ inl past
       | inr mine ↦ inr (no_context s v n (mine v ne))
@@ -241,21 +241,21 @@ change-put t v n f x sh s ne z u = objects-put (places s v) v x s (change f n s.
     ]))
 
 pub move-put : (t v : ℕ) (m : Move) (x : Own) (sh : List (Option Shape)) (s : State) → v ≢ t → shapes s.objects ≡ sh → Holds m → Fits t sh s m → IsWhole sh s →
-    apply t m (put_own s v x) ≡ put_at (places s v) v x (apply t m s)
+    apply t m (put_own s v x) ≡ put_at (own_objects s v) v x (apply t m s)
 move-put t v (Flags a b) x sh s ne e h f w = refl
 move-put t v (Post id i) x sh s ne e h f w = refl
-move-put t v (Note y) x sh s ne e h f w = record-past (places s v) v t x s (λ r. record r { error = y }) ne
-move-put t v (Await y) x sh s ne e h f w = record-past (places s v) v t x s (λ r. record r { wait = y }) ne
-move-put t v (Bind c d r) x sh s ne e h f w = record-past (places s v) v t x s (λ q. record q { context = c; draw = d; read = r }) ne
+move-put t v (Note y) x sh s ne e h f w = record-past (own_objects s v) v t x s (λ r. record r { error = y }) ne
+move-put t v (Await y) x sh s ne e h f w = record-past (own_objects s v) v t x s (λ r. record r { wait = y }) ne
+move-put t v (Bind c d r) x sh s ne e h f w = record-past (own_objects s v) v t x s (λ q. record q { context = c; draw = d; read = r }) ne
 move-put t v (Change n g) x sh s ne e h f w = change-put t v n g x sh s ne (ap (λ (b : Body). b.shape) (h None)) f
 move-put t v (Resize n g b) x sh s ne e h f w = change-put t v n g x sh s ne (h.0 None) f
-move-put t v (Add os) x sh s ne e h f w = objects-put (places s v) v x s (s.objects ++ os) _ (sym (written-append (places s v) x s.objects os (below_in (length sh) (length s.objects) (sym (ap length e) ∙ length-shapes s.objects) (below-places sh s v w))))
+move-put t v (Add os) x sh s ne e h f w = objects-put (own_objects s v) v x s (s.objects ++ os) _ (sym (written-append (own_objects s v) x s.objects os (below_in (length sh) (length s.objects) (sym (ap length e) ∙ length-shapes s.objects) (below-own_objects sh s v w))))
   where
     below_as : (p : Option ℕ) (j k : ℕ) → j ≡ k → IsBelow p j → IsBelow p k
     below_as None j k e b = tt
     below_as (Some n) j k e b = let c : n < j = b in omega (arith, c, e)
 
-    below_in : (j k : ℕ) → j ≡ k → AreBelow (places s v) j → AreBelow (places s v) k
+    below_in : (j k : ℕ) → j ≡ k → AreBelow (own_objects s v) j → AreBelow (own_objects s v) k
     below_in j k e b = record { context = below_as (current_context s v) j k e b.context; draw = below_as (draw_storage s v) j k e b.draw; read = below_as (read_place (draw_storage s v) (read_storage s v)) j k e b.read }
 move-put t v (Name d k n) x sh s ne e h f w = refl
 move-put t v (Keep p) x sh s ne e h f w = refl
@@ -263,25 +263,25 @@ move-put t v (Keep p) x sh s ne e h f w = refl
 -- ---- A row of moves.
 pub record Passes (t v : ℕ) (x : Own) (ms : List Move) (s : State) : Type 0 where
   pub stands : Stands s (play t ms s) v
-  pub put : play t ms (put_own s v x) ≡ put_at (places s v) v x (play t ms s)
+  pub put : play t ms (put_own s v x) ≡ put_at (own_objects s v) v x (play t ms s)
 
 passes-moves : (t v : ℕ) (x : Own) (ms : List Move) (sh : List (Option Shape)) (s : State) → v ≢ t → shapes s.objects ≡ sh → AllHold ms → AllFit t sh s ms → IsWhole sh s → Passes t v x ms s
 passes-moves t v x [] sh s ne e h f w = record { stands = record { same = refl; held = λ n i. refl }; put = refl }
 passes-moves t v x (m ∷ ms) sh s ne e h f w =
-    let g = f w in let a = apply t m s in let stays = stands-apply t v m sh s ne e h.0 w in let same = places-stand s a v stays in
+    let g = f w in let a = apply t m s in let stays = stands-apply t v m sh s ne e h.0 w in let same = own_objects-stand s a v stays in
     let rest = passes-moves t v x ms (shapes_after sh m) a ne (after_shapes t sh m s e h.0) h.1 g.1 (from_shapes t sh m s e g.0 w) in
     record {
       stands = stands_then s a (play t ms a) v stays rest.stands;
       put =
-          ap (play t ms) (move-put t v m x sh s ne e h.0 g.0 w ∙ ap (λ (p : Places). put_at p v x a) (sym same))
-          ∙ rest.put ∙ ap (λ (p : Places). put_at p v x (play t ms a)) same;
+          ap (play t ms) (move-put t v m x sh s ne e h.0 g.0 w ∙ ap (λ (p : OwnObjects). put_at p v x a) (sym same))
+          ∙ rest.put ∙ ap (λ (p : OwnObjects). put_at p v x (play t ms a)) same;
     }
 
 pub passes-play : (t v : ℕ) (x : Own) (ms : List Move) (s : State) → v ≢ t → AllHold ms → AllFit t (shapes s.objects) s ms → IsWhole (shapes s.objects) s → Passes t v x ms s
 passes-play t v x ms s ne h f w = passes-moves t v x ms (shapes s.objects) s ne refl h f w
 
 -- ---- Sweeps, and what they signal.
-pub sweep-put : (p : Places) (v : ℕ) (x : Own) (s : State) → sweep (put_at p v x s) ≡ put_at p v x (sweep s)
+pub sweep-put : (p : OwnObjects) (v : ℕ) (x : Own) (s : State) → sweep (put_at p v x s) ≡ put_at p v x (sweep s)
 sweep-put p v x s = ap (λ (os : List (Option Object)). record (put_at p v x s) { objects = os })
     (ap (λ rs. swept rs (written p x s.objects)) (roots-set_error s v x.error) ∙ sym (written-swept p x (roots s) s.objects))
 

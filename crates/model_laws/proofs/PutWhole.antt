@@ -12,14 +12,14 @@ use Rattle.driver_objects.specs.declared.objects.Object.{Object}
 use Rattle.driver_objects.specs.declared.objects.Object.TheVariants.{Context, Storage}
 use Rattle.egl_model.specs.State.{State, record_of, set_error}
 use Rattle.egl_model.specs.Currents.{current_context, draw_storage, has_context, read_storage}
-use Rattle.egl_model.specs.Parts.{Own, Places, are_same, places, put_at, put_own, set_image, set_part, write, written}
+use Rattle.egl_model.specs.Parts.{Own, OwnObjects, are_same, own_objects, put_at, put_own, set_image, set_part, write, written}
 use Rattle.model_laws.specs.Shapes.{Leads, Shape, pixels_in, shapes, slots_in}
 use Rattle.model_laws.specs.Sound.{IsWhole}
 use Rattle.model_laws.proofs.Blinds.{alone_with, draw_alone, read_alone}
 use Rattle.model_laws.proofs.EglCalls.{acts-error}
 use Rattle.model_laws.proofs.Keeps.{Moved, moved_of, moved_self, moved_then, moved_by}
 use Rattle.model_laws.proofs.Moves.{Change, NoneElse, Suits, body_in, draws, link}
-use Rattle.model_laws.proofs.Puts.{blind-surface, part_and_image, places-put}
+use Rattle.model_laws.proofs.Puts.{blind-surface, part_and_image, own_objects-put}
 use Rattle.model_laws.proofs.Writes.{IsGentle, blind-write, gentle-image, gentle-part}
 
 -- ---- The setters of a part and of an image.
@@ -83,10 +83,10 @@ some_read : (b : Bool) (o : Option ℕ) (n : ℕ) → cond b None o ≡ Some n �
 some_read true o n h = absurd (none-some n h)
 some_read false o n h = h
 
-put_places : (t : ℕ) (x : Own) (s : State) → Moved quiet t s (put_at (places s t) t x)
+put_places : (t : ℕ) (x : Own) (s : State) → Moved quiet t s (put_at (own_objects s t) t x)
 unfolding written
 put_places t x s =
-    let p = places s t in
+    let p = own_objects s t in
     let f : State → State = λ a. record a { objects = write (set_part x.context) p.context a.objects } in
     let g : State → State = λ a. record a { objects = write (set_image x.draw) p.draw a.objects } in
     let h : State → State = λ a. record a { objects = write (set_image x.read) p.read a.objects } in
@@ -100,7 +100,7 @@ put_places t x s =
     (acts-error (h (g (f s))) t x.error).moved
 
 pub put_moved : (t : ℕ) (x : Own) (s : State) → Moved quiet t s (λ a. put_own a t x)
-put_moved t x s = moved_of quiet t s (λ a. places a t) (λ p. put_at p t x) (λ w v y ne. places-put s (places s v) v t y) (put_places t x s)
+put_moved t x s = moved_of quiet t s (λ a. own_objects a t) (λ p. put_at p t x) (λ w v y ne. own_objects-put s (own_objects s v) v t y) (put_places t x s)
 
 -- what is put leaves a state whole
 pub whole-put : (t : ℕ) (x : Own) (s : State) → IsWhole (shapes s.objects) s → IsWhole (shapes (put_own s t x).objects) (put_own s t x)
@@ -108,4 +108,4 @@ whole-put t x s w = (put_moved t x s).keeps.whole w
 
 -- and what is put for two threads may come in either order
 pub puts_apart : (s : State) (t u : ℕ) (x y : Own) → t ≢ u → IsWhole (shapes s.objects) s → put_own (put_own s u y) t x ≡ put_own (put_own s t x) u y
-puts_apart s t u x y ne w = (put_moved t x s).put w u y (λ e. ne (sym e)) ∙ ap (λ (p : Places). put_at p u y (put_own s t x)) (sym (places-put s (places s t) t u x))
+puts_apart s t u x y ne w = (put_moved t x s).put w u y (λ e. ne (sym e)) ∙ ap (λ (p : OwnObjects). put_at p u y (put_own s t x)) (sym (own_objects-put s (own_objects s t) t u x))

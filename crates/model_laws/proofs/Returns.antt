@@ -6,14 +6,14 @@ use Rattle.egl_model.specs.State.{State}
 use Rattle.model_laws.specs.Frame.{IsNone, IsReady}
 use Rattle.model_laws.specs.Hidden.{hide, nothing, without}
 use Rattle.model_laws.specs.Local.{is_local, locally}
-use Rattle.egl_model.specs.Parts.{Own, own_of, part_of, places, put_own}
+use Rattle.egl_model.specs.Parts.{Own, own_of, part_of, own_objects, put_own}
 use Rattle.model_laws.specs.Shapes.{shapes}
 use Rattle.model_laws.specs.Sound.{IsWhole}
 use Rattle.egl_model.specs.Step.{Stepped, step}
 use Rattle.egl_model.specs.Sweep.{census}
 use Rattle.model_laws.proofs.Framing.{local_as_step, own-put}
 use Rattle.model_laws.proofs.OtherParts.{no_more}
-use Rattle.model_laws.proofs.Puts.{places-put, put-own_of, put-put}
+use Rattle.model_laws.proofs.Puts.{own_objects-put, put-own_of, put-put}
 use Rattle.model_laws.proofs.PutWhole.{put_moved, puts_apart, whole-put}
 use Rattle.model_laws.proofs.StepKeeps.{keeps-step}
 use Rattle.model_laws.proofs.StepPut.{whole-hide}
@@ -73,10 +73,10 @@ hide-local s t ts c r l =
 -- ---- What is taken out.
 own-elsewhere : (s : State) (u t : ℕ) (y : Own) → u ≢ t → IsWhole (shapes s.objects) s → t < length s.threads → own_of (put_own s u y) t ≡ own_of s t
 own-elsewhere s u t y ne w l =
-    let a = put_own s u y in let same = places-put s (places s u) u t y in
+    let a = put_own s u y in let same = own_objects-put s (own_objects s u) u t y in
     ap (λ (b : State). own_of (put_own b u y) t) (sym (put-own_of s t))
     ∙ ap (λ (b : State). own_of b t) (puts_apart s u t y (own_of s t) ne w)
-    ∙ own-put a t (own_of s t) (whole-put u y s w) (let e = (put_moved u y s).keeps.frame.count in omega (arith, e, l)) (rw same (no_more (places s t) t s))
+    ∙ own-put a t (own_of s t) (whole-put u y s w) (let e = (put_moved u y s).keeps.frame.count in omega (arith, e, l)) (rw same (no_more (own_objects s t) t s))
 
 threads-hide : (ts : List ℕ) (s : State) → length (hide ts s).threads ≡ length s.threads
 threads-hide [] s = refl
@@ -90,4 +90,4 @@ own-hide s t (u ∷ ts) w l i = own-elsewhere (hide ts s) u t nothing i.0 (whole
 -- the census is that of the state
 pub census-hide : (s : State) (out : List ℕ) → census (hide out s) ≡ census s
 census-hide s [] = refl
-census-hide s (u ∷ us) = census-written (places (hide us s) u) nothing (hide us s).objects ∙ census-hide s us
+census-hide s (u ∷ us) = census-written (own_objects (hide us s) u) nothing (hide us s).objects ∙ census-hide s us

@@ -54,7 +54,7 @@ use Rattle.egl_model.specs.Sweep.{live_bytes}
 use Rattle.model_laws.specs.Hidden.{hide, nothing}
 use Rattle.egl_model.specs.MakeCurrent.{config_of_context, config_of_surface, context_handle, current_facts, draw_handle, is_context_taken, is_surface_taken, read_handle}
 use Rattle.egl_model.specs.Objects.{context_in, storage_in}
-use Rattle.egl_model.specs.Parts.{Own, Places, places, put_at, put_own}
+use Rattle.egl_model.specs.Parts.{Own, OwnObjects, own_objects, put_at, put_own}
 use Rattle.model_laws.specs.Shapes.{shapes}
 use Rattle.model_laws.specs.Sound.{IsWhole}
 use Rattle.egl_model.specs.Step.{Stepped, after_egl_rules, after_gl_rules, done, egl_step, gl_step, gl_step_on, step, step_by, step_in, buffer_step_on, own_step, wait_step}
@@ -74,7 +74,7 @@ use Rattle.model_laws.proofs.FramebufferCalls.{blind-attachment_of, blind-called
 use Rattle.model_laws.proofs.EglCalls.{acts-error}
 use Rattle.model_laws.proofs.GlCalls.{acts-own_part}
 use Rattle.model_laws.proofs.Keeps.{Blind}
-use Rattle.model_laws.proofs.PutMoves.{places-stand}
+use Rattle.model_laws.proofs.PutMoves.{own_objects-stand}
 use Rattle.model_laws.proofs.PutWhole.{whole-put}
 use Rattle.model_laws.proofs.StepKeeps.{acts-egl_done, acts-gl_done, keeps-step, acts-swept_self, acts-wait_done}
 
@@ -245,38 +245,38 @@ both_same : (r q : ReplyValue) (a b : State) → r ≡ q → a ≡ b → stepped
 both_same r q a b e f = ap (λ z. stepped z a) e ∙ ap (stepped q) f
 
 by_egl_rules : (t v : ℕ) (x : Own) (s : State) (c : CallValue) (k : EglKind) (o : Option EglError) → v ≢ t → IsWhole (shapes s.objects) s → c.kind ≡ Egl k → egl_refusal s t k c ≡ o →
-    after_egl_rules (put_own s v x) t o (egl_effect (put_own s v x) t k c) ≡ moved_step (put_at (places s v) v x) (after_egl_rules s t o (egl_effect s t k c))
+    after_egl_rules (put_own s v x) t o (egl_effect (put_own s v x) t k c) ≡ moved_step (put_at (own_objects s v) v x) (after_egl_rules s t o (egl_effect s t k c))
 by_egl_rules t v x s c k (Some e) ne w h r = answered _ _ _ ((acts-error s t e).moved.put w v x ne)
 by_egl_rules t v x s c k None ne w h r = both_same _ _ _ _ (blind-egl_reply t c s k w v x ne) ((acts-egl_done s t c k h r).moved.put w v x ne)
 
 by_gl_rules : (t v n : ℕ) (x : Own) (s : State) (c : CallValue) (k : GlKind) (o : Option GlError) → v ≢ t → IsWhole (shapes s.objects) s → c.kind ≡ Gl k → current_context s t ≡ Some n → gl_refusal s t n k c ≡ o →
-    after_gl_rules (put_own s v x) n o (gl_effect (put_own s v x) t n k c) ≡ moved_step (put_at (places s v) v x) (after_gl_rules s n o (gl_effect s t n k c))
+    after_gl_rules (put_own s v x) n o (gl_effect (put_own s v x) t n k c) ≡ moved_step (put_at (own_objects s v) v x) (after_gl_rules s n o (gl_effect s t n k c))
 by_gl_rules t v n x s c k (Some e) ne w q h r = answered _ _ _ ((acts-own_part s t n (noted e) (λ p. refl) h).moved.put w v x ne)
 by_gl_rules t v n x s c k None ne w q h r = both_same _ _ _ _ (blind-gl_reply t n c s k h w v x ne) ((acts-gl_done s t n c k q r h).moved.put w v x ne)
 
-by_context : (t v : ℕ) (x : Own) (s : State) (c : CallValue) (k : GlKind) (o : Option ℕ) → v ≢ t → IsWhole (shapes s.objects) s → c.kind ≡ Gl k → current_context s t ≡ o → gl_step_on (put_own s v x) t o k c ≡ moved_step (put_at (places s v) v x) (gl_step_on s t o k c)
+by_context : (t v : ℕ) (x : Own) (s : State) (c : CallValue) (k : GlKind) (o : Option ℕ) → v ≢ t → IsWhole (shapes s.objects) s → c.kind ≡ Gl k → current_context s t ≡ o → gl_step_on (put_own s v x) t o k c ≡ moved_step (put_at (own_objects s v) v x) (gl_step_on s t o k c)
 by_context t v x s c k None ne w q h = refl
 by_context t v x s c k (Some n) ne w q h =
     ap (λ o. after_gl_rules (put_own s v x) n o (gl_effect (put_own s v x) t n k c)) (blind-gl_refusal t n c s k w v x ne)
     ∙ by_gl_rules t v n x s c k (gl_refusal s t n k c) ne w q h refl
 
 by_buffer_rules : (t v n : ℕ) (x : Own) (s : State) (c : CallValue) (o : Option GlError) → v ≢ t → IsWhole (shapes s.objects) s → current_context s t ≡ Some n →
-    after_gl_rules (put_own s v x) n o (buffer_effect (put_own s v x) t n c) ≡ moved_step (put_at (places s v) v x) (after_gl_rules s n o (buffer_effect s t n c))
+    after_gl_rules (put_own s v x) n o (buffer_effect (put_own s v x) t n c) ≡ moved_step (put_at (own_objects s v) v x) (after_gl_rules s n o (buffer_effect s t n c))
 by_buffer_rules t v n x s c (Some e) ne w h = answered _ _ _ ((acts-own_part s t n (noted e) (λ p. refl) h).moved.put w v x ne)
 by_buffer_rules t v n x s c None ne w h = both_same _ _ _ _ (blind-buffer_reply t n c s w v x ne) ((acts-swept_self s t).moved.put w v x ne)
 
-by_buffer : (t v : ℕ) (x : Own) (s : State) (c : CallValue) (o : Option ℕ) → v ≢ t → IsWhole (shapes s.objects) s → current_context s t ≡ o → buffer_step_on (put_own s v x) t o c ≡ moved_step (put_at (places s v) v x) (buffer_step_on s t o c)
+by_buffer : (t v : ℕ) (x : Own) (s : State) (c : CallValue) (o : Option ℕ) → v ≢ t → IsWhole (shapes s.objects) s → current_context s t ≡ o → buffer_step_on (put_own s v x) t o c ≡ moved_step (put_at (own_objects s v) v x) (buffer_step_on s t o c)
 by_buffer t v x s c None ne w h = refl
 by_buffer t v x s c (Some n) ne w h =
     ap (λ o. after_gl_rules (put_own s v x) n o (buffer_effect (put_own s v x) t n c)) (blind-buffer_refusal t n c s w v x ne)
     ∙ by_buffer_rules t v n x s c (buffer_refusal s t n c) ne w h
 
-by_own : (t v : ℕ) (x : Own) (s : State) (c : CallValue) (k : OwnKind) → v ≢ t → IsWhole (shapes s.objects) s → own_step (put_own s v x) t k c ≡ moved_step (put_at (places s v) v x) (own_step s t k c)
+by_own : (t v : ℕ) (x : Own) (s : State) (c : CallValue) (k : OwnKind) → v ≢ t → IsWhole (shapes s.objects) s → own_step (put_own s v x) t k c ≡ moved_step (put_at (own_objects s v) v x) (own_step s t k c)
 by_own t v x s c ReadBuffer ne w = ap (λ o. buffer_step_on (put_own s v x) t o c) (blind-current t s w v x ne) ∙ by_buffer t v x s c (current_context s t) ne w refl
-by_own t v x s c Census ne w = ap (λ l. stepped (record { outcome = Done; value = pos 0; list = map pos l; bytes = [] }) (put_own s v x)) (census-written (places s v) x s.objects)
+by_own t v x s c Census ne w = ap (λ l. stepped (record { outcome = Done; value = pos 0; list = map pos l; bytes = [] }) (put_own s v x)) (census-written (own_objects s v) x s.objects)
 by_own t v x s c k ne w = refl
 
-by_kind : (t v : ℕ) (x : Own) (s : State) (c : CallValue) (k : Kind) → v ≢ t → IsWhole (shapes s.objects) s → c.kind ≡ k → step_by (put_own s v x) t k c ≡ moved_step (put_at (places s v) v x) (step_by s t k c)
+by_kind : (t v : ℕ) (x : Own) (s : State) (c : CallValue) (k : Kind) → v ≢ t → IsWhole (shapes s.objects) s → c.kind ≡ k → step_by (put_own s v x) t k c ≡ moved_step (put_at (own_objects s v) v x) (step_by s t k c)
 unfolding egl_step gl_step
 by_kind t v x s c (Egl k) ne w h =
     ap (λ o. after_egl_rules (put_own s v x) t o (egl_effect (put_own s v x) t k c)) (blind-refusal t c s k w v x ne)
@@ -284,25 +284,25 @@ by_kind t v x s c (Egl k) ne w h =
 by_kind t v x s c (Gl k) ne w h = ap (λ o. gl_step_on (put_own s v x) t o k c) (blind-current t s w v x ne) ∙ by_context t v x s c k (current_context s t) ne w h refl
 by_kind t v x s c (OwnCall k) ne w h = by_own t v x s c k ne w
 
-by_end : (t v : ℕ) (x : Own) (s : State) (is_end signalled : Bool) → v ≢ t → IsWhole (shapes s.objects) s → wait_step (put_own s v x) t is_end signalled ≡ moved_step (put_at (places s v) v x) (wait_step s t is_end signalled)
+by_end : (t v : ℕ) (x : Own) (s : State) (is_end signalled : Bool) → v ≢ t → IsWhole (shapes s.objects) s → wait_step (put_own s v x) t is_end signalled ≡ moved_step (put_at (own_objects s v) v x) (wait_step s t is_end signalled)
 by_end t v x s false signalled ne w = refl
 by_end t v x s true false ne w = refl
 by_end t v x s true true ne w = answered _ _ _ ((acts-wait_done s t).moved.put w v x ne)
 
-by_wait : (t v : ℕ) (x : Own) (s : State) (c : CallValue) (o : Option ℕ) → v ≢ t → IsWhole (shapes s.objects) s → step_in o (put_own s v x) t c ≡ moved_step (put_at (places s v) v x) (step_in o s t c)
+by_wait : (t v : ℕ) (x : Own) (s : State) (c : CallValue) (o : Option ℕ) → v ≢ t → IsWhole (shapes s.objects) s → step_in o (put_own s v x) t c ≡ moved_step (put_at (own_objects s v) v x) (step_in o s t c)
 by_wait t v x s c (Some sync) ne w = ap (λ b. wait_step (put_own s v x) t (is_wait_end c.kind) b) (blind-signalled t sync s w v x ne) ∙ by_end t v x s (is_wait_end c.kind) (is_signalled s sync) ne w
 by_wait t v x s c None ne w = by_kind t v x s c c.kind ne w refl
 
-pub step-put_at : (s : State) (t v : ℕ) (x : Own) (c : CallValue) → v ≢ t → IsWhole (shapes s.objects) s → step (put_own s v x) t c ≡ moved_step (put_at (places s v) v x) (step s t c)
+pub step-put_at : (s : State) (t v : ℕ) (x : Own) (c : CallValue) → v ≢ t → IsWhole (shapes s.objects) s → step (put_own s v x) t c ≡ moved_step (put_at (own_objects s v) v x) (step s t c)
 unfolding step
 step-put_at s t v x c ne w = ap (λ (r : ThreadRecord). step_in r.wait (put_own s v x) t c) (blind-record t s w v x ne) ∙ by_wait t v x s c (record_of s t).wait ne w
 
--- the places of another thread are those that they were
-pub places-step : (s : State) (t v : ℕ) (c : CallValue) → v ≢ t → IsWhole (shapes s.objects) s → places (step s t c).state v ≡ places s v
-places-step s t v c ne w = places-stand s (step s t c).state v ((keeps-step s t c).stands w v ne)
+-- the own objects of another thread are those that they were
+pub own_objects-step : (s : State) (t v : ℕ) (c : CallValue) → v ≢ t → IsWhole (shapes s.objects) s → own_objects (step s t c).state v ≡ own_objects s v
+own_objects-step s t v c ne w = own_objects-stand s (step s t c).state v ((keeps-step s t c).stands w v ne)
 
 pub step-put : (s : State) (t v : ℕ) (x : Own) (c : CallValue) → v ≢ t → IsWhole (shapes s.objects) s → step (put_own s v x) t c ≡ moved_step (λ a. put_own a v x) (step s t c)
-step-put s t v x c ne w = step-put_at s t v x c ne w ∙ ap (λ (p : Places). moved_step (put_at p v x) (step s t c)) (sym (places-step s t v c ne w))
+step-put s t v x c ne w = step-put_at s t v x c ne w ∙ ap (λ (p : OwnObjects). moved_step (put_at p v x) (step s t c)) (sym (own_objects-step s t v c ne w))
 
 -- ---- States from which parts are out.
 pub whole-hide : (ts : List ℕ) (s : State) → IsWhole (shapes s.objects) s → IsWhole (shapes (hide ts s).objects) (hide ts s)

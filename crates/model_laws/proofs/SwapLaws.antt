@@ -1,7 +1,7 @@
 -- What a swap shows, and what it leaves of the back buffer.
-use Rattle.std.proofs.Common.{◌≡◌, ◌≢◌, ℕ, ℤ, pos, ◌<◌, Bool, true, false, cond, not, List, refl, sym, ap, subst, ◌∙◌, get_or, set, eqb, Option, None, Some, is_some}
+use Rattle.std.proofs.Common.{◌≡◌, ◌≢◌, ℕ, ℤ, pos, Bool, true, false, cond, not, List, refl, sym, ap, subst, ◌∙◌, get_or, set, eqb, Option, None, Some, is_some}
 use Rattle.std.specs.Prelude.{All}
-use Rattle.std.specs.Option.{option_map, option_map_or, option_and_then}
+use Rattle.std.specs.Option.{option_map, option_map_or}
 use Rattle.std.specs.Ordering.{int_eq}
 use Rattle.std.proofs.lemmas.Bool.{and_from, eq-eqb, eqb-true, not-false}
 use Rattle.std.proofs.lemmas.List.{get_or-set_other, get_or-set_same}
@@ -20,7 +20,6 @@ use Rattle.surface_store.specs.Windows.{WindowValue, posted}
 use Rattle.surface_store.specs.WindowTables.{fits, has_sides_of, no_window, place_of, posted_to, swapped_back, swapped_windows, window_at, window_of}
 use Rattle.surface_store.proofs.WindowLaws.{place_inside}
 use Rattle.driver_objects.specs.Storages.{AreImageOf, IsImageOf, StorageValue, shown_by, swapped_image, swapped_storage}
-use Rattle.driver_objects.specs.declared.contexts.Context.{Context as ContextObject}
 use Rattle.driver_objects.specs.declared.kinds.ObjectKind.{ObjectKind}
 use Rattle.driver_objects.specs.declared.kinds.ObjectKind.TheVariants.{Storage as a_storage, Surface as a_surface_kind}
 use Rattle.driver_objects.specs.declared.objects.Object.{Object}
@@ -36,14 +35,14 @@ use Rattle.egl_model.specs.Flushes.{flush, flushed_to}
 use Rattle.egl_model.specs.Handles.{handle_at}
 use Rattle.egl_model.specs.Objects.{as_storage, as_surface, change_storage, surface_in, surface_of, with_context, with_storage}
 use Rattle.egl_model.specs.Parts.{image_in}
-use Rattle.egl_model.specs.State.{State, has_object, initial, object_at, record_of, set_error}
+use Rattle.egl_model.specs.State.{State, initial, object_at, record_of, set_error}
 use Rattle.egl_model.specs.Step.{step}
 use Rattle.egl_model.specs.Sweep.{roots, sweep}
 use Rattle.egl_model.specs.Windows.{back_of, draws_to, front_of, swap_facts, swapped_surface, swapped_with}
-use Rattle.model_laws.specs.Full.{Full, IsFull, IsWindow}
+use Rattle.model_laws.specs.Full.{Full, IsWindow}
 use Rattle.model_laws.specs.Kinds.{KindsFit}
-use Rattle.model_laws.specs.Shapes.{Goes, HasKind, Leads, Shape, shapes, sides_at, slots_in}
-use Rattle.model_laws.specs.Slots.{Sides, held_slots}
+use Rattle.model_laws.specs.Shapes.{Goes, HasKind, Leads, shapes, slots_in}
+use Rattle.model_laws.specs.Slots.{Sides}
 use Rattle.model_laws.specs.Sound.{IsSound, IsWhole, front_sides, window_sides}
 use Rattle.model_laws.specs.Swaps.{HasSwapBehavior, IsSwap}
 use Rattle.model_laws.proofs.FenceLaws.{at_changed, seen_flushed}

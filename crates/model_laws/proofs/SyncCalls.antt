@@ -17,7 +17,7 @@ use Rattle.egl_model.specs.Flushes.{flush, flushed, flushed_to}
 use Rattle.egl_model.specs.Handles.{are_used_up, with_handle}
 use Rattle.egl_model.specs.MakeCurrent.{bound_by}
 use Rattle.egl_model.specs.Objects.{change_context, change_fence, with_context, with_fence}
-use Rattle.egl_model.specs.Parts.{places, put_own}
+use Rattle.egl_model.specs.Parts.{own_objects, put_own}
 use Rattle.model_laws.specs.Shapes.{Goes, shapes}
 use Rattle.model_laws.specs.Sound.{IsWhole}
 use Rattle.egl_model.specs.State.{State}
@@ -106,7 +106,7 @@ blind-waited t c None s w v x ne = refl
 blind-waited t c (Some h) s w v x ne =
     let n = h.object in
     answers (flush_for c t n (put_own s v x)) (flush_for c t n s)
-    (ap (λ (a : State). is_signalled a n) ((acts-flush_for s t n c).moved.put w v x ne) ∙ signalled-put (places s v) v n x (flush_for c t n s))
+    (ap (λ (a : State). is_signalled a n) ((acts-flush_for s t n c).moved.put w v x ne) ∙ signalled-put (own_objects s v) v n x (flush_for c t n s))
   where
     answers : (a b : State) → is_signalled a h.object ≡ is_signalled b h.object → done (waited c t h.object a) ≡ done (waited c t h.object b)
     answers a b e = ap (reply_by (waits_forever c)) e

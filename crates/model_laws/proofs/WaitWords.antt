@@ -1,5 +1,5 @@
 -- What a client wait finds, and what its thread then waits for.
-use Rattle.std.proofs.Common.{◌≡◌, ℕ, ◌<◌, pos, Bool, true, false, cond, ◌&&◌, not, ◌⊎◌, inl, inr, length, set, refl, sym, ap, ◌∙◌, arith, Option, None, Some, get_or}
+use Rattle.std.proofs.Common.{◌≡◌, ℕ, ◌<◌, Bool, true, false, cond, ◌&&◌, not, ◌⊎◌, inl, inr, length, set, refl, sym, ap, ◌∙◌, arith, Option, None, Some, get_or}
 use Rattle.std.proofs.lemmas.Bool.{cases_eq}
 use Rattle.std.proofs.lemmas.List.{get_or-set_same, length-set}
 use Rattle.std.specs.Option.{option_map_or}

@@ -10,7 +10,7 @@ use Rattle.egl_model.specs.Graph.{is_in}
 use Rattle.egl_model.specs.State.{State, record_of, set_record}
 use Rattle.egl_model.specs.declared.records.ThreadRecord.{ThreadRecord}
 use Rattle.model_laws.specs.Kinds.{KindsFit, NamesItsKind, named_kind}
-use Rattle.model_laws.specs.Shapes.{Leads, Shape, frozen_at, own_at, pixels_in, shapes, sides_at, slots_in, window_id_at}
+use Rattle.model_laws.specs.Shapes.{Leads, Shape, frozen_at, own_at, pixels_in, shapes, sides_at, slots_in}
 use Rattle.model_laws.specs.Slots.{held_slots}
 use Rattle.model_laws.specs.Sound.{HasBothOrNone, IsAlone, IsWhole, NumbersAreGiven, OwnAreThawed, SidesAgree, StoragesAreOwn, window_sides}
 use Rattle.model_laws.proofs.Moves.{Await, Body, Resize, Add, AllFit, AllHold, Bind, Change, Fits, Flags, Holds, IsStored, Keep, Move, Name, Note, Post, Stands, Suits, apply, frozen_in, own_in, play, shapes_after, sides_in, window_id_in}

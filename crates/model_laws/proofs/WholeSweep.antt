@@ -18,13 +18,12 @@ use Rattle.driver_objects.proofs.SlotLaws.{objects_cons}
 use Rattle.display_table.specs.declared.handles.Handle.{Handle}
 use Rattle.egl_model.specs.declared.records.Bound.{Bound}
 use Rattle.egl_model.specs.declared.records.ThreadRecord.{ThreadRecord}
-use Rattle.egl_calls.specs.Ranges.{unsigned}
 use Rattle.egl_model.specs.Graph.{is_in}
 use Rattle.egl_model.specs.State.{State, initial, object_at, record_of, has_object}
 use Rattle.model_laws.specs.Kinds.{KindsFit, NamesItsKind, named_kind}
 use Rattle.egl_model.specs.Links.{IsLinked, is_root, rank_in, refers}
-use Rattle.model_laws.specs.Shapes.{Goes, HasKind, Leads, Shape, kind_at, own_at, pixels_in, shapes, sides_at, slots_in, window_id_at}
-use Rattle.model_laws.specs.Sound.{IsWhole, OwnAreThawed, SidesAgree, StoragesAreOwn, window_sides}
+use Rattle.model_laws.specs.Shapes.{Goes, HasKind, Leads, Shape, kind_at, own_at, pixels_in, shapes, sides_at, slots_in}
+use Rattle.model_laws.specs.Sound.{IsWhole, OwnAreThawed, SidesAgree, StoragesAreOwn}
 use Rattle.egl_model.specs.Sweep.{bound_object, edges_at, edges_in, held_by, is_reached, roots, roots_of, sweep}
 use Rattle.model_laws.proofs.GraphLaws.{or_first}
 use Rattle.model_laws.proofs.LinkLaws.{reached_on, root_marked, same_object}

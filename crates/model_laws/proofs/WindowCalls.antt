@@ -33,7 +33,7 @@ use Rattle.model_laws.specs.Extents.{making, quiet}
 use Rattle.model_laws.specs.Full.{IsFull, IsWindow}
 use Rattle.egl_model.specs.Handles.{handle_at, with_handle}
 use Rattle.egl_model.specs.Objects.{as_surface, change_storage, with_image}
-use Rattle.egl_model.specs.Parts.{places, put_own}
+use Rattle.egl_model.specs.Parts.{own_objects, put_own}
 use Rattle.model_laws.specs.Shapes.{shapes}
 use Rattle.model_laws.specs.Slots.{Sides}
 use Rattle.model_laws.specs.Sound.{front_sides, window_sides}
@@ -68,7 +68,7 @@ one-blind k o = refl
 blind-used : (t : ℕ) (p : Option ℕ) (s : State) → Blind t s (λ a. is_used_at a.objects p)
 unfolding surfaces_at
 blind-used t None s w v x ne = refl
-blind-used t (Some k) s w v x ne = ap (ltb 0) (sum-written (λ o. option_map_or (one_at k) o 0) (one-blind k) (places s v) x s.objects)
+blind-used t (Some k) s w v x ne = ap (ltb 0) (sum-written (λ o. option_map_or (one_at k) o 0) (one-blind k) (own_objects s v) x s.objects)
 
 pub blind-window_facts : (t : ℕ) (c : CallValue) (s : State) → Blind t s (λ a. window_facts a c)
 blind-window_facts t c s w v x ne =
@@ -84,7 +84,7 @@ blind-swap_facts t c s w v x ne = ap (λ b. record (surface_facts s c) { is_draw
 
 blind-bound : (t : ℕ) (b : Option Bound) (s : State) → Blind t s (λ a. bound_surface a b)
 blind-bound t None s w v x ne = refl
-blind-bound t (Some b) s w v x ne = blind-written as_surface blind-surface (places s v) x s.objects b.object
+blind-bound t (Some b) s w v x ne = blind-written as_surface blind-surface (own_objects s v) x s.objects b.object
 
 blind-draw_surface : (t : ℕ) (s : State) → Blind t s (λ a. bound_surface a (record_of a t).draw)
 blind-draw_surface t s w v x ne = ap (λ (r : ThreadRecord). bound_surface (put_own s v x) r.draw) (blind-record t s w v x ne) ∙ blind-bound t (record_of s t).draw s w v x ne

@@ -1,5 +1,5 @@
 -- What of windows stays where one of them shows another image.
-use Rattle.std.proofs.Common.{◌≡◌, ◌≢◌, ℕ, ltb, eqb, length, List, set, get_or, map, refl, sym, ap, ◌∙◌, Bool, true, false, cond, Option, None, Some}
+use Rattle.std.proofs.Common.{◌≡◌, ℕ, ltb, eqb, length, List, set, refl, ap, ◌∙◌, Bool, true, false, cond, Option, None, Some}
 use Rattle.std.specs.List.{position_or_len}
 use Rattle.std.specs.Option.{option_map, option_map_or}
 use Rattle.std.proofs.lemmas.List.{length-set}

@@ -18,7 +18,7 @@ use Rattle.egl_model.specs.Sweep.{edges_at, edges_in, swept, bytes_in, live_byte
 use Rattle.model_laws.proofs.SweepLaws.{length-swept, object_at-swept}
 use Rattle.model_laws.proofs.Places.{same_at_set}
 use Rattle.model_laws.specs.Shapes.{shape_in}
-use Rattle.egl_model.specs.Parts.{Own, Places, is_place, set_image, set_part, write, written}
+use Rattle.egl_model.specs.Parts.{Own, OwnObjects, is_place, set_image, set_part, write, written}
 
 Objects : Type 0
 Objects = List (Option Object)
@@ -53,7 +53,7 @@ swap f g true false h o = refl
 swap f g false true h o = refl
 swap f g false false h o = refl
 
--- two writes may change places, where both are at one place only if there they may
+-- two writes may change own objects, where both are at one place only if there they may
 pub write-write : (f g : Option Object → Option Object) (p q : Option ℕ) → f None ≡ None → g None ≡ None → ((m : ℕ) → is_place m p ≡ true → is_place m q ≡ true → (o : Option Object) → f (g o) ≡ g (f o)) →
     (os : List (Option Object)) → write f p (write g q os) ≡ write g q (write f p os)
 write-write f g p q z y h os = same_list _ _
@@ -122,7 +122,7 @@ unfolding write
 blind-write g f b e None os m = refl
 blind-write g f b e (Some n) os m = same_at_set g os n (f (get_or os n None)) None (blind-gentle g f b e (get_or os n None)) m
 
-pub blind-written : {A : Type 0} (g : Option Object → A) → IsBlind g → (p : Places) (x : Own) (os : List (Option Object)) (m : ℕ) → g (get_or (written p x os) m None) ≡ g (get_or os m None)
+pub blind-written : {A : Type 0} (g : Option Object → A) → IsBlind g → (p : OwnObjects) (x : Own) (os : List (Option Object)) (m : ℕ) → g (get_or (written p x os) m None) ≡ g (get_or os m None)
 unfolding written
 blind-written g b p x os m =
     blind-write g (set_image x.read) b (gentle-image x.read) p.read _ m
@@ -148,11 +148,11 @@ pub edges_at-write : (f : Option Object → Option Object) → IsGentle f → (p
 unfolding edges_at
 edges_at-write f e p os = fun_ext (λ m. blind-write edges_in f blind-edges e p os m)
 
-pub edges_at-written : (p : Places) (x : Own) (os : List (Option Object)) → edges_at (written p x os) ≡ edges_at os
+pub edges_at-written : (p : OwnObjects) (x : Own) (os : List (Option Object)) → edges_at (written p x os) ≡ edges_at os
 unfolding edges_at
 edges_at-written p x os = fun_ext (λ m. blind-written edges_in blind-edges p x os m)
 
-pub length-written : (p : Places) (x : Own) (os : List (Option Object)) → length (written p x os) ≡ length os
+pub length-written : (p : OwnObjects) (x : Own) (os : List (Option Object)) → length (written p x os) ≡ length os
 unfolding written
 length-written p x os = length-write _ p.read _ ∙ length-write _ p.draw _ ∙ length-write _ p.context os
 
@@ -172,8 +172,8 @@ write-swept f e p rs os = same_list _ _
     ∙ ap (λ (es : ℕ → List ℕ). cond (reached rs es m) (get_or (write f p os) m None) None) (edges_at-write f e p os)
     ∙ ap (λ o. cond (reached rs (edges_at os) m) o None) (get_or-write f e.none p os m)))
 
--- what may change places with each of the three writes may with all
-pub written-by : (G : List (Option Object) → List (Option Object)) (p : Places) (x : Own) →
+-- what may change own objects with each of the three writes may with all
+pub written-by : (G : List (Option Object) → List (Option Object)) (p : OwnObjects) (x : Own) →
     ((os : List (Option Object)) → write (set_part x.context) p.context (G os) ≡ G (write (set_part x.context) p.context os)) →
     ((os : List (Option Object)) → write (set_image x.draw) p.draw (G os) ≡ G (write (set_image x.draw) p.draw os)) →
     ((os : List (Option Object)) → write (set_image x.read) p.read (G os) ≡ G (write (set_image x.read) p.read os)) →
@@ -184,13 +184,13 @@ written-by G p x a b c os =
     ∙ ap (write (set_image x.read) p.read) (b (write (set_part x.context) p.context os))
     ∙ c (write (set_image x.draw) p.draw (write (set_part x.context) p.context os))
 
-pub written-swept : (p : Places) (x : Own) (rs : List ℕ) (os : List (Option Object)) → written p x (swept rs os) ≡ swept rs (written p x os)
+pub written-swept : (p : OwnObjects) (x : Own) (rs : List ℕ) (os : List (Option Object)) → written p x (swept rs os) ≡ swept rs (written p x os)
 written-swept p x rs os = written-by (swept rs) p x
     (write-swept (set_part x.context) (gentle-part x.context) p.context rs)
     (write-swept (set_image x.draw) (gentle-image x.draw) p.draw rs)
     (write-swept (set_image x.read) (gentle-image x.read) p.read rs) os
 
-pub record AreBelow (p : Places) (k : ℕ) : Type 0 where
+pub record AreBelow (p : OwnObjects) (k : ℕ) : Type 0 where
   pub context : IsBelow p.context k
   pub draw : IsBelow p.draw k
   pub read : IsBelow p.read k
@@ -199,7 +199,7 @@ pub below_as : (p : Option ℕ) (j k : ℕ) → j ≡ k → IsBelow p j → IsBe
 below_as None j k e b = tt
 below_as (Some n) j k e b = let c : n < j = b in omega (arith, c, e)
 
-pub written-append : (p : Places) (x : Own) (os new : List (Option Object)) → AreBelow p (length os) → written p x (os ++ new) ≡ written p x os ++ new
+pub written-append : (p : OwnObjects) (x : Own) (os new : List (Option Object)) → AreBelow p (length os) → written p x (os ++ new) ≡ written p x os ++ new
 unfolding written
 written-append p x os new b =
     let l = length-write (set_part x.context) p.context os in
@@ -217,7 +217,7 @@ live_bytes-write f e (Some n) os = elim (cases_lt n (length os)) [
   | inr h ↦ ap (sum_by bytes_in) (set_past os n (f (get_or os n None)) h)
 ]
 
-pub live_bytes-written : (p : Places) (x : Own) (os : List (Option Object)) → live_bytes (written p x os) ≡ live_bytes os
+pub live_bytes-written : (p : OwnObjects) (x : Own) (os : List (Option Object)) → live_bytes (written p x os) ≡ live_bytes os
 unfolding written
 live_bytes-written p x os = live_bytes-write _ (gentle-image x.read) p.read _ ∙ live_bytes-write _ (gentle-image x.draw) p.draw _ ∙ live_bytes-write _ (gentle-part x.context) p.context os
 
@@ -230,11 +230,11 @@ sum-write g k f e (Some n) os = elim (cases_lt n (length os)) [
   | inr h ↦ ap (sum_by g) (set_past os n (f (get_or os n None)) h)
 ]
 
-pub sum-written : (g : Option Object → ℕ) → IsBlind g → (p : Places) (x : Own) (os : List (Option Object)) → sum_by g (written p x os) ≡ sum_by g os
+pub sum-written : (g : Option Object → ℕ) → IsBlind g → (p : OwnObjects) (x : Own) (os : List (Option Object)) → sum_by g (written p x os) ≡ sum_by g os
 unfolding written
 sum-written g k p x os = sum-write g k _ (gentle-image x.read) p.read _ ∙ sum-write g k _ (gentle-image x.draw) p.draw _ ∙ sum-write g k _ (gentle-part x.context) p.context os
 
-count-written : (k : ObjectKind) (p : Places) (x : Own) (os : List (Option Object)) → count_of k (written p x os) ≡ count_of k os
+count-written : (k : ObjectKind) (p : OwnObjects) (x : Own) (os : List (Option Object)) → count_of k (written p x os) ≡ count_of k os
 unfolding count_of
 count-written k p x os = sum-written (λ o. option_map_or (λ x. one_of k (kind_of x)) o 0) blind p x os
   where
@@ -243,7 +243,7 @@ count-written k p x os = sum-written (λ o. option_map_or (λ x. one_of k (kind_
     blind (Some (Storage v)) = refl
     blind o = refl
 
-pub census-written : (p : Places) (x : Own) (os : List (Option Object)) → census_of (written p x os) ≡ census_of os
+pub census-written : (p : OwnObjects) (x : Own) (os : List (Option Object)) → census_of (written p x os) ≡ census_of os
 census-written p x os =
     let a = count-written Context_kind p x os in let b = count-written Group_kind p x os in let c = count-written Texture_kind p x os in let d = count-written Buffer_kind p x os in
     let e = count-written Renderbuffer_kind p x os in let f = count-written Framebuffer_kind p x os in let g = count-written Surface_kind p x os in let h = count-written Storage_kind p x os in

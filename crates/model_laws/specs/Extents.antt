@@ -1,5 +1,8 @@
 -- How far a call goes: whether it may turn the displays' flags, how many handles it may make, and whether it may remove some.
-use Rattle.std.specs.Prelude.{◌≡◌, ℕ, Bool, true, false}
+use Rattle.std.specs.Prelude.{◌≡◌, ℕ, Bool, true, false, ◌||◌, Option, None, Some, is_some}
+use Rattle.std.specs.Option.{option_map_or}
+use Rattle.display_table.specs.declared.handles.HandleKind.{HandleKind}
+use Rattle.display_table.specs.declared.handles.HandleKind.TheVariants.{Context, Surface, Image, Sync}
 use Rattle.egl_calls.specs.declared.kinds.Kind.{Kind}
 use Rattle.egl_calls.specs.declared.kinds.Kind.TheVariants.{Egl}
 use Rattle.egl_calls.specs.declared.kinds.EglKind.{EglKind}
@@ -30,20 +33,40 @@ ending = record { flags = true; handles = 0; drops = true }
 abbrev pub SameFlags : State → State → Type 0
 SameFlags s a = (a.first ≡ s.first) × (a.second ≡ s.second)
 
--- which calls turn displays' flags, which make handles, and which remove some
+-- the kind of the handle that a call makes
+abbrev pub made_handle : EglKind → Option HandleKind
+made_handle CreateWindowSurface = Some Surface
+made_handle CreatePbufferSurface = Some Surface
+made_handle CreateContext = Some Context
+made_handle CreateSync = Some Sync
+made_handle CreateImage = Some Image
+made_handle k = None
+
+-- the kind of the handle that a call destroys
+abbrev pub destroyed_handle : EglKind → Option HandleKind
+destroyed_handle DestroySurface = Some Surface
+destroyed_handle DestroyContext = Some Context
+destroyed_handle DestroySync = Some Sync
+destroyed_handle DestroyImage = Some Image
+destroyed_handle k = None
+
+-- whether a call turns a display's flag
+abbrev pub turns_flag : EglKind → Bool
+turns_flag Initialize = true
+turns_flag Terminate = true
+turns_flag k = false
+
+-- whether a call takes the handles of a display
+abbrev pub ends_display : EglKind → Bool
+ends_display Terminate = true
+ends_display k = false
+
 abbrev pub egl_extent : EglKind → Extent
-egl_extent Initialize = flagging
-egl_extent Terminate = ending
-egl_extent CreateWindowSurface = making
-egl_extent CreatePbufferSurface = making
-egl_extent CreateContext = making
-egl_extent CreateSync = making
-egl_extent CreateImage = making
-egl_extent DestroySurface = dropping
-egl_extent DestroyContext = dropping
-egl_extent DestroySync = dropping
-egl_extent DestroyImage = dropping
-egl_extent k = quiet
+egl_extent k = record {
+  flags = turns_flag k;
+  handles = option_map_or (λ h. 1) (made_handle k) 0;
+  drops = ends_display k || is_some (destroyed_handle k);
+}
 
 abbrev pub extent_of_kind : Kind → Extent
 extent_of_kind (Egl k) = egl_extent k

@@ -13,7 +13,7 @@ ghost use Rattle.egl_calls.specs.Calls.{CallValue};
 ghost use Rattle.egl_calls.specs.declared.entries.Entry.{Entry};
 ghost use Rattle.egl_calls.specs.declared.kinds.Kind.TheVariants.{Egl, Own};
 ghost use Rattle.egl_calls.specs.declared.kinds.EglKind.{EglKind};
-ghost use Rattle.egl_calls.specs.declared.kinds.EglKind.TheVariants.{Initialize, Terminate, CreatePbufferSurface, CreateContext, DestroySurface, DestroyContext, ReleaseThread, CreateWindowSurface, CreateSync, DestroySync, ClientWaitSync, CreateImage, DestroyImage};
+ghost use Rattle.egl_calls.specs.declared.kinds.EglKind.TheVariants.{Initialize, Terminate, CreatePbufferSurface, CreateContext, DestroySurface, DestroyContext, ReleaseThread, CreateWindowSurface, CreateSync, ClientWaitSync, CreateImage, DestroyImage};
 ghost use Rattle.egl_calls.specs.declared.kinds.GlKind.{GlKind};
 ghost use Rattle.egl_calls.specs.declared.kinds.GlKind.TheVariants.{CopyTexImage2d, DeleteTextures, TexImage2d, BufferData, DeleteBuffers, DeleteRenderbuffers, DeleteFramebuffers, RenderbufferStorage, ImageTargetTexture2d, ImageTargetRenderbufferStorage};
 ghost use Rattle.egl_calls.specs.Ranges.{unsigned};
@@ -28,7 +28,9 @@ ghost use Rattle.context_state.specs.Parts.{PartValue};
 ghost use Rattle.call_rules.specs.EglAllowed.{makes_handle};
 ghost use Rattle.call_rules.specs.GlAllowed.{CopyAsked, ImageAsked, DataAsked, StorageAsked};
 ghost use Rattle.call_rules.specs.EglRules.{is_release};
-ghost use Rattle.display_table.specs.declared.handles.HandleKind.TheVariants.{Context, Surface, Image, Sync};
+ghost use Rattle.display_table.specs.declared.handles.HandleKind.{HandleKind as AHandleKind};
+ghost use Rattle.display_table.specs.declared.handles.HandleKind.TheVariants.{Context, Surface};
+ghost use Rattle.model_laws.specs.Extents.{destroyed_handle, extent_of_kind, made_handle};
 ghost use Rattle.surface_store.specs.Windows.{windows_ok};
 ghost use Rattle.surface_store.specs.declared.windows.WindowSpec.{WindowSpec};
 ghost use Rattle.egl_model.specs.State.{State, object_at, opening, record_of, set_error, initial, has_object};
@@ -198,14 +200,11 @@ pub fn a_step_keeps_other_threads()
     ensures count { (s : State) (t : ℕ) (c : CallValue) → length (step s t c).state.threads ≡ length s.threads }
 {}
 
-/// A handle stays valid but by eglTerminate, which takes those of its display alone, and by the calls that destroy, which take the one that they are given alone (EGL 1.5, section 2.1).
+/// A handle stays valid but by eglTerminate, which takes those of its display alone, and by the calls that destroy (`destroyed_handle`), which take the one that they are given alone (EGL 1.5, section 2.1).
 pub fn handles_stay_valid()
-    ensures other_calls { (s : State) (t : ℕ) (c : CallValue) → c.kind ≢ Egl Terminate → c.kind ≢ Egl DestroySurface → c.kind ≢ Egl DestroyContext → c.kind ≢ Egl DestroySync → c.kind ≢ Egl DestroyImage → StayValid s (step s t c).state }
+    ensures other_calls { (s : State) (t : ℕ) (c : CallValue) → (extent_of_kind c.kind).drops ≡ false → StayValid s (step s t c).state }
     ensures terminated { (s : State) (t : ℕ) (c : CallValue) (h : Handle) → IsTerminated s t c → (h.display == number c 0) ≡ false → Contains s.handles h → Contains (step s t c).state.handles h }
-    ensures surface { (s : State) (t : ℕ) (c : CallValue) → IsAllowedEgl s t DestroySurface c → IsRemoved s (step s t c).state (number c 1) }
-    ensures context { (s : State) (t : ℕ) (c : CallValue) → IsAllowedEgl s t DestroyContext c → IsRemoved s (step s t c).state (number c 1) }
-    ensures sync { (s : State) (t : ℕ) (c : CallValue) → IsAllowedEgl s t DestroySync c → IsRemoved s (step s t c).state (number c 1) }
-    ensures image { (s : State) (t : ℕ) (c : CallValue) → IsAllowedEgl s t DestroyImage c → IsRemoved s (step s t c).state (number c 1) }
+    ensures destroyed { (s : State) (t : ℕ) (k : EglKind) (c : CallValue) (kind : AHandleKind) → IsAllowedEgl s t k c → destroyed_handle k ≡ Some kind → IsRemoved s (step s t c).state (number c 1) }
 {}
 
 /// What is destroyed stays current to each thread to which it is (sections 3.5.5 and 3.7.2).
@@ -256,19 +255,11 @@ pub fn a_context_takes_the_sides_of_its_first_surface()
     ensures later { (s : State) (t : ℕ) (c : CallValue) (context : Handle) (p : PartValue) → IsReady s t → IsGiven s t c context → part_of_context s context.object ≡ Some p → p.was_current ≡ true → part_of_context (step s t c).state context.object ≡ Some p }
 {}
 
-/// Where no rule refuses an eglCreateWindowSurface, an eglCreatePbufferSurface, an eglCreateContext, an eglCreateSync or an eglCreateImage, it answers the number of a new handle, which names a new object of its kind, and the next number rises by one (EGL 1.5, sections 3.5.1, 3.5.2, 3.7.1, 3.8.1 and 3.9). It rises at no other call, and at none that isn't done.
+/// Where no rule refuses a call that makes a handle (`made_handle`: an eglCreateWindowSurface, an eglCreatePbufferSurface, an eglCreateContext, an eglCreateSync or an eglCreateImage), it answers the number of a new handle, which names a new object of its kind, and the next number rises by one (EGL 1.5, sections 3.5.1, 3.5.2, 3.7.1, 3.8.1 and 3.9). It rises at no other call, and at none that isn't done.
 pub fn a_new_handle_names_its_object()
-    ensures window { (s : State) (t : ℕ) (c : CallValue) → IsAllowedEgl s t CreateWindowSurface c → HasNewHandle s (step s t c).state (number c 0) Surface }
-    ensures window_reply { (s : State) (t : ℕ) (c : CallValue) → IsAllowedEgl s t CreateWindowSurface c → (step s t c).reply.value ≡ pos s.next_handle }
-    ensures pbuffer { (s : State) (t : ℕ) (c : CallValue) → IsAllowedEgl s t CreatePbufferSurface c → HasNewHandle s (step s t c).state (number c 0) Surface }
-    ensures pbuffer_reply { (s : State) (t : ℕ) (c : CallValue) → IsAllowedEgl s t CreatePbufferSurface c → (step s t c).reply.value ≡ pos s.next_handle }
-    ensures context { (s : State) (t : ℕ) (c : CallValue) → IsAllowedEgl s t CreateContext c → HasNewHandle s (step s t c).state (number c 0) Context }
-    ensures context_reply { (s : State) (t : ℕ) (c : CallValue) → IsAllowedEgl s t CreateContext c → (step s t c).reply.value ≡ pos s.next_handle }
-    ensures sync { (s : State) (t : ℕ) (c : CallValue) → IsAllowedEgl s t CreateSync c → HasNewHandle s (step s t c).state (number c 0) Sync }
-    ensures sync_reply { (s : State) (t : ℕ) (c : CallValue) → IsAllowedEgl s t CreateSync c → (step s t c).reply.value ≡ pos s.next_handle }
-    ensures image { (s : State) (t : ℕ) (c : CallValue) → IsAllowedEgl s t CreateImage c → HasNewHandle s (step s t c).state (number c 0) Image }
-    ensures image_reply { (s : State) (t : ℕ) (c : CallValue) → IsAllowedEgl s t CreateImage c → (step s t c).reply.value ≡ pos s.next_handle }
-    ensures others { (s : State) (t : ℕ) (c : CallValue) → c.kind ≢ Egl CreateWindowSurface → c.kind ≢ Egl CreatePbufferSurface → c.kind ≢ Egl CreateContext → c.kind ≢ Egl CreateSync → c.kind ≢ Egl CreateImage → (step s t c).state.next_handle ≡ s.next_handle }
+    ensures handle { (s : State) (t : ℕ) (k : EglKind) (c : CallValue) (kind : AHandleKind) → IsAllowedEgl s t k c → made_handle k ≡ Some kind → HasNewHandle s (step s t c).state (number c 0) kind }
+    ensures reply { (s : State) (t : ℕ) (k : EglKind) (c : CallValue) (kind : AHandleKind) → IsAllowedEgl s t k c → made_handle k ≡ Some kind → (step s t c).reply.value ≡ pos s.next_handle }
+    ensures others { (s : State) (t : ℕ) (c : CallValue) → (extent_of_kind c.kind).handles ≡ 0 → (step s t c).state.next_handle ≡ s.next_handle }
     ensures undone { (s : State) (t : ℕ) (c : CallValue) → (step s t c).reply.outcome ≢ Done → (step s t c).state.next_handle ≡ s.next_handle }
 {}
 

@@ -1,6 +1,6 @@
 //! Where values by number stand.
 
-ghost use Rattle.std.specs.Prelude.{◌≡◌, ℕ, ◌+◌, ◌*◌, ◌<◌, ◌≤◌, max, is_some, Some, None, IsSome, true, length, OnOk, OnErr, option_copied};
+ghost use Rattle.std.specs.Prelude.{◌≡◌, ℕ, ◌+◌, ◌*◌, ◌<◌, ◌≤◌, max, is_some, Some, None, true, length, OnOk, OnErr, option_copied};
 ghost use Rattle.std.specs.Int.RustNames.{bit_and};
 ghost use Rattle.indexmap.specs.IndexMap.{spare};
 ghost use Rattle.numbered.specs.Homes.{home_at};

@@ -1,13 +1,12 @@
 //! Pixels written in place.
 
-ghost use Rattle.std.specs.Prelude.{◌≡◌, ◌+◌, ◌*◌, ◌≤◌, ℕ, length};
+ghost use Rattle.std.specs.Prelude.{◌≡◌, ◌+◌, ◌*◌, ◌≤◌, length};
 ghost use Rattle.pixel_formats.specs.Formats as formats;
 ghost use Rattle.pixel_formats.specs.Pixels as pixels;
 ghost use Rattle.pixel_rows.specs.Blocks.{in_block, in_range, Rewritten};
 ghost use Rattle.pixel_rows.specs.Cells.{HasForm, cells_in, seen};
 ghost use Rattle.pixel_rows.specs.Images.{no_pixel};
 ghost use Rattle.pixel_rows.specs.Masks as masks;
-ghost use Rattle.pixel_rows.specs.Painting.{painted_pixels};
 
 use crate::blocks::Block;
 use crate::cells::{Cells, cell_in};

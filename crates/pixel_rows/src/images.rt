@@ -1,6 +1,6 @@
 //! Images.
 
-ghost use Rattle.std.specs.Prelude.{◌≡◌, ℕ, ◌+◌, ◌-◌, ◌*◌, ◌<◌, ◌≤◌, length, replicate, slice_index_or, true, IsOk, OnOk, OnErr, IfOk, IfErr};
+ghost use Rattle.std.specs.Prelude.{◌≡◌, ℕ, ◌+◌, ◌-◌, ◌*◌, ◌<◌, ◌≤◌, length, slice_index_or, true, IsOk, OnOk, OnErr, IfOk, IfErr};
 ghost use Rattle.pixel_formats.specs.declared.formats.Format.TheVariants.{Rgba8888};
 ghost use Rattle.pixel_rows.specs.Images as values;
 ghost use Rattle.pixel_rows.specs.Images.{IsImage, IsSameShape, blank, no_pixel, pixel_at};

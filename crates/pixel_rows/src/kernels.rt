@@ -1,7 +1,7 @@
 //! The loops over packed pixels, one for each number of bytes that a pixel has. Each says what a plain
 //! pass over the places would leave.
 
-ghost use Rattle.std.specs.Prelude.{◌≡◌, ℕ, ◌+◌, ◌-◌, ◌<◌, ◌≤◌, [], length, slice_index_or, take};
+ghost use Rattle.std.specs.Prelude.{ℕ, ◌+◌, ◌-◌, ◌<◌, ◌≤◌, [], length, slice_index_or, take};
 ghost use Rattle.pixel_formats.specs.Pixels as pixels;
 ghost use Rattle.pixel_formats.specs.declared.formats.Format.TheVariants.{Rgba8888};
 ghost use Rattle.pixel_rows.specs.Blocks.{in_range, Rewritten};

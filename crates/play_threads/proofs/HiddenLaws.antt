@@ -5,7 +5,7 @@ use Rattle.std.specs.List.{list_all}
 use Rattle.std.specs.Option.{option_map_or}
 use Rattle.egl_calls.specs.declared.entries.Entry.{Entry}
 use Rattle.model_laws.specs.Hidden.{hide, nothing}
-use Rattle.egl_model.specs.Parts.{Own, Places, places, put_at}
+use Rattle.egl_model.specs.Parts.{Own, OwnObjects, own_objects, put_at}
 use Rattle.egl_model.specs.State.{State, record_of}
 use Rattle.egl_model.specs.Waits.{is_ready, is_signalled}
 use Rattle.model_laws.proofs.Blinds.{signalled-put}
@@ -18,18 +18,18 @@ use Rattle.shared_driver.specs.declared.picks.Pick.{Pick}
 use Rattle.shared_driver.specs.declared.picks.Pick.TheVariants.{Call, Wait, Stop}
 use Rattle.play_threads.specs.Picks.{IsOver, IsPickOf}
 
-ready_by : (p : Places) (v : ℕ) (x : Own) (s : State) (wait : Option ℕ) → option_map_or (is_signalled (put_at p v x s)) wait false ≡ option_map_or (is_signalled s) wait false
+ready_by : (p : OwnObjects) (v : ℕ) (x : Own) (s : State) (wait : Option ℕ) → option_map_or (is_signalled (put_at p v x s)) wait false ≡ option_map_or (is_signalled s) wait false
 ready_by p v x s None = refl
 ready_by p v x s (Some sync) = signalled-put p v sync x s
 
-ready_put : (p : Places) (v : ℕ) (x : Own) (s : State) (t : ℕ) → is_ready (put_at p v x s) t ≡ is_ready s t
+ready_put : (p : OwnObjects) (v : ℕ) (x : Own) (s : State) (t : ℕ) → is_ready (put_at p v x s) t ≡ is_ready s t
 ready_put p v x s t =
     ap (λ (w : Option ℕ). option_map_or (is_signalled (put_at p v x s)) w false) (record-put (λ r. r.wait) (λ r e. refl) s v t x.error)
     ∙ ready_by p v x s (record_of s t).wait
 
 pub ready_hidden : (out : List ℕ) (s : State) (t : ℕ) → is_ready (hide out s) t ≡ is_ready s t
 ready_hidden [] s t = refl
-ready_hidden (u ∷ us) s t = ready_put (places (hide us s) u) u nothing (hide us s) t ∙ ready_hidden us s t
+ready_hidden (u ∷ us) s t = ready_put (own_objects (hide us s) u) u nothing (hide us s) t ∙ ready_hidden us s t
 
 -- ---- Of states in which the same threads are ready.
 module _ (t : TraceValue) (es : List Entry) (a b : State) (same : (n : ℕ) → is_ready a n ≡ is_ready b n) where

@@ -18,23 +18,12 @@ use Rattle.trace_session.specs.declared.runs.RunError.{RunError}
 use Rattle.trace_session.specs.declared.runs.RunError.TheVariants.{Stalled, NoMemory}
 use Rattle.driver_core.specs.declared.machine.Run.{Run}
 use Rattle.shared_driver.specs.declared.tokens.Shared.{Shared}
-use Rattle.shared_driver.specs.declared.tokens.Thread.{Thread}
-use Rattle.shared_driver.specs.Tokens.{Includes, IsOf, Learns, Owns, Token, mine, token_of}
+use Rattle.shared_driver.specs.Tokens.{Includes, Learns, Owns, Token, token_of}
 use Rattle.play_threads.specs.declared.plays.Reached.TheVariants.{End, Stall, Neither}
 use Rattle.play_threads.specs.declared.workers.Worker.{Worker}
 use Rattle.play_threads.specs.Picks.{has_stalled}
 use Rattle.play_threads.specs.Plays.{IsReady, IsRunOf, IsStalledRunOf, IsThrough, OwnersPlay, reached_by}
 use Rattle.play_threads.proofs.WorkLaws.{none_of, not_owned, plays_past, plays_without}
-
--- a worker with a token that has made no call
-pub ready_with : (t : TraceValue) (s : Shared) (w : Worker) (x : Thread) → w.thread ≡ x → IsOf s x → (w.wanted ≡ false → (token_of x).number < t.threads) → mine (token_of x) ≡ [] → (token_of x).ended ≡ [] → (token_of x).tail ≡ [] → IsReady t s w
-ready_with t s w x same owns number none ended tail = record {
-  owns = let P : Thread → Type 0 = λ y. IsOf s y in subst P (sym same) owns;
-  number = λ e. let P : Thread → Type 0 = λ y. (token_of y).number < t.threads in subst P (sym same) (number e);
-  mine = let P : Thread → Type 0 = λ y. mine (token_of y) ≡ [] in subst P (sym same) none;
-  ended = let P : Thread → Type 0 = λ y. (token_of y).ended ≡ [] in subst P (sym same) ended;
-  tail = let P : Thread → Type 0 = λ y. (token_of y).tail ≡ [] in subst P (sym same) tail;
-}
 
 -- a worker that made no call is through
 pub unbegun : (t : TraceValue) (s : Shared) (w : Worker) → IsReady t s w → IsThrough t s w

@@ -13,6 +13,12 @@ use Rattle.egl_calls.specs.contracts.calls.Call.TheInside as inside
 use Rattle.surface_store.specs.contracts.windows.WindowSpec as window
 use Rattle.trace_reader.specs.contracts.traces.Reference as reference
 use Rattle.trace_reader.specs.contracts.traces.Line as line
+use Rattle.trace_reader.specs.contracts.line_calls.Packed as packed
+use Rattle.trace_reader.specs.contracts.line_calls.LineCall as line_call
+use Rattle.trace_reader.specs.contracts.line_calls.LineCall.TheInside as call_inside
+use Rattle.trace_reader.specs.contracts.line_uses.Kept as kept
+use Rattle.trace_reader.specs.contracts.line_uses.LineUses as line_uses
+use Rattle.trace_reader.specs.contracts.line_uses.LineUses.TheInside as uses_inside
 use Rattle.trace_reader.specs.contracts.traces.Trace as trace
 use Rattle.trace_session.specs.contracts.chains.Chains as chains
 use Rattle.atomic_table.proofs.shared.Seat.TheSendSync as seat
@@ -40,11 +46,33 @@ inside_sync = recorded_sync _ inside.the_type.D inside.the_type.to inside.the_ty
 pub call_sync : IsSync call.the_row
 call_sync = view_sync _ _ _ _ _ inside_sync
 
+pub reference_sync : IsSync (reference.the_field).row
+reference_sync = search (sendable, crosses) depth 60 fits 20000
+
 pub uses_sync : IsSync (list.the_row reference.the_row)
 uses_sync = search (sendable, crosses) depth 60 fits 20000
 
+-- the call of a line, and its references
+pub packed_sync : IsSync (packed.the_field).row
+packed_sync = let a = kind_sync in let b = numbers_sync in let d = payload_sync in search (sendable, crosses) depth 60 fits 40000
+
+pub packed_inside_sync : IsSync call_inside.the_row
+packed_inside_sync = recorded_sync _ call_inside.the_type.D call_inside.the_type.to call_inside.the_type.to_one (struct_sync (declared.shape call_inside.the_type) (packed_sync, tt))
+
+pub line_call_sync : IsSync line_call.the_row
+line_call_sync = view_sync _ _ _ _ _ packed_inside_sync
+
+pub kept_sync : IsSync (kept.the_field).row
+kept_sync = let a = reference_sync in let b = uses_sync in search (sendable, crosses) depth 60 fits 40000
+
+pub kept_inside_sync : IsSync uses_inside.the_row
+kept_inside_sync = recorded_sync _ uses_inside.the_type.D uses_inside.the_type.to uses_inside.the_type.to_one (struct_sync (declared.shape uses_inside.the_type) (kept_sync, tt))
+
+pub line_uses_sync : IsSync line_uses.the_row
+line_uses_sync = view_sync _ _ _ _ _ kept_inside_sync
+
 pub line_sync : IsSync line.the_row
-line_sync = let a = call_sync in let b = uses_sync in search (sendable, crosses) depth 60 fits 20000
+line_sync = let a = line_call_sync in let b = line_uses_sync in search (sendable, crosses) depth 60 fits 20000
 
 pub window_sync : IsSync window.the_row
 window_sync = search (sendable, crosses) depth 60 fits 20000

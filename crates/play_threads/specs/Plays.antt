@@ -14,10 +14,10 @@ use Rattle.play_threads.specs.declared.plays.Reached.{Reached}
 use Rattle.play_threads.specs.declared.plays.Reached.TheVariants.{End, Stall, Neither}
 use Rattle.play_threads.specs.declared.workers.Worker.{Worker}
 
--- a worker that has made no call. Where memory isn't wanted, its number is that of a thread of the trace
+-- a worker that has made no call. Its number is that of a thread of the trace
 pub record IsReady (t : TraceValue) (s : Shared) (w : Worker) : Type 0 where
   pub owns : IsOf s w.thread
-  pub number : w.wanted ≡ false → (token_of w.thread).number < t.threads
+  pub number : (token_of w.thread).number < t.threads
   pub mine : mine (token_of w.thread) ≡ []
   pub ended : (token_of w.thread).ended ≡ []
   pub tail : (token_of w.thread).tail ≡ []
@@ -25,7 +25,7 @@ pub record IsReady (t : TraceValue) (s : Shared) (w : Worker) : Type 0 where
 -- a worker that is through. Where memory wasn't wanted, its thread plays its lines in what it has seen
 pub record IsThrough (t : TraceValue) (s : Shared) (w : Worker) : Type 0 where
   pub owns : IsOf s w.thread
-  pub number : w.wanted ≡ false → (token_of w.thread).number < t.threads
+  pub number : (token_of w.thread).number < t.threads
   pub plays : w.wanted ≡ false → PlaysAs t (token_of w.thread).number (token_of w.thread).seen
   pub ended : (token_of w.thread).ended ≡ []
   pub tail : (token_of w.thread).tail ≡ []

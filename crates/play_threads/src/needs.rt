@@ -71,8 +71,8 @@ impl<'a> Needs<'a> {
         if let Some(mark) = self.missing(session, line) {
             return Wanted::Answer(mark);
         }
-        if matches!(line.call.kind, Kind::Own(OwnKind::Await)) {
-            return Wanted::Post(unsigned(line.call.args[POSTED]));
+        if matches!(line.call.kind(), Kind::Own(OwnKind::Await)) {
+            return Wanted::Post(unsigned(line.call.args()[POSTED]));
         }
         Wanted::Entry
     }

@@ -14,7 +14,7 @@ ghost use Rattle.play_threads.specs.Picks.{GoesOn, HasLearnt, IsPickOf, MayLook,
 
 use crate::needs::Needs;
 use driver_core::Driver;
-use egl_calls::{Entry, Journal, NoMemory, Outcome, Reply};
+use egl_calls::{Entry, Journal, NoMemory, Reply, is_waiting};
 use shared_driver::{Pick, Picker, Wanted};
 use std::alloc::Global;
 use trace_reader::{Line, Trace};
@@ -166,17 +166,8 @@ impl<'a> LinePicker<'a> {
         ensures same { (self.new.thread ≡ self.old.thread) × (self.new.session.trace ≡ self.old.session.trace) × (self.new.learnt ≡ self.old.learnt) × (self.new.halted ≡ self.old.halted) }
         ensures knows { (es : List AnEntry) (l : ALine) → Knows es self.old.session → next_line self.old.session.trace.lines es self.old.thread ≡ Some l → OnOk result (Knows (es ++ entry self.old.thread l.number (next_call self.old.session.trace.lines es self.old.thread l) reply ∷ []) self.new.session) }
     {
-        let Some(mark) = self.session.next(self.thread) else {
-            return Ok(());
-        };
-        self.waits = matches!(reply.outcome, Outcome::Waiting);
-        let entry = Entry {
-            thread: self.thread,
-            mark,
-            call: self.session.call(self.alloc, self.thread)?,
-            reply,
-        };
-        self.session.learn(self.alloc, &entry)
+        self.waits = is_waiting(reply.outcome);
+        self.session.learn_next(self.alloc, self.thread, reply)
     }
 }
 

@@ -1,5 +1,5 @@
 //! The run of all threads of a trace at once.
-ghost use Rattle.std.specs.Prelude.{◌≡◌, IfOk, IfErr};
+ghost use Rattle.std.specs.Prelude.{◌≡◌, ◌<◌, IfOk, IfErr};
 ghost use Rattle.egl_model.specs.History.{IsLegalFrom, replay_from};
 ghost use Rattle.trace_reader.specs.Traces.{TraceValue};
 ghost use Rattle.trace_model.specs.Follows.{Follows};
@@ -46,7 +46,7 @@ fn close<R: Wait>(rt: &R, shared: Shared, mut thread: Thread) -> Closed
     unreachable!()
 }
 
-// Plays a trace by workers, as far as they come.
+// Plays a trace by workers, as far as they come. The driver is for as many tokens as the trace has threads.
 fn run<R: Threads + Wait + Sync, G: Gate + Sync>(
     rt: &R,
     alloc: Global,
@@ -57,9 +57,13 @@ fn run<R: Threads + Wait + Sync, G: Gate + Sync>(
     requires { AreChains trace.now chains.now }
     ensures { IfOk result (IsRunOf trace.now) }
 {
-    // That a trace's windows and limit of bytes are within bounds stands on `lines`.
-    trace.lines();
-    let Opened { shared, thread } = Shared::open(alloc, trace.windows(), trace.video())?;
+    trace.in_order();
+    let Opened { shared, thread } = Shared::open_for(
+        alloc,
+        trace.windows(),
+        trace.video(),
+        trace.threads(),
+    )?;
     let Gathered { thread, wanted } = play_together(
         rt, alloc, trace, chains, gate, &shared, thread,
     );
@@ -98,8 +102,7 @@ pub fn play<R: Threads + Wait + Sync, G: Gate + Sync>(
     ensures complete { IfOk result (λ r. IsRunOf trace.now r × IsComplete trace.now r.journal.entries) }
     ensures stalled { IfErr result (IsStalledRunOf trace.now) }
 {
-    // That a trace's lines are in order stands on `lines`.
-    trace.lines();
+    trace.in_order();
     let Ok(chains) = Chains::shared(alloc, trace) else {
         return Err(RunError::NoMemory);
     };

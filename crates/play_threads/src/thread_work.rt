@@ -43,8 +43,7 @@ fn play_lines<R: Wait, G: Gate>(
     ensures calm { has_given_up (token_of thread.new) ≡ false }
     ensures over { OnOk result (IsOver trace.now (token_of thread.new).seen (state_behind trace.now (token_of thread.new).seen) (token_of thread.old).number) }
 {
-    // That a trace's lines are in order stands on `lines`.
-    trace.lines();
+    trace.in_order();
     a_token_keeps_its_own_calls(thread);
     let number = thread.number();
     let mut picker = LinePicker::new(alloc, trace, chains, number)?;
@@ -89,8 +88,7 @@ pub fn work<R: Wait, G: Gate>(
     ensures over { OnOk result (IsOver trace.now (token_of thread.new).seen (state_behind trace.now (token_of thread.new).seen) (token_of thread.old).number) }
     ensures gave_up { OnErr result (GaveUp trace.now (token_of thread.old).number (token_of thread.new).seen) }
 {
-    // That a trace's lines are in order stands on `lines`.
-    trace.lines();
+    trace.in_order();
     match play_lines(shared, thread, rt, alloc, trace, chains, gate) {
         Ok(()) => Ok(()),
         Err(error) => {

@@ -2,7 +2,7 @@
 ghost use Rattle.std.specs.Prelude.{◌≡◌, ◌<◌, ◌+◌, ◌-◌, [], true, false, All, vec_len, vec_capacity};
 ghost use Rattle.egl_model.specs.State.{opening};
 ghost use Rattle.trace_session.specs.Chains.{AreChains};
-ghost use Rattle.shared_driver.specs.Tokens.{IsOf, mine, opening_of, token_of};
+ghost use Rattle.shared_driver.specs.Tokens.{IsOf, mine, most_of, opening_of, token_of};
 ghost use Rattle.play_threads.specs.Plays.{IsReady, IsThrough, OwnersPlay};
 
 use crate::gates::Gate;
@@ -28,15 +28,6 @@ pub(crate) struct Gathered {
     pub(crate) wanted: bool,
 }
 
-// A worker with a token, unless memory is wanted already. That nobody else makes tokens isn't known of the driver: one whose number is none of the trace's threads has no work.
-fn worker_with(thread: Thread, threads: u32, wanted: bool) -> Worker
-    ensures thread { result.thread ≡ thread }
-    ensures wanted { result.wanted ≡ false → (token_of thread).number < threads }
-{
-    let wanted = wanted || thread.number() >= threads;
-    Worker { thread, wanted }
-}
-
 // Makes workers for all threads but the first, in the room that there is. False exactly where one can't be made.
 fn hire<R: Wait>(
     rt: &R,
@@ -46,12 +37,14 @@ fn hire<R: Wait>(
     trace: &Trace,
 ) -> bool
     requires owns { IsOf shared.now first.old }
+    requires most { most_of shared.now ≡ trace.now.threads }
     requires mine { mine (token_of first.old) ≡ [] }
     requires ended { (token_of first.old).ended ≡ [] }
     requires tail { (token_of first.old).tail ≡ [] }
     requires workers { All (IsReady trace.now shared.now) workers.old.items }
     requires room { vec_len workers.old + trace.now.threads < vec_capacity workers.old }
     ensures owns { IsOf shared.now first.new }
+    ensures number { (token_of first.new).number ≡ (token_of first.old).number }
     ensures mine { mine (token_of first.new) ≡ [] }
     ensures ended { (token_of first.new).ended ≡ [] }
     ensures tail { (token_of first.new).tail ≡ [] }
@@ -60,12 +53,14 @@ fn hire<R: Wait>(
     ensures all { result ≡ true → vec_len workers.new ≡ vec_len workers.old + (trace.now.threads - 1) }
     ensures some { result ≡ false → vec_len workers.new < vec_len workers.old + (trace.now.threads - 1) }
 {
-    let threads = trace.threads();
-    'attaching: for _thread in 1..threads {
+    'attaching: for _thread in 1..trace.threads() {
         let Ok(thread) = shared.attach(first, rt) else {
             return false;
         };
-        workers.push_reserved(worker_with(thread, threads, false));
+        workers.push_reserved(Worker {
+            thread,
+            wanted: false,
+        });
     }
     true
 }
@@ -180,6 +175,8 @@ pub(crate) fn play_together<R: Threads + Wait + Sync, G: Gate + Sync>(
     requires owns { IsOf shared.now first }
     requires chains { AreChains trace.now chains.now }
     requires opening { opening_of shared.now ≡ opening trace.now.windows trace.now.video }
+    requires most { most_of shared.now ≡ trace.now.threads }
+    requires number { (token_of first).number < trace.now.threads }
     requires mine { mine (token_of first) ≡ [] }
     requires ended { (token_of first).ended ≡ [] }
     requires tail { (token_of first).tail ≡ [] }
@@ -193,7 +190,10 @@ pub(crate) fn play_together<R: Threads + Wait + Sync, G: Gate + Sync>(
         };
     };
     let hired = hire(rt, shared, &mut first, &mut workers, trace);
-    workers.push_reserved(worker_with(first, trace.threads(), !hired));
+    workers.push_reserved(Worker {
+        thread: first,
+        wanted: !hired,
+    });
     run_all(rt, alloc, trace, chains, gate, shared, &mut workers, hired);
     match workers.pop() {
         Some(last) => gather(rt, shared, last, workers, trace),

@@ -33,7 +33,7 @@ use Rattle.egl_model.specs.State.{State, object_at}
 use Rattle.model_laws.proofs.NameLaws.{names_at, names_deleted}
 use Rattle.model_laws.proofs.Places.{same_at_set}
 use Rattle.model_laws.proofs.TextureLaws.{changed_at}
-use Rattle.driver_core.specs.Touches.{detached_framebuffer, is_attached, is_one_attached, object, objects_named}
+use Rattle.driver_facts.specs.Touches.{detached_framebuffer, is_attached, is_one_attached, object, objects_named}
 use Rattle.race_report.proofs.WordLaws.{contains_first}
 
 -- ---- What isn't attached isn't detached.

@@ -5,7 +5,7 @@ use Rattle.std.specs.Prelude.{All}
 use Rattle.egl_calls.specs.declared.entries.Entry.{Entry}
 use Rattle.trace_reader.specs.declared.traces.Line.{Line}
 use Rattle.race_report.specs.declared.events.Event.{Event}
-use Rattle.driver_core.specs.declared.touches.Touches.{Touches}
+use Rattle.driver_facts.specs.declared.touches.Touches.{Touches}
 use Rattle.race_report.specs.Events.{event_of, events_in, events_of}
 
 abbrev IsFew : Event → Type 0

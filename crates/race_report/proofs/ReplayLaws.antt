@@ -1,5 +1,5 @@
 -- What the entries of a journal touch.
-use Rattle.std.proofs.Common.{◌≡◌, ℕ, suc, ◌<◌, ◌∙◌, List, [], ◌∷◌, length, refl, ap, arith}
+use Rattle.std.proofs.Common.{◌≡◌, suc, ◌<◌, ◌∙◌, List, [], ◌∷◌, length, refl, ap, arith}
 use Rattle.std.proofs.lemmas.List.Elements.{All-same, All-weaker}
 use Rattle.std.specs.Prelude.{All}
 use Rattle.egl_calls.specs.declared.entries.Entry.{Entry}
@@ -7,7 +7,7 @@ use Rattle.egl_model.specs.State.{State}
 use Rattle.egl_model.specs.Step.{step}
 use Rattle.trace_reader.specs.Traces.{TraceValue}
 use Rattle.trace_reader.specs.Order.{IsTrace}
-use Rattle.driver_core.specs.declared.touches.Touches.{Touches}
+use Rattle.driver_facts.specs.declared.touches.Touches.{Touches}
 use Rattle.race_report.specs.Replays.{touched_from}
 
 touched_each : (s : State) (es : List Entry) → length (touched_from s es) ≡ length es

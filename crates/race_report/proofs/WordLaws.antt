@@ -10,7 +10,7 @@ use Rattle.trace_reader.specs.declared.traces.Line.{Line}
 use Rattle.trace_reader.specs.declared.traces.Reference.{Reference}
 use Rattle.race_report.specs.declared.events.Event.{Event}
 use Rattle.race_report.specs.Order.{Leads}
-use Rattle.driver_core.specs.declared.touches.Touches.{Touches}
+use Rattle.driver_facts.specs.declared.touches.Touches.{Touches}
 use Rattle.race_report.specs.Leading.{variable_place, is_played_by, uses_of, used_places, awaited_place, maker_place, waited_by, behind_of}
 use Rattle.race_report.specs.Events.{event_of, events_in, events_of}
 use Rattle.race_report.specs.Words.{UsesAnswer, LeadsIn}

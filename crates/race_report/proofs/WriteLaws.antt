@@ -1,5 +1,6 @@
 -- What a call changes of objects and windows is among what it writes.
 use Rattle.std.proofs.Common.{◌≡◌, ℕ, zero, suc, ◌<◌, ◌≤◌, ◌⊎◌, inl, inr, ℤ, pos, Bool, true, false, List, [], ◌∷◌, ◌++◌, length, get_or, set, refl, sym, ap, ◌∙◌, arith, subst, Option, None, Some}
+use Rattle.egl_calls.specs.Errors.{is_done}
 use Rattle.std.specs.Prelude.{if◌then◌else◌, ◌==◌, ◌&&◌, not}
 use Rattle.std.specs.List.{Contains}
 use Rattle.std.specs.Option.{option_map_or}
@@ -82,10 +83,10 @@ use Rattle.egl_model.specs.Textures.{change_pixels}
 use Rattle.egl_model.specs.Waits.{is_signalled, is_wait_end, waiting}
 use Rattle.egl_model.specs.Windows.{swapped_surface, swapped_with}
 use Rattle.model_laws.proofs.SweepLaws.{length-swept, object_at-swept}
-use Rattle.driver_core.proofs.TouchLaws.{gl_never_waits}
-use Rattle.driver_core.specs.Touches.{buffer_touches_on, drawing, egl_touches, front, gl_touches, gl_touches_on, is_attached, is_done, nothing, object, object_touches, own_touches, swap_of, swap_with, target_objects, touches_by, touches_by_class, touches_of}
+use Rattle.driver_facts.proofs.TouchLaws.{gl_never_waits}
+use Rattle.driver_facts.specs.Touches.{buffer_touches_on, drawing, egl_touches, front, gl_touches, gl_touches_on, is_attached, nothing, object, object_touches, own_touches, swap_of, swap_with, target_objects, touches_by, touches_by_class, touches_of}
 use Rattle.race_report.specs.Writes.{IsAsItWas, IsWrittenBy, Shows, Spares, StaysOrGoes}
-use Rattle.driver_core.specs.declared.touches.Touches.{Touches}
+use Rattle.driver_facts.specs.declared.touches.Touches.{Touches}
 use Rattle.race_report.proofs.DetachLaws.{CountsDetached, counts_all, counts_later, unattached}
 use Rattle.race_report.proofs.WordLaws.{contains_first, contains_later}
 

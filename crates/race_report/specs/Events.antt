@@ -3,7 +3,7 @@ use Rattle.std.specs.Prelude.{List, [], ◌∷◌}
 use Rattle.egl_calls.specs.declared.entries.Entry.{Entry}
 use Rattle.trace_reader.specs.declared.traces.Line.{Line}
 use Rattle.race_report.specs.declared.events.Event.{Event}
-use Rattle.driver_core.specs.declared.touches.Touches.{Touches}
+use Rattle.driver_facts.specs.declared.touches.Touches.{Touches}
 use Rattle.race_report.specs.Leading.{behind_of}
 
 -- the event of an entry of a journal

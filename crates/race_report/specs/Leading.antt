@@ -12,10 +12,10 @@ use Rattle.egl_calls.specs.declared.kinds.OwnKind.TheVariants.{WaitEnd}
 use Rattle.egl_names.specs.declared.codes.TheConstants.{EGL_CONDITION_SATISFIED}
 use Rattle.egl_calls.specs.declared.places.TheConstants.{NAMED, POSTED}
 use Rattle.egl_model.specs.Arguments.{number}
-use Rattle.driver_core.specs.Touches.{is_done}
+use Rattle.egl_calls.specs.Errors.{is_done, is_waiting}
 use Rattle.trace_reader.specs.declared.traces.Line.{Line}
 use Rattle.trace_reader.specs.declared.traces.Reference.{Reference}
-use Rattle.trace_model.specs.Resolve.{is_waiting, answers, assigns}
+use Rattle.trace_model.specs.Resolve.{answers, assigns}
 use Rattle.trace_model.specs.Turns.{is_await, posts}
 
 -- ---- Variables.

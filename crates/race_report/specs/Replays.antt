@@ -4,8 +4,8 @@ use Rattle.egl_calls.specs.declared.entries.Entry.{Entry}
 use Rattle.egl_model.specs.State.{State, opening}
 use Rattle.egl_model.specs.Step.{step}
 use Rattle.trace_reader.specs.Traces.{TraceValue}
-use Rattle.driver_core.specs.declared.touches.Touches.{Touches}
-use Rattle.driver_core.specs.Touches.{touches_of}
+use Rattle.driver_facts.specs.declared.touches.Touches.{Touches}
+use Rattle.driver_facts.specs.Touches.{touches_of}
 use Rattle.race_report.specs.declared.events.Event.{Event}
 use Rattle.race_report.specs.declared.reports.Pair.{Pair}
 use Rattle.race_report.specs.Events.{events_of}

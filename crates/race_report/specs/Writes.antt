@@ -7,8 +7,8 @@ use Rattle.surface_store.specs.Windows.{WindowValue}
 use Rattle.surface_store.specs.WindowTables.{window_at}
 use Rattle.egl_model.specs.Objects.{as_buffer, as_framebuffer, as_renderbuffer, as_storage, as_texture}
 use Rattle.egl_model.specs.State.{State}
-use Rattle.driver_core.specs.Touches.{front}
-use Rattle.driver_core.specs.declared.touches.Touches.{Touches}
+use Rattle.driver_facts.specs.Touches.{front}
+use Rattle.driver_facts.specs.declared.touches.Touches.{Touches}
 
 -- a value is as it was, or is gone
 abbrev pub StaysOrGoes : {A : Type 0} → Option A → Option A → Type 0

@@ -7,11 +7,11 @@ ghost use Rattle.egl_model.specs.Step.{step};
 ghost use Rattle.trace_reader.specs.declared.traces.Line.{Line as ALine};
 ghost use Rattle.race_report.specs.declared.events.Event.{Event as AnEvent};
 ghost use Rattle.race_report.specs.declared.reports.Pair.{Pair as APair};
-ghost use Rattle.driver_core.specs.declared.touches.Touches.{Touches as TheTouches};
+ghost use Rattle.driver_facts.specs.declared.touches.Touches.{Touches as TheTouches};
 ghost use Rattle.race_report.specs.Events.{events_of};
 ghost use Rattle.race_report.specs.Order.{Leads};
 ghost use Rattle.race_report.specs.Races.{AreRaces};
-ghost use Rattle.driver_core.specs.Touches.{touches_of};
+ghost use Rattle.driver_facts.specs.Touches.{touches_of};
 ghost use Rattle.race_report.specs.Words.{LeadsIn};
 ghost use Rattle.race_report.specs.Writes.{IsWrittenBy};
 

@@ -3,28 +3,18 @@ ghost use Rattle.std.specs.Prelude.{◌≡◌, ◌++◌, Some, find, option_copi
 ghost use Rattle.std.specs.List.{position_from};
 ghost use Rattle.std.specs.Option.{option_to_list};
 ghost use Rattle.egl_model.specs.Arguments.{number};
-ghost use Rattle.trace_model.specs.Resolve.{answers, assigns, is_waiting};
-ghost use Rattle.trace_model.specs.Turns.{is_await, posts};
-ghost use Rattle.driver_core.specs.Touches.{is_done};
-ghost use Rattle.race_report.specs.Leading.{last_from, variable_place, ArePlaces, is_played_by, uses_of, used_places, awaited_place, makes, begins, named, is_satisfied, named_by, waited_by, maker_place, behind_of};
+ghost use Rattle.trace_model.specs.Resolve.{answers, assigns};
+ghost use Rattle.trace_model.specs.Turns.{posts};
+ghost use Rattle.egl_calls.specs.Errors.{is_done, is_waiting};
+ghost use Rattle.race_report.specs.Leading.{last_from, variable_place, ArePlaces, is_played_by, uses_of, used_places, awaited_place, makes, begins, is_satisfied, named_by, waited_by, maker_place, behind_of};
 
 use egl_calls::places::{NAMED, POSTED};
-use egl_calls::{Call, EglKind, Entry, Kind, List, NoMemory, Outcome, OwnKind, Reply, unsigned};
+use egl_calls::{
+    Call, EglKind, Entry, Kind, List, NoMemory, OwnKind, Reply, is_done, is_waiting, unsigned,
+};
 use egl_names::codes::EGL_CONDITION_SATISFIED;
 use std::alloc::Global;
 use trace_reader::{Line, Reference};
-
-fn is_done(outcome: Outcome) -> bool
-    ensures { result ≡ is_done outcome }
-{
-    matches!(outcome, Outcome::Done)
-}
-
-fn is_waiting(outcome: Outcome) -> bool
-    ensures { result ≡ is_waiting outcome }
-{
-    matches!(outcome, Outcome::Waiting)
-}
 
 fn answers(thread: u32, number: u64, entry: &Entry) -> bool
     ensures { result ≡ answers thread number entry.now }

@@ -1,6 +1,6 @@
 //! Draws of a texture's pixels (OES_draw_texture).
 
-ghost use Rattle.std.specs.Prelude.{◌≡◌, ℕ, ◌-◌, ◌<◌, ◌≤◌, true, length, slice_index_or, IsOk, OnOk, OnErr};
+ghost use Rattle.std.specs.Prelude.{◌≡◌, ℕ, ◌-◌, ◌<◌, true, length, slice_index_or, IsOk, OnOk, OnErr};
 ghost use Rattle.pixel_formats.specs.Formats.{base_of};
 ghost use Rattle.pixel_rows.specs.Images.{IsImage, IsSameShape, no_pixel, pixel_at};
 ghost use Rattle.pixel_rows.specs.Masks.{every};

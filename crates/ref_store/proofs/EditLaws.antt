@@ -1,5 +1,5 @@
 -- A node is changed where it stands.
-use Rattle.std.proofs.Common.{◌≡◌, ℕ, false, List, [], length, set, refl, sym, ap, ◌∙◌, Option, None, Some}
+use Rattle.std.proofs.Common.{◌≡◌, ℕ, false, List, [], set, refl, sym, ap, ◌∙◌, Option, None, Some}
 use Rattle.std.proofs.lemmas.List.{length-set, set-get_or}
 use Rattle.std.specs.Option.{option_map}
 use Rattle.ref_store.specs.Kept.{at, node_at, node_in, AllIn}

@@ -1,6 +1,5 @@
 //! What may be done to a node where it stands.
 
-ghost use Rattle.std.specs.Prelude.{◌≡◌, ℕ, List};
 ghost use Rattle.ref_store.specs.Edits.{CountsAs};
 
 use crate::nodes::Node;

@@ -1,5 +1,5 @@
 -- What is told of one row more.
-use Rattle.std.proofs.Common.{arith, ◌≡◌, ◌<◌, ◌+◌, ℕ, zero, suc, Bool, true, false, cond, List, [], ◌∷◌, length, take, Option, None, Some, slice_index_or, slice_set, refl, sym, ap, ◌∙◌}
+use Rattle.std.proofs.Common.{arith, ◌≡◌, ◌<◌, ℕ, zero, suc, true, false, cond, List, [], ◌∷◌, length, take, None, Some, slice_index_or, slice_set, sym, ap, ◌∙◌}
 use Rattle.refusal_rows.specs.Rows.{Row, held}
 
 -- the row that is read holds

@@ -1,6 +1,6 @@
 //! Tables of refusals: the rows of a call, each a condition and the error that it makes, in the order of the tests.
 //!
-//! Its tests are in `rule_check`.
+//! Its tests are in `topic_check`.
 #![tactic(auto)]
 
 mod rows;

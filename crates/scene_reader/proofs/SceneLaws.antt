@@ -12,9 +12,8 @@ use Rattle.trace_reader.specs.Payloads.{payload}
 use Rattle.trace_reader.specs.Words.{is_skipped, is_word, word_at, words}
 use Rattle.scene_reader.specs.declared.headers.Sides.{Sides}
 use Rattle.scene_reader.specs.declared.items.Item.{Item}
-use Rattle.scene_reader.specs.declared.lines.AtlasFrame.{AtlasFrame}
-use Rattle.scene_reader.specs.Items.{bytes_of, draws, draws_of, is_atlas, is_clip, is_item, is_new_atlas, is_scaled, is_tiled, texel_bytes, texture_bytes}
-use Rattle.scene_reader.specs.Scenes.{AreItems, IsRead, IsScene, IsSide, SceneValue, has_room}
+use Rattle.scene_reader.specs.Items.{bytes_of, draws, draws_of, is_atlas, is_clip, is_item, is_scaled, is_tiled, texel_bytes, texture_bytes}
+use Rattle.scene_reader.specs.Scenes.{IsRead, IsScene, IsSide, has_room}
 use Rattle.scene_reader.specs.Headers.{header_of, is_header, side_of, some_side}
 use Rattle.scene_reader.specs.Lines.{atlas_of, begins, clip_of, drawn_of, frame_of, integer_of, is_new, item_of, line_behind, natural_of, part_of, scaled_of, sized, tested, texels_of, tiled_of, with_item}
 use Rattle.scene_reader.specs.Grammar.{behind_header, line_then, read_items, scene, scene_of_lines, with_sides}

@@ -1,5 +1,5 @@
 -- The items of a scene, behind those of the lines before.
-use Rattle.std.specs.Prelude.{ℕ, ◌+◌, ◌*◌, Bool, true, false, ◌&&◌, ◌||◌, ◌==◌, nat_le, nat_lt, ℤ, pos, negsuc, int_le, List, [], ◌∷◌, length, is_none, if◌then◌else◌, sum_by, Option, None, Some}
+use Rattle.std.specs.Prelude.{ℕ, ◌+◌, ◌*◌, Bool, true, false, ◌&&◌, ◌||◌, ◌==◌, nat_le, ℤ, pos, negsuc, int_le, List, [], ◌∷◌, length, is_none, if◌then◌else◌, sum_by, Option, None, Some}
 use Rattle.scene_reader.specs.declared.items.Atlas.{Atlas}
 use Rattle.scene_reader.specs.declared.items.Part.{Part}
 use Rattle.scene_reader.specs.declared.items.ScaledPart.{ScaledPart}

@@ -1,5 +1,5 @@
 -- What the lines of a scene say.
-use Rattle.std.specs.Prelude.{ℕ, ◌+◌, Bool, ◌&&◌, ◌==◌, ℤ, List, [], ◌∷◌, ◌++◌, if◌then◌else◌, length, codes, Option, Result, Ok, Err, None, Some}
+use Rattle.std.specs.Prelude.{ℕ, ◌+◌, Bool, ◌==◌, ℤ, List, [], ◌∷◌, ◌++◌, if◌then◌else◌, length, codes, Option, Result, Ok, Err, None, Some}
 use Rattle.std.specs.Str.{bytes_eq}
 use Rattle.trace_reader.specs.declared.traces.Reason.{Reason}
 use Rattle.trace_reader.specs.declared.traces.Reason.TheVariants.{Argument, Limit, Name}

@@ -1,5 +1,5 @@
 //! Whole scenes.
-ghost use Rattle.std.specs.Prelude.{◌≡◌, ◌+◌, ◌<◌, ◌^◌, [], length};
+ghost use Rattle.std.specs.Prelude.{◌+◌, ◌<◌, ◌^◌, [], length};
 ghost use Rattle.std.specs.Str.Lines.{lines};
 ghost use Rattle.trace_reader.specs.Reading.{Gives};
 ghost use Rattle.scene_reader.specs.Grammar.{read_items, scene};

@@ -1,8 +1,8 @@
 //! Share groups.
-ghost use Rattle.std.specs.Prelude.{◌≡◌, ◌<◌, [], map, pos, length, All, slice_get, slice_index, is_some, IfOk, OnOk, OnErr, None, Some};
+ghost use Rattle.std.specs.Prelude.{◌≡◌, ◌<◌, [], map, pos, length, All, slice_index, is_some, IfOk, OnOk, OnErr, None, Some};
 ghost use Rattle.egl_calls.specs.Ranges.{IsNumber};
 ghost use Rattle.share_group.specs.Names as spec;
-ghost use Rattle.share_group.specs.Names.{after, given, object_of, objects_in, without, Rise};
+ghost use Rattle.share_group.specs.Names.{after, given, object_of, without, Rise};
 ghost use Rattle.share_group.specs.Groups.{edges_of, names_of, with_names};
 
 use crate::edges::{edge_in, total};

@@ -16,12 +16,13 @@ use Rattle.egl_model.specs.History.{IsLegalFrom, replay_from}
 use Rattle.egl_model.specs.Parts.{Private, part_of}
 use Rattle.egl_model.specs.State.{State}
 use Rattle.driver_core.specs.Machine.{outs}
-use Rattle.turn_lock.specs.Moves.{fresh}
+use Rattle.turn_lock.specs.Moves.{fresh, went}
 use Rattle.turn_lock.specs.Passes.{view_of}
 use Rattle.turn_lock.specs.declared.view.View.{View}
 use Rattle.shared_driver.specs.declared.cores.Core.{Core}
 use Rattle.shared_driver.specs.declared.tokens.Holding.{Holding}
-use Rattle.shared_driver.specs.Cores.{IsLegalAt, are_local, away_by, has_halted, of_number, origin, owed, part_after, room_for, start_in}
+use Rattle.shared_driver.specs.declared.tokens.AttachError.{AttachError}
+use Rattle.shared_driver.specs.Cores.{IsFull, IsLegalAt, are_local, away_by, has_halted, meaning, of_number, origin, owed, part_after, room_for, start_in}
 use Rattle.shared_driver.specs.Turns.{Begun, IsTurn}
 use Rattle.shared_driver.proofs.Histories.{legal_at, of_thread}
 use Rattle.shared_driver.proofs.Owned.{none_new}
@@ -140,6 +141,16 @@ new_token f t u z y v number p tail b is turn same new made part none =
 -- its number is that of the tokens made before
 number_is : (f : Core) (t u : Holding) (z : Core) (v : View Core Entry) (es : List Entry) → Begun f t u z → v ≡ fresh 258 es (view_of u.pass) → v.number ≡ z.driver.made
 number_is f t u z v es b new = ap (λ (q : View Core Entry). q.number) new ∙ ap (λ (q : View Core Entry). q.counts.made) b.view
+
+-- and below the limit of tokens
+pub below_limit : (f : Core) (t u : Holding) (z : Core) (v : View Core Entry) (es : List Entry) (number : ℕ) → Begun f t u z → v ≡ fresh 258 es (view_of u.pass) → number ≡ z.driver.made → number < z.tokens.most → v.number < f.tokens.most
+below_limit f t u z v es number b new made below = subst (λ (q : ℕ × ℕ). q.0 < q.1) (λ j. ((made ∙ sym (number_is f t u z v es b new)) j, b.within.limit j)) below
+
+-- what says that it is full says so of the limit that the lock began with, and of the tokens that its maker has counted then
+pub full_now : (f : Core) (t u w : Holding) (z y : Core) (e : AttachError) → Begun f t u z → view_of w.pass ≡ went meaning (view_of u.pass) y → IsFull z.tokens.most z.driver.made e → IsFull f.tokens.most (view_of w.pass).counts.made e
+full_now f t u w z y e b view h =
+    let made : (view_of w.pass).counts.made ≡ z.driver.made = ap (λ (q : View Core Entry). q.counts.made) view ∙ ap (λ (q : View Core Entry). q.counts.made) b.view in
+    subst (λ (q : ℕ × ℕ). IsFull q.0 q.1 e) (λ j. (b.within.limit j, sym made j)) h
 
 pub counted_before : (f : Core) (t u : Holding) (z : Core) (v : View Core Entry) (es : List Entry) → Begun f t u z → v ≡ fresh 258 es (view_of u.pass) → (view_of t.pass).counts.made ≤ v.number
 counted_before f t u z v es b new = subst (λ m. (view_of t.pass).counts.made ≤ m) (sym (number_is f t u z v es b new)) b.made_counted

@@ -90,7 +90,7 @@ after_entry f x y n mark own left c reply none added =
 -- the thread's own calls were handed in, and then a call was played, which may have left a draw
 pub adds_with : (f : Core) (t u w : Holding) (x y : Core) (mark : ℕ) (c : CallValue) (reply : ReplyValue) (room : ℕ) (left : Option Drawing) → Begun f t u x → w.pass ≡ u.pass → w.number ≡ u.number → w.tail.items ≡ []
     → reply ≡ (step x.driver.state u.number c).reply → IsLeft x.driver u.number c left y.driver → y.journal.entries ≡ (x.journal.entries ++ u.tail.items) ++ entry u.number mark c reply ∷ []
-    → y.rooms.items ≡ set x.rooms.items u.number room → y.promised ≡ owed y.rooms.items → y.promised ≤ y.journal.spare → y.live ≡ x.live → 0 < room → EndsWith f w y left
+    → y.rooms.items ≡ set x.rooms.items u.number room → y.promised ≡ owed y.rooms.items → y.promised ≤ y.journal.spare → y.tokens ≡ x.tokens → 0 < room → EndsWith f w y left
 adds_with f t u w x y mark c reply room None b pass number none replies left added rooms promised spare live enough = adds_ends f t u w x y mark c reply room b pass number none replies left added rooms promised spare live enough
 adds_with f t u w x y mark c reply room (Some d) b pass number none replies left added rooms promised spare live enough =
     let before = replay_from (origin f) (x.journal.entries ++ u.tail.items) in
@@ -107,7 +107,7 @@ adds_with f t u w x y mark c reply room (Some d) b pass number none replies left
 -- the same of a call that was picked
 pub picks_with : (f : Core) (t u w : Holding) (x m y : Core) (p : Pick) (r : Picked) (more : List Entry) (room : ℕ) (left : Option Drawing) → Begun f t u x → w.pass ≡ u.pass → w.number ≡ u.number → w.tail.items ≡ [] → IsTurn f m u.number [] → IsRoomed m y u.number
     → IsDone m u.number p r left y → y.journal.entries ≡ x.journal.entries ++ more → AreOf u.number more
-    → m.driver.made ≡ x.driver.made → y.live ≡ x.live → y.rooms.items ≡ set x.rooms.items u.number room → length w.tail.items < room → EndsWith f w y left
+    → m.driver.made ≡ x.driver.made → y.tokens ≡ x.tokens → y.rooms.items ≡ set x.rooms.items u.number room → length w.tail.items < room → EndsWith f w y left
 picks_with f t u w x m y p r more room None b pass number none turn roomed d added own made live rooms enough =
     may_end f t u w x y more room b pass number (subst (IsTurn f y u.number) (sym none) (done f m y u.number p r turn roomed d)) added own (done_made m y u.number p r None d ∙ made) live rooms enough
 picks_with f t u w x m y (Call mark c) (Replied reply) more room (Some d) b pass number none turn roomed h added own made live rooms enough =
@@ -158,7 +158,7 @@ unseen_end f y z u p d k out away =
     ∙ ap (hide (outs z.driver.away)) (sym k.drawn)
 
 pub returned_with : (f : Core) (u : Holding) (y z : Core) (p : Private) (left : Option Drawing) → EndsWith f u y left → GoesOut u.number y p z
-    → (z.driver.made ≡ y.driver.made) × (z.driver.away ≡ set y.driver.away u.number true) → (z.journal ≡ y.journal) × (z.live ≡ y.live) × (z.rooms ≡ y.rooms) × (z.promised ≡ y.promised) → Returns meaning f (view_of u.pass) z
+    → (z.driver.made ≡ y.driver.made) × (z.driver.away ≡ set y.driver.away u.number true) → (z.journal ≡ y.journal) × (z.tokens ≡ y.tokens) × (z.rooms ≡ y.rooms) × (z.promised ≡ y.promised) → Returns meaning f (view_of u.pass) z
 returned_with f u y z p None k out driver kept =
     let es = y.journal.entries ++ u.tail.items in
     returned f u y z k (out (replay_from (origin f) es) (ready_replay (origin f) u.number es k.turn.ready) k.turn.driver).1 driver kept
@@ -177,7 +177,7 @@ part_with f u y z p (Some d) k out =
 
 -- so the thread holds what it would, had the draw been made in the turn
 pub held_with : (f : Snapshot Core) (u w : Holding) (y z : Core) (p : Private) (left : Option Drawing) → EndsWith f.value u y left → GoesOut u.number y p z → (view_of u.pass).first ≡ Some f → IsFree w.pass → view_of w.pass ≡ went meaning (view_of u.pass) z
-    → (w.number ≡ u.number) × (w.tail ≡ u.tail) → w.part ≡ Some (part_drawn_late left p) → (z.journal ≡ y.journal) × (z.live ≡ y.live) × (z.rooms ≡ y.rooms) × (z.promised ≡ y.promised) → Holds w
+    → (w.number ≡ u.number) × (w.tail ≡ u.tail) → w.part ≡ Some (part_drawn_late left p) → (z.journal ≡ y.journal) × (z.tokens ≡ y.tokens) × (z.rooms ≡ y.rooms) × (z.promised ≡ y.promised) → Holds w
 held_with f u w y z p None k out is free view kept part same = held_again f u w y z k is free view kept (part ∙ ap (λ (x : Private). Some x) (part_with f.value u y z p None k out)) same
 held_with f u w y z p (Some d) k out is free view kept part same = held_again f u w _ z k.ends is free view kept (part ∙ ap (λ (x : Private). Some x) (part_with f.value u y z p (Some d) k out)) same
 

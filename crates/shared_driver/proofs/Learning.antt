@@ -1,12 +1,13 @@
 -- Turn after turn.
 use Rattle.std.proofs.Common.{◌≡◌, ◌⊎◌, ℕ, true, List, [], ◌∷◌, ◌++◌, ap, sym, ◌∙◌, subst}
+use Rattle.egl_calls.specs.Errors.{is_waiting}
 use Rattle.std.specs.Prelude.{All, Contains}
 use Rattle.std.proofs.lemmas.List.{append-nil, append_assoc}
 use Rattle.std.proofs.lemmas.List.Elements.{All-append}
 use Rattle.egl_calls.specs.declared.entries.Entry.{Entry}
 use Rattle.egl_calls.specs.Calls.{CallValue, ReplyValue}
 use Rattle.shared_driver.proofs.Owned.{mine_goes, own_one}
-use Rattle.shared_driver.specs.Cores.{entry, is_waiting, of_number, wait_end_call, wait_ended}
+use Rattle.shared_driver.specs.Cores.{entry, of_number, wait_end_call, wait_ended}
 use Rattle.shared_driver.specs.Tokens.{AnswersAfterWait, Goes, IsSame, Learns, Owns, Token, mine}
 
 pub same_twice : (t u w : Token) → IsSame t u → IsSame u w → IsSame t w

@@ -21,6 +21,7 @@ use Rattle.turn_lock.specs.Moves.{newcomer}
 use Rattle.turn_lock.specs.Values.{Begins, Leaves}
 use Rattle.turn_lock.specs.declared.view.View.{View}
 use Rattle.shared_driver.specs.declared.cores.Core.{Core}
+use Rattle.shared_driver.specs.declared.cores.TokenCount.{TokenCount}
 use Rattle.shared_driver.specs.Cores.{IsLegalAt, are_local, away_by, has_halted, meaning, origin, owed, part_after, room_for, start_in}
 use Rattle.shared_driver.specs.Tokens.{Owns, Token}
 use Rattle.shared_driver.proofs.Histories.{ready_at}
@@ -42,26 +43,28 @@ pub first_origin : (x y : Core) (windows : List WindowSpec) (video : ℕ) → x.
 first_origin x y windows video e k =
     (λ j. record (opening [] (k.1 j)) { windows = k.0 j }) ∙ ap (λ (s : State). record (opening [] s.video) { windows = s.windows }) e
 
-pub begins : (x y : Core) (windows : List WindowSpec) (video : ℕ) → (x.driver.state ≡ opening windows video) × (x.driver.made ≡ 1) × (x.driver.away ≡ false ∷ []) → (x.journal.entries ≡ []) × (257 ≤ x.journal.spare) → (x.live ≡ 1) × (x.rooms.items ≡ 258 ∷ []) × (x.promised ≡ 257)
+pub begins : (x y : Core) (windows : List WindowSpec) (video most : ℕ) → (1 ≤ most) × (most ≤ 65536) → (x.driver.state ≡ opening windows video) × (x.driver.made ≡ 1) × (x.driver.away ≡ false ∷ []) → (x.journal.entries ≡ []) × (257 ≤ x.journal.spare) → (x.tokens ≡ record { live = 1; most = most }) × (x.rooms.items ≡ 258 ∷ []) × (x.promised ≡ 257)
     → y.driver.state ≡ hide (outs y.driver.away) (opening windows video) → (y.driver.made ≡ x.driver.made) × (y.driver.away ≡ set x.driver.away 0 true) → (y.driver.state.windows ≡ x.driver.state.windows) × (y.driver.state.video ≡ x.driver.state.video)
-    → (y.journal ≡ x.journal) × (y.live ≡ x.live) × (y.rooms ≡ x.rooms) × (y.promised ≡ x.promised) → Begins meaning y
+    → (y.journal ≡ x.journal) × (y.tokens ≡ x.tokens) × (y.rooms ≡ x.rooms) × (y.promised ≡ x.promised) → Begins meaning y
 unfolding owed away_by
-begins x y windows video d j r driver away same kept =
+begins x y windows video most some d j r driver away same kept =
     let rooms : y.rooms.items ≡ 258 ∷ [] = ap (λ q. q.items) kept.2 ∙ r.1 in
+    let limit : y.tokens.most ≡ most = ap (λ (q : TokenCount). q.most) (kept.1 ∙ r.0) in
     record {
       stands = record {
         is = ap (λ q. q.entries) kept.0 ∙ j.0;
-        content = opening windows video;
-        leads = first_origin x y windows video d.0 same;
+        content = record { state = opening windows video; most = most };
+        leads = λ i. record { state = first_origin x y windows video d.0 same i; most = limit i };
         keeps = record {
           driver = driver;
           away = away.1 ∙ ap (λ (l : List Bool). set l 0 true) d.2 ∙ sym (ap away_by rooms);
           promised = kept.3 ∙ r.2 ∙ sym (ap owed rooms);
           spare = subst (λ (q : ℕ × ℕ). q.0 ≤ q.1) (λ i. (sym (kept.3 ∙ r.2) i, (sym kept.0 i).spare)) j.1;
+          within = record { limit = limit; made = subst (λ m. m ≤ most) (sym (away.0 ∙ d.1)) some.0; few = some.1 };
         };
       };
       made_is = away.0 ∙ d.1;
-      live_is = kept.1 ∙ r.0;
+      live_is = ap (λ (q : TokenCount). q.live) (kept.1 ∙ r.0);
       one_room = ap length rooms;
     }
 

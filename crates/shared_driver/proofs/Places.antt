@@ -1,5 +1,6 @@
 -- Calls that use a place take no memory, and begin no wait.
 use Rattle.std.proofs.Common.{◌≡◌, ℕ, true, false, cond, refl, ap}
+use Rattle.egl_calls.specs.Errors.{is_waiting}
 use Rattle.std.specs.Prelude.{Option, None, Some}
 use Rattle.egl_calls.specs.Calls.{CallValue}
 use Rattle.egl_calls.specs.declared.errors.EglError.{EglError}
@@ -21,8 +22,8 @@ use Rattle.egl_model.specs.GlFacts.{gl_refusal}
 use Rattle.egl_model.specs.State.{State, record_of}
 use Rattle.egl_model.specs.Step.{after_egl_rules, after_gl_rules, egl_step, gl_step, gl_step_on, step, step_by, step_in, wait_step}
 use Rattle.egl_model.specs.Waits.{is_signalled, is_wait_end}
-use Rattle.driver_core.specs.Memory.{takes_no_memory}
-use Rattle.shared_driver.specs.Cores.{is_waiting, takes_place}
+use Rattle.driver_facts.specs.Memory.{takes_no_memory}
+use Rattle.shared_driver.specs.Cores.{takes_place}
 
 egl_waits : (s : State) (t : ℕ) (o : Option EglError) (f : Effect) → f.waits ≡ false → is_waiting (after_egl_rules s t o f).reply.outcome ≡ false
 egl_waits s t (Some e) f h = refl

@@ -34,7 +34,7 @@ use Rattle.driver_objects.specs.contracts.textures.BackedTexture as texture
 use Rattle.object_table.specs.contracts.stored.Stored as stored
 use Rattle.object_table.specs.contracts.table.ObjectTable as objects
 use Rattle.surface_store.specs.contracts.window_tables.WindowTable as windows
-use Rattle.driver_core.specs.contracts.threads.ThreadTable as threads
+use Rattle.driver_facts.specs.contracts.threads.ThreadTable as threads
 use Rattle.driver_core.specs.contracts.machine.Driver as driver
 use Rattle.thread_part.specs.contracts.thread_part.ThreadPart as thread_part
 use Rattle.shared_driver.specs.contracts.cores.Core as core

@@ -1,6 +1,5 @@
 -- What stands for which history, between turns and in one.
-use Rattle.std.proofs.Common.{◌≡◌, ℕ, ◌≤◌, ◌<◌, Bool, true, false, zero, suc, List, [], ◌∷◌, ◌++◌, arith, refl, sym, ap, ◌∙◌, subst, inl, length, get_or, set}
-use Rattle.std.specs.Prelude.{All, Contains, slice_index}
+use Rattle.std.proofs.Common.{◌≡◌, ℕ, ◌+◌, ◌≤◌, ◌<◌, Bool, true, false, zero, suc, List, [], ◌∷◌, ◌++◌, arith, refl, sym, ap, ◌∙◌, subst, inl, length, get_or, set}
 use Rattle.std.specs.Prelude as std
 use Rattle.std.proofs.lemmas.List.{append-nil, length-set}
 use Rattle.egl_calls.specs.Calls.{CallValue, ReplyValue}
@@ -18,21 +17,38 @@ use Rattle.turn_lock.specs.Meaning.{Leads, StandsFor}
 use Rattle.turn_lock.specs.Views.{AreOthers}
 use Rattle.turn_lock.specs.declared.view.View.{View}
 use Rattle.shared_driver.specs.declared.cores.Core.{Core}
-use Rattle.shared_driver.specs.Cores.{are_local, away_by, entry, meaning, origin, owed}
+use Rattle.shared_driver.specs.declared.cores.TokenCount.{TokenCount}
+use Rattle.shared_driver.specs.Cores.{IsWithin, Kept, are_local, away_by, entry, meaning, origin, owed}
 use Rattle.shared_driver.specs.Turns.{IsTurn}
 use Rattle.shared_driver.proofs.Histories.{IsLate, comes_late, legal_first, legal_more, replay_more, ready_replay, stays_out}
 use Rattle.shared_driver.proofs.Rooms.{in_set, in_zero, is_out, out_again}
 
 -- ---- What entries lead to is the replay, and they are legal.
-leads_replay : (a c : State) (es : List Entry) → Leads meaning a es c → IsLegalFrom a es × (c ≡ replay_from a es)
-leads_replay a c [] h = (tt, sym h)
+leads_replay : (a c : Kept) (es : List Entry) → Leads meaning a es c → IsLegalFrom a.state es × (c.state ≡ replay_from a.state es) × (c.most ≡ a.most)
+leads_replay a c [] h = (tt, ap (λ (k : Kept). k.state) (sym h), ap (λ (k : Kept). k.most) (sym h))
 leads_replay a c (e ∷ es) h =
     let k = leads_replay h.0 c es h.2 in let s = h.1.1 in
-    ((h.1.0, subst (λ x. IsLegalFrom x es) s k.0), k.1 ∙ ap (λ x. replay_from x es) s)
+    ((h.1.0, subst (λ x. IsLegalFrom x es) (ap (λ (q : Kept). q.state) s) k.0), k.1 ∙ ap (λ (q : Kept). replay_from q.state es) s, k.2 ∙ ap (λ (q : Kept). q.most) s)
 
-leads_from : (a : State) (es : List Entry) → IsLegalFrom a es → Leads meaning a es (replay_from a es)
-leads_from a [] h = refl
-leads_from a (e ∷ es) h = ((step a e.thread e.call).state, (h.0, refl), leads_from (step a e.thread e.call).state es h.1)
+abbrev keeping : State → ℕ → Kept
+keeping s most = record { state = s; most = most }
+
+leads_from : (a : State) (most : ℕ) (es : List Entry) → IsLegalFrom a es → Leads meaning (keeping a most) es (keeping (replay_from a es) most)
+leads_from a most [] h = refl
+leads_from a most (e ∷ es) h = (keeping (step a e.thread e.call).state most, (h.0, refl), leads_from (step a e.thread e.call).state most es h.1)
+
+-- ---- Limits of tokens.
+-- no more tokens were made
+pub within_same : (most : ℕ) (x y : Core) → y.tokens.most ≡ x.tokens.most → y.driver.made ≡ x.driver.made → IsWithin most x → IsWithin most y
+within_same most x y limit made w = record { limit = limit ∙ w.limit; made = subst (λ m. m ≤ most) (sym made) w.made; few = w.few }
+
+-- one more was made
+pub within_more : (most : ℕ) (x y : Core) → y.tokens.most ≡ x.tokens.most → y.driver.made ≡ x.driver.made + 1 → x.driver.made < x.tokens.most → IsWithin most x → IsWithin most y
+within_more most x y limit made below w = let l = w.limit in record { limit = limit ∙ l; made = omega (arith, made, below, l); few = w.few }
+
+-- what makes one more asks of it
+pub may_admit : (most : ℕ) (x : Core) → IsWithin most x → (x.driver.made ≤ x.tokens.most) × (x.tokens.most ≤ 65536)
+may_admit most x w = let l = w.limit in let m = w.made in let f = w.few in (omega (arith, l, m), omega (arith, l, f))
 
 -- between turns a value stands for its history where that is legal, the driver stands for its replay outside the parts that are out, and the journal has room for what is promised
 pub record IsCore (first x : Core) : Type 0 where
@@ -41,27 +57,36 @@ pub record IsCore (first x : Core) : Type 0 where
   pub away : x.driver.away ≡ away_by x.rooms.items
   pub promised : x.promised ≡ owed x.rooms.items
   pub spare : x.promised ≤ x.journal.spare
+  pub within : IsWithin first.tokens.most x
 
 pub core_of : (first x : Core) → StandsFor meaning first x x.journal.entries → IsCore first x
-core_of first x s = let k = leads_replay (origin first) s.content x.journal.entries s.leads in
-    record { legal = k.0; driver = s.keeps.driver ∙ ap (hide (outs x.driver.away)) k.1; away = s.keeps.away; promised = s.keeps.promised; spare = s.keeps.spare }
+core_of first x s = let k = leads_replay (keeping (origin first) first.tokens.most) s.content x.journal.entries s.leads in
+    record {
+      legal = k.0;
+      driver = s.keeps.driver ∙ ap (hide (outs x.driver.away)) k.1;
+      away = s.keeps.away;
+      promised = s.keeps.promised;
+      spare = s.keeps.spare;
+      within = subst (λ m. IsWithin m x) k.2 s.keeps.within;
+    }
 
 pub stands_of : (first x : Core) → IsCore first x → StandsFor meaning first x x.journal.entries
 stands_of first x c = record {
   is = refl;
-  content = replay_from (origin first) x.journal.entries;
-  leads = leads_from (origin first) x.journal.entries c.legal;
-  keeps = record { driver = c.driver; away = c.away; promised = c.promised; spare = c.spare };
+  content = keeping (replay_from (origin first) x.journal.entries) first.tokens.most;
+  leads = leads_from (origin first) first.tokens.most x.journal.entries c.legal;
+  keeps = record { driver = c.driver; away = c.away; promised = c.promised; spare = c.spare; within = c.within };
 }
 
 -- x was lent as z
 pub lent_core : (f z x : Core) → z ≡ x → StandsFor meaning f x x.journal.entries → IsCore f z
 lent_core f z x is s = core_of f z (subst (λ (w : Core). StandsFor meaning f w w.journal.entries) (sym is) s)
 
--- a value that differs in its counts alone
-pub core_same : (f x y : Core) → IsCore f x → (y.driver ≡ x.driver) × (y.journal ≡ x.journal) × (y.rooms ≡ x.rooms) × (y.promised ≡ x.promised) → IsCore f y
-core_same f x y k same =
-    subst (λ (q : Core). IsCore f q) (λ j. record y { driver = sym same.0 j; journal = sym same.1 j; rooms = sym same.2 j; promised = sym same.3 j }) (record { legal = k.legal; driver = k.driver; away = k.away; promised = k.promised; spare = k.spare })
+-- a value that differs in how many tokens are live alone
+pub core_same : (f x y : Core) → IsCore f x → (y.driver ≡ x.driver) × (y.journal ≡ x.journal) × (y.rooms ≡ x.rooms) × (y.promised ≡ x.promised) → y.tokens.most ≡ x.tokens.most → IsCore f y
+core_same f x y k same limit =
+    subst (λ (q : Core). IsCore f q) (λ j. record y { driver = sym same.0 j; journal = sym same.1 j; rooms = sym same.2 j; promised = sym same.3 j })
+    (record { legal = k.legal; driver = k.driver; away = k.away; promised = k.promised; spare = k.spare; within = record { limit = limit ∙ k.within.limit; made = k.within.made; few = k.within.few } })
 
 pub others_of : (v : View Core Entry) (es : List Entry) → AreOthers meaning v es → AreOfOthers v.number es
 others_of v [] h = tt
@@ -79,7 +104,7 @@ found_late f x n v tail p r numbered k between others same legal local part insi
 -- the part was put back
 pub turn_begun : (f x y : Core) (n : ℕ) (tail : List Entry) (p : Private) → IsReady (origin f) n → IsCore f x → IsLate (origin f) n x.driver.away x.driver.state x.journal.entries tail p → n < length x.rooms.items → length x.rooms.items ≡ x.driver.made
     → y.driver.state ≡ hide (outs y.driver.away) (replay_from (origin f) (x.journal.entries ++ tail)) → (y.driver.made ≡ x.driver.made) × (y.driver.away ≡ set x.driver.away n false)
-    → (y.journal ≡ x.journal) × (y.live ≡ x.live) × (y.rooms ≡ x.rooms) × (y.promised ≡ x.promised) → IsTurn f y n tail
+    → (y.journal ≡ x.journal) × (y.tokens ≡ x.tokens) × (y.rooms ≡ x.rooms) × (y.promised ≡ x.promised) → IsTurn f y n tail
 turn_begun f x y n tail p r k late inside known driver away kept =
     let es : y.journal.entries ≡ x.journal.entries = ap (λ q. q.entries) kept.0 in
     let rooms : y.rooms.items ≡ x.rooms.items = ap (λ q. q.items) kept.2 in
@@ -159,9 +184,9 @@ turn_more f x y n mark c reply own k r replies driver added =
 
 -- ---- A turn ends.
 -- the part went out again
-pub turn_ended : (f y z : Core) (n : ℕ) (own : List Entry) → IsTurn f y n own → 0 < get_or y.rooms.items n 0 → z.driver.state ≡ hide (outs z.driver.away) (replay_from (origin f) (y.journal.entries ++ own))
-    → (z.driver.made ≡ y.driver.made) × (z.driver.away ≡ set y.driver.away n true) → (z.journal ≡ y.journal) × (z.live ≡ y.live) × (z.rooms ≡ y.rooms) × (z.promised ≡ y.promised) → IsCore f z
-turn_ended f y z n own k room driver away kept =
+pub turn_ended : (f y z : Core) (n : ℕ) (own : List Entry) → IsTurn f y n own → IsWithin f.tokens.most y → 0 < get_or y.rooms.items n 0 → z.driver.state ≡ hide (outs z.driver.away) (replay_from (origin f) (y.journal.entries ++ own))
+    → (z.driver.made ≡ y.driver.made) × (z.driver.away ≡ set y.driver.away n true) → (z.journal ≡ y.journal) × (z.tokens ≡ y.tokens) × (z.rooms ≡ y.rooms) × (z.promised ≡ y.promised) → IsCore f z
+turn_ended f y z n own k within room driver away kept =
     let es : z.journal.entries ≡ y.journal.entries = ap (λ q. q.entries) kept.0 in
     let rooms : z.rooms.items ≡ y.rooms.items = ap (λ q. q.items) kept.2 in
     let out : z.driver.away ≡ away_by z.rooms.items = away.1 ∙ ap (λ (l : List Bool). set l n true) k.away ∙ out_again y.rooms.items n k.number room ∙ ap away_by (sym rooms) in
@@ -172,11 +197,12 @@ turn_ended f y z n own k room driver away kept =
       away = out;
       promised = kept.3 ∙ k.promised ∙ ap owed (sym rooms);
       spare = subst (λ (q : ℕ × ℕ). q.0 ≤ q.1) (λ j. (sym kept.3 j, (sym kept.0 j).spare)) k.spare;
+      within = within_same f.tokens.most y z (ap (λ (q : TokenCount). q.most) kept.1) away.0 within;
     }
 
 -- the part stays in, and the room is 0
-pub turn_left : (f y z : Core) (n : ℕ) → IsTurn f y n [] → z.rooms.items ≡ set y.rooms.items n 0 → z.promised ≡ owed z.rooms.items → z.promised ≤ z.journal.spare → (z.driver ≡ y.driver) × (z.journal ≡ y.journal) × (z.live ≡ y.live) → IsCore f z
-turn_left f y z n k rooms promised spare kept =
+pub turn_left : (f y z : Core) (n : ℕ) → IsTurn f y n [] → IsWithin f.tokens.most y → z.rooms.items ≡ set y.rooms.items n 0 → z.promised ≡ owed z.rooms.items → z.promised ≤ z.journal.spare → (z.driver ≡ y.driver) × (z.journal ≡ y.journal) × (z.tokens ≡ y.tokens) → IsCore f z
+turn_left f y z n k within rooms promised spare kept =
     let es : y.journal.entries ++ [] ≡ z.journal.entries = append-nil y.journal.entries ∙ ap (λ q. q.entries) (sym kept.1) in
     record {
       legal = subst (IsLegalFrom (origin f)) es k.legal;
@@ -184,4 +210,5 @@ turn_left f y z n k rooms promised spare kept =
       away = ap (λ (m : Machine). m.away) kept.0 ∙ k.away ∙ sym (in_zero y.rooms.items n) ∙ ap away_by (sym rooms);
       promised = promised;
       spare = spare;
+      within = within_same f.tokens.most y z (ap (λ (q : TokenCount). q.most) kept.2) (ap (λ (m : Machine). m.made) kept.0) within;
     }

@@ -1,5 +1,5 @@
 -- How a turn begins and ends.
-use Rattle.std.proofs.Common.{◌≡◌, ℕ, ◌+◌, ◌-◌, ◌≤◌, ◌<◌, ◌||◌, Bool, true, false, List, [], ◌∷◌, ◌++◌, arith, refl, sym, ap, ◌∙◌, subst, length, get_or, set, Some, None}
+use Rattle.std.proofs.Common.{◌≡◌, ℕ, ◌+◌, ◌-◌, ◌≤◌, ◌<◌, Bool, true, false, List, [], ◌∷◌, ◌++◌, arith, refl, sym, ap, ◌∙◌, subst, length, get_or, set, Some, None}
 use Rattle.std.specs.Option.{option_and_then}
 use Rattle.std.specs.Prelude.{All, Contains, IfSome, slice_index, ◌⊎◌}
 use Rattle.std.specs.Prelude as std
@@ -23,9 +23,9 @@ use Rattle.turn_lock.specs.Passes.{HasCome, IsFree, view_of}
 use Rattle.turn_lock.specs.Values.{Finds, Returns}
 use Rattle.turn_lock.specs.Views as views
 use Rattle.turn_lock.specs.declared.pass.Pass.{Pass}
-use Rattle.turn_lock.specs.Views.{AreOthers, AreOwn}
 use Rattle.turn_lock.specs.declared.view.View.{View}
 use Rattle.shared_driver.specs.declared.cores.Core.{Core}
+use Rattle.shared_driver.specs.declared.cores.TokenCount.{TokenCount}
 use Rattle.shared_driver.specs.declared.tokens.Holding.{Holding}
 use Rattle.shared_driver.specs.Cores.{IsLegalAt, are_local, entry, meaning, origin, owed, part_after, room_for, start_in}
 use Rattle.shared_driver.specs.Tokens.{AreDisjoint, Goes, Includes, Learns, Token, mine}
@@ -34,7 +34,7 @@ use Rattle.driver_core.proofs.AwayLaws.{part-hide}
 use Rattle.shared_driver.proofs.Histories.{IsLate, legal_at, legal_from, of_thread, ready_at, ready_replay}
 use Rattle.shared_driver.proofs.Owned.{mine_goes, mine_learns, own_each, own_one, own_then}
 use Rattle.shared_driver.proofs.Rooms.{is_out, room_itself, set_twice}
-use Rattle.shared_driver.proofs.Standing.{IsCore, core_same, found_late, has_part, lent_core, stands_of, turn_begun, turn_ended, turn_left, turn_more, turn_same}
+use Rattle.shared_driver.proofs.Standing.{IsCore, core_same, found_late, has_part, lent_core, stands_of, turn_begun, turn_ended, turn_left, turn_more, turn_same, within_same}
 
 -- ---- A turn begins.
 -- what a thread holds, in the lock that it came from
@@ -96,7 +96,7 @@ part_in_turn f x n own k =
 -- once its part was put back
 pub begun : (f : Snapshot Core) (t u : Holding) (x z y : Core) (p : Private) → Holds t → (view_of t.pass).first ≡ Some f → Finds meaning f.value (view_of t.pass) x → z ≡ x → t.part ≡ Some p → HasCome meaning (view_of t.pass) x (view_of u.pass)
     → u.number ≡ t.number → u.tail ≡ t.tail → (y.driver.state ≡ hide (outs y.driver.away) (replay_from (origin f.value) (z.journal.entries ++ t.tail.items))) → (y.driver.made ≡ z.driver.made) × (y.driver.away ≡ set z.driver.away t.number false)
-    → (y.journal ≡ z.journal) × (y.live ≡ z.live) × (y.rooms ≡ z.rooms) × (y.promised ≡ z.promised) → Begun f.value t u y
+    → (y.journal ≡ z.journal) × (y.tokens ≡ z.tokens) × (y.rooms ≡ z.rooms) × (y.promised ≡ z.promised) → Begun f.value t u y
 begun f t u x z y p h is found lent some view number tail driver away kept =
     let v = view_of t.pass in
     let w = view_of u.pass in
@@ -104,7 +104,7 @@ begun f t u x z y p h is found lent some view number tail driver away kept =
     let es : x.journal.entries ≡ y.journal.entries = ap (λ (q : Core). q.journal.entries) (sym lent) ∙ ap (λ q. q.entries) (sym kept.0) in
     let rooms : x.rooms.items ≡ y.rooms.items = ap (λ (q : Core). q.rooms.items) (sym lent) ∙ ap (λ q. q.items) (sym kept.2) in
     let made : x.driver.made ≡ y.driver.made = ap (λ (q : Core). q.driver.made) (sym lent) ∙ sym away.0 in
-    let live : x.live ≡ y.live = ap (λ (q : Core). q.live) (sym lent) ∙ sym kept.1 in
+    let live : x.tokens.live ≡ y.tokens.live = ap (λ (q : Core). q.tokens.live) (sym lent) ∙ ap (λ (q : TokenCount). q.live) (sym kept.1) in
     let turn = subst (λ (q : ℕ × List Entry). IsTurn f.value y q.0 q.1) (λ j. (sym number j, (sym tail j).items)) (turn_begun f.value z y t.number t.tail.items p s.ready s.core s.late s.inside s.counted driver away kept) in
     let own : slice_index y.rooms.items u.number ≡ slice_index v.rooms v.number = ap (λ (l : List ℕ). slice_index l u.number) (sym rooms) ∙ ap (λ m. slice_index x.rooms.items m) (number ∙ h.numbered) ∙ found.own_room in
     record {
@@ -132,6 +132,7 @@ begun f t u x z y p h is found lent some view number tail driver away kept =
       few_made = subst (λ m. m ≤ 65536) made found.few;
       some_live = subst (λ m. 1 ≤ m) live found.some_live;
       live_few = subst (λ (q : ℕ × ℕ). q.0 ≤ q.1) (λ j. (live j, made j)) found.live_few;
+      within = within_same f.value.tokens.most z y (ap (λ (q : TokenCount). q.most) kept.1) away.0 s.core.within;
     }
 
 -- what a call gives, told by the part that was held, is what it gives in the turn
@@ -146,16 +147,16 @@ lent_begun f t u x z is b = subst (λ (q : Core). Begun f t u q) (sym is) b
 -- ---- A turn ends.
 -- what the lock asks of the value, whose part went out again
 pub returned : (f : Core) (u : Holding) (y z : Core) → Ends f u y → z.driver.state ≡ hide (outs z.driver.away) (replay_from (origin f) (y.journal.entries ++ u.tail.items))
-    → (z.driver.made ≡ y.driver.made) × (z.driver.away ≡ set y.driver.away u.number true) → (z.journal ≡ y.journal) × (z.live ≡ y.live) × (z.rooms ≡ y.rooms) × (z.promised ≡ y.promised) → Returns meaning f (view_of u.pass) z
+    → (z.driver.made ≡ y.driver.made) × (z.driver.away ≡ set y.driver.away u.number true) → (z.journal ≡ y.journal) × (z.tokens ≡ y.tokens) × (z.rooms ≡ y.rooms) × (z.promised ≡ y.promised) → Returns meaning f (view_of u.pass) z
 returned f u y z k driver away kept =
     let es : z.journal.entries ≡ y.journal.entries = ap (λ q. q.entries) kept.0 in
     let rooms : z.rooms.items ≡ y.rooms.items = ap (λ q. q.items) kept.2 in
     let r = k.room in
     record {
-      stands = stands_of f z (turn_ended f y z u.number u.tail.items k.turn (omega (arith, r)) driver away kept);
+      stands = stands_of f z (turn_ended f y z u.number u.tail.items k.turn k.within (omega (arith, r)) driver away kept);
       history = (k.more, es ∙ k.entries, k.own);
       made_is = away.0 ∙ k.made;
-      live_is = kept.1 ∙ k.live;
+      live_is = ap (λ (q : TokenCount). q.live) kept.1 ∙ k.live;
       long = ap length rooms ∙ k.long;
       other_rooms = λ n ne. ap (λ (l : List ℕ). slice_index l n) rooms ∙ k.other_rooms n ne;
     }
@@ -163,7 +164,7 @@ returned f u y z k driver away kept =
 -- what the thread holds then
 pub held_again : (f : Snapshot Core) (u w : Holding) (y z : Core) → Ends f.value u y → (view_of u.pass).first ≡ Some f → IsFree w.pass → view_of w.pass ≡ went meaning (view_of u.pass) z → (w.number ≡ u.number) × (w.tail ≡ u.tail)
     → w.part ≡ Some (part_of (replay_from (origin f.value) (y.journal.entries ++ u.tail.items)) u.number)
-    → (z.journal ≡ y.journal) × (z.live ≡ y.live) × (z.rooms ≡ y.rooms) × (z.promised ≡ y.promised) → Holds w
+    → (z.journal ≡ y.journal) × (z.tokens ≡ y.tokens) × (z.rooms ≡ y.rooms) × (z.promised ≡ y.promised) → Holds w
 held_again f u w y z k is free view kept part same =
     let o = origin f.value in
     let first : start_in (view_of w.pass).first ≡ o = ap start_in (ap (λ (q : View Core Entry). q.first) view ∙ is) in
@@ -190,7 +191,7 @@ lent_ends f u y z is k = subst (λ (q : Core). Ends f u q) (sym is) k
 -- the value y is what the turn began with, with own entries more and another room for the thread
 pub may_end : (f : Core) (t u w : Holding) (x y : Core) (more : List Entry) (room : ℕ) → Begun f t u x → w.pass ≡ u.pass → w.number ≡ u.number
     → IsTurn f y u.number w.tail.items → y.journal.entries ≡ x.journal.entries ++ more → AreOf u.number more
-    → y.driver.made ≡ x.driver.made → y.live ≡ x.live → y.rooms.items ≡ set x.rooms.items u.number room → length w.tail.items < room → Ends f w y
+    → y.driver.made ≡ x.driver.made → y.tokens ≡ x.tokens → y.rooms.items ≡ set x.rooms.items u.number room → length w.tail.items < room → Ends f w y
 may_end f t u w x y more room b pass number turn added own made live rooms enough =
     let p : view_of w.pass ≡ view_of u.pass = ap view_of pass in
     let g = view_of w.pass in
@@ -206,7 +207,8 @@ may_end f t u w x y more room b pass number turn added own made live rooms enoug
       entries = added ∙ ap (λ l. l ++ more) (sym seen);
       own = subst (λ m. (i : ℕ) (d : Entry) → i < length more → (std.slice_index_or more i d).thread ≡ m) (sym no) (own_each u.number more own);
       made = made ∙ sym (ap (λ (q : View Core Entry). q.counts.made) (p ∙ b.view));
-      live = live ∙ sym (ap (λ (q : View Core Entry). q.counts.live) (p ∙ b.view));
+      live = ap (λ (q : TokenCount). q.live) live ∙ sym (ap (λ (q : View Core Entry). q.counts.live) (p ∙ b.view));
+      within = within_same f.tokens.most x y (ap (λ (q : TokenCount). q.most) live) made b.within;
       long = ap length rooms ∙ length-set x.rooms.items u.number room ∙ ap length (sym its);
       other_rooms = λ n ne. ap (λ l. slice_index l n) rooms ∙ get_or-set_other x.rooms.items u.number n room 0 (λ k. ne (k ∙ sym no)) ∙ ap (λ l. slice_index l n) (sym its);
       room = subst (λ (q : List ℕ × ℕ). length w.tail.items < slice_index q.0 q.1) (λ j. (sym rooms j, sym number j))
@@ -220,7 +222,7 @@ none_left w room e h = subst (λ (l : List Entry). length l < room) (sym e) h
 -- the thread's own calls were handed in, and then a call was played
 pub adds_ends : (f : Core) (t u w : Holding) (x y : Core) (mark : ℕ) (c : CallValue) (reply : ReplyValue) (room : ℕ) → Begun f t u x → w.pass ≡ u.pass → w.number ≡ u.number → w.tail.items ≡ []
     → reply ≡ (step x.driver.state u.number c).reply → y.driver ≡ record x.driver { state = (step x.driver.state u.number c).state } → y.journal.entries ≡ (x.journal.entries ++ u.tail.items) ++ entry u.number mark c reply ∷ []
-    → y.rooms.items ≡ set x.rooms.items u.number room → y.promised ≡ owed y.rooms.items → y.promised ≤ y.journal.spare → y.live ≡ x.live → 0 < room → Ends f w y
+    → y.rooms.items ≡ set x.rooms.items u.number room → y.promised ≡ owed y.rooms.items → y.promised ≤ y.journal.spare → y.tokens ≡ x.tokens → 0 < room → Ends f w y
 adds_ends f t u w x y mark c reply room b pass number none replies driver added rooms promised spare live enough =
     let e = entry u.number mark c reply in
     may_end f t u w x y (u.tail.items ++ e ∷ []) room b pass number
@@ -235,14 +237,14 @@ hands_turn f t u x y room b driver added rooms promised spare =
     turn_same f x y u.number u.tail.items [] b.turn (record { room = room; rooms = rooms; promised = promised; spare = spare }) driver (append-nil y.journal.entries ∙ added) refl
 
 pub hands_ends : (f : Core) (t u w : Holding) (x y : Core) (room : ℕ) → Begun f t u x → w.pass ≡ u.pass → w.number ≡ u.number → w.tail.items ≡ [] → y.driver ≡ x.driver → y.journal.entries ≡ x.journal.entries ++ u.tail.items
-    → y.rooms.items ≡ set x.rooms.items u.number room → y.promised ≡ owed y.rooms.items → y.promised ≤ y.journal.spare → y.live ≡ x.live → 0 < room → Ends f w y
+    → y.rooms.items ≡ set x.rooms.items u.number room → y.promised ≡ owed y.rooms.items → y.promised ≤ y.journal.spare → y.tokens ≡ x.tokens → 0 < room → Ends f w y
 hands_ends f t u w x y room b pass number none driver added rooms promised spare live enough =
     may_end f t u w x y u.tail.items room b pass number (subst (IsTurn f y u.number) (sym none) (hands_turn f t u x y room b driver added rooms promised spare)) added (of_thread _ u.number u.tail.items b.turn.local)
     (ap (λ (m : Machine). m.made) driver) live rooms (none_left w room none enough)
 
 -- they are kept
 pub keeps_ends : (f : Core) (t u w : Holding) (x y : Core) → Begun f t u x → w.pass ≡ u.pass → w.number ≡ u.number → w.tail.items ≡ u.tail.items → y.driver ≡ x.driver → y.journal.entries ≡ x.journal.entries
-    → y.rooms.items ≡ x.rooms.items → y.promised ≡ owed y.rooms.items → y.promised ≤ y.journal.spare → y.live ≡ x.live → Ends f w y
+    → y.rooms.items ≡ x.rooms.items → y.promised ≡ owed y.rooms.items → y.promised ≤ y.journal.spare → y.tokens ≡ x.tokens → Ends f w y
 keeps_ends f t u w x y b pass number left driver same rooms promised spare live =
     let room = slice_index x.rooms.items u.number in
     let its : y.rooms.items ≡ set x.rooms.items u.number room = rooms ∙ sym (room_itself x.rooms.items u.number b.turn.number) in
@@ -414,7 +416,7 @@ idle_returns f x z v w is view found = record {
   stands = subst (λ (q : Core). StandsFor meaning f q q.journal.entries) (sym is) found.stands;
   history = ([], ap (λ (q : Core). q.journal.entries) is ∙ sym (ap (λ (q : View Core Entry). q.seen) view) ∙ sym (append-nil w.seen), λ i d l. absurd (omega arith));
   made_is = ap (λ (q : Core). q.driver.made) is ∙ sym (ap (λ (q : View Core Entry). q.counts.made) view);
-  live_is = ap (λ (q : Core). q.live) is ∙ sym (ap (λ (q : View Core Entry). q.counts.live) view);
+  live_is = ap (λ (q : Core). q.tokens.live) is ∙ sym (ap (λ (q : View Core Entry). q.counts.live) view);
   long = ap (λ (q : Core). length q.rooms.items) is ∙ sym (ap (λ (q : View Core Entry). length q.rooms) view);
   other_rooms = λ n ne. ap (λ (q : Core). slice_index q.rooms.items n) is ∙ sym (ap (λ (q : View Core Entry). slice_index q.rooms n) view);
 }
@@ -448,34 +450,34 @@ pub idle_learns : (f : Core) (t : Holding) (q : Pass Core Entry) (x z : Core) �
 idle_learns f t q x z found lent seen = (found.history.0, found.history.2, seen ∙ ap (λ (r : Core). r.journal.entries) lent ∙ found.history.1, refl)
 
 -- ---- A token ends in another.
-pub retired_returns : (f : Core) (t u : Holding) (x m y : Core) (room : ℕ) → Begun f t u x → m.driver ≡ x.driver → m.journal.entries ≡ x.journal.entries ++ u.tail.items → m.rooms.items ≡ set x.rooms.items u.number room → m.promised ≡ owed m.rooms.items → m.promised ≤ m.journal.spare → m.live ≡ x.live
-    → y.rooms.items ≡ set m.rooms.items u.number 0 → y.promised ≡ owed y.rooms.items → y.promised ≤ y.journal.spare → (y.driver ≡ m.driver) × (y.journal ≡ m.journal) × (y.live ≡ m.live) → Returns meaning f (view_of u.pass) y
+pub retired_returns : (f : Core) (t u : Holding) (x m y : Core) (room : ℕ) → Begun f t u x → m.driver ≡ x.driver → m.journal.entries ≡ x.journal.entries ++ u.tail.items → m.rooms.items ≡ set x.rooms.items u.number room → m.promised ≡ owed m.rooms.items → m.promised ≤ m.journal.spare → m.tokens ≡ x.tokens
+    → y.rooms.items ≡ set m.rooms.items u.number 0 → y.promised ≡ owed y.rooms.items → y.promised ≤ y.journal.spare → (y.driver ≡ m.driver) × (y.journal ≡ m.journal) × (y.tokens ≡ m.tokens) → Returns meaning f (view_of u.pass) y
 retired_returns f t u x m y room b driver added rooms promised spare live zero owed' spare' kept =
     let g = view_of u.pass in
     let turn = hands_turn f t u x m room b driver added rooms promised spare in
     let all : y.rooms.items ≡ set x.rooms.items u.number 0 = zero ∙ ap (λ l. set l u.number 0) rooms ∙ set_twice x.rooms.items u.number room 0 in
     let its : g.rooms ≡ x.rooms.items = ap (λ (q : View Core Entry). q.rooms) b.view in
     record {
-      stands = stands_of f y (turn_left f m y u.number turn zero owed' spare' kept);
+      stands = stands_of f y (turn_left f m y u.number turn (within_same f.tokens.most x m (ap (λ (q : TokenCount). q.most) live) (ap (λ (q : Machine). q.made) driver) b.within) zero owed' spare' kept);
       history = (
         u.tail.items,
         ap (λ q. q.entries) kept.1 ∙ added ∙ ap (λ l. l ++ u.tail.items) (sym (ap (λ (q : View Core Entry). q.seen) b.view)),
         subst (λ k. (i : ℕ) (d : Entry) → i < length u.tail.items → (std.slice_index_or u.tail.items i d).thread ≡ k) b.numbered (own_each u.number u.tail.items (of_thread _ u.number u.tail.items b.turn.local)),
       );
       made_is = ap (λ (q : Machine). q.made) (kept.0 ∙ driver) ∙ sym (ap (λ (q : View Core Entry). q.counts.made) b.view);
-      live_is = kept.2 ∙ live ∙ sym (ap (λ (q : View Core Entry). q.counts.live) b.view);
+      live_is = ap (λ (q : TokenCount). q.live) (kept.2 ∙ live) ∙ sym (ap (λ (q : View Core Entry). q.counts.live) b.view);
       long = ap length all ∙ length-set x.rooms.items u.number 0 ∙ ap length (sym its);
       other_rooms = λ n ne. ap (λ l. slice_index l n) all ∙ get_or-set_other x.rooms.items u.number n 0 0 (λ k. ne (k ∙ b.numbered)) ∙ ap (λ l. slice_index l n) (sym its);
     }
 
-pub joined_returns : (f x z y : Core) (v w g o : View Core Entry) → z ≡ x → HasCome meaning v x w → g ≡ joining w o → Finds meaning f v x → (y.driver ≡ z.driver) × (y.journal ≡ z.journal) × (y.rooms ≡ z.rooms) × (y.promised ≡ z.promised) → y.live ≡ z.live - 1 → Returns meaning f g y
+pub joined_returns : (f x z y : Core) (v w g o : View Core Entry) → z ≡ x → HasCome meaning v x w → g ≡ joining w o → Finds meaning f v x → (y.driver ≡ z.driver) × (y.journal ≡ z.journal) × (y.rooms ≡ z.rooms) × (y.promised ≡ z.promised) → y.tokens ≡ record z.tokens { live = z.tokens.live - 1 } → Returns meaning f g y
 joined_returns f x z y v w g o is view joined found kept live =
     let r = idle_returns f x z v w is view found in
     record {
-      stands = stands_of f y (core_same f z y (lent_core f z x is found.stands) kept);
+      stands = stands_of f y (core_same f z y (lent_core f z x is found.stands) kept (ap (λ (q : TokenCount). q.most) live));
       history = ([], ap (λ q. q.entries) kept.1 ∙ ap (λ (q : Core). q.journal.entries) is ∙ sym (ap (λ (q : View Core Entry). q.seen) (joined ∙ ap (λ (q : View Core Entry). joining q o) view)) ∙ sym (append-nil g.seen), λ i d l. absurd (omega arith));
       made_is = ap (λ (q : Machine). q.made) kept.0 ∙ r.made_is ∙ sym (ap (λ (q : View Core Entry). q.counts.made) joined);
-      live_is = live ∙ ap (λ n. n - 1) r.live_is ∙ sym (ap (λ (q : View Core Entry). q.counts.live) joined);
+      live_is = ap (λ (q : TokenCount). q.live) live ∙ ap (λ n. n - 1) r.live_is ∙ sym (ap (λ (q : View Core Entry). q.counts.live) joined);
       long = ap (λ q. length q.items) kept.2 ∙ r.long ∙ sym (ap (λ (q : View Core Entry). length q.rooms) joined);
       other_rooms = λ n ne. ap (λ q. slice_index q.items n) kept.2 ∙ ap (λ (q : Core). slice_index q.rooms.items n) is ∙ sym (ap (λ (q : View Core Entry). slice_index q.rooms n) (joined ∙ ap (λ (q : View Core Entry). joining q o) view));
     }

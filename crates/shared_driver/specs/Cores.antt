@@ -6,8 +6,7 @@ use Rattle.std.specs.declared.snapshot.Snapshot.{Snapshot}
 use Rattle.egl_calls.specs.Calls.{CallValue, ReplyValue}
 use Rattle.egl_calls.specs.Journals.{are_halted}
 use Rattle.egl_calls.specs.declared.entries.Entry.{Entry}
-use Rattle.egl_calls.specs.declared.errors.Outcome.{Outcome}
-use Rattle.egl_calls.specs.declared.errors.Outcome.TheVariants.{Done, Waiting}
+use Rattle.egl_calls.specs.declared.errors.Outcome.TheVariants.{Done}
 use Rattle.egl_calls.specs.declared.kinds.Kind.{Kind}
 use Rattle.egl_calls.specs.declared.kinds.Kind.TheVariants.{Egl, Gl, Own}
 use Rattle.egl_calls.specs.declared.kinds.EglKind.TheVariants.{Terminate, DestroySurface, DestroyContext, DestroySync, DestroyImage, ReleaseThread, WaitClient}
@@ -45,11 +44,6 @@ wait_end_call = own_call WaitEnd
 abbrev pub wait_ended : ReplyValue
 wait_ended = record { outcome = Done; value = pos EGL_CONDITION_SATISFIED; list = []; bytes = [] }
 
--- whether a reply says that the thread now waits for a sync
-abbrev pub is_waiting : Outcome → Bool
-is_waiting Waiting = true
-is_waiting o = false
-
 -- the entries of a token's own number
 abbrev pub of_number : ℕ → List Entry → List Entry
 of_number n es = filter (λ e. e.thread == n) es
@@ -76,12 +70,24 @@ owed rooms = sum_by (λ r. r - 1) rooms
 unfoldable pub away_by : List ℕ → List Bool
 away_by rooms = map (λ r. not (r == 0)) rooms
 
--- the value keeps the state outside the parts that are out, and its journal has room for all that is promised
-pub record Stands (x : Core) (s : State) : Type 0 where
-  pub driver : x.driver.state ≡ hide (outs x.driver.away) s
+-- what there is to keep: the state, and how many tokens may be made, which no entry changes
+pub record Kept : Type 0 where
+  pub state : State
+  pub most : ℕ
+
+-- the value has this limit of tokens, and no more were made
+pub record IsWithin (most : ℕ) (x : Core) : Type 0 where
+  pub limit : x.tokens.most ≡ most
+  pub made : x.driver.made ≤ most
+  pub few : most ≤ 65536
+
+-- the value keeps the state outside the parts that are out, and the limit of tokens, and its journal has room for all that is promised
+pub record Stands (x : Core) (k : Kept) : Type 0 where
+  pub driver : x.driver.state ≡ hide (outs x.driver.away) k.state
   pub away : x.driver.away ≡ away_by x.rooms.items
   pub promised : x.promised ≡ owed x.rooms.items
   pub spare : x.promised ≤ x.journal.spare
+  pub within : IsWithin k.most x
 
 -- the state before the first call, in the lock that begins with this value
 abbrev pub origin : Core → State
@@ -90,14 +96,14 @@ origin x = record (opening [] x.driver.state.video) { windows = x.driver.state.w
 -- the driver stands for the state outside the parts that are out, and an entry is a legal step
 abbrev pub meaning : Meaning Core Entry
 meaning = record {
-  Content = State;
-  Keeps = λ x s. Stands x s;
-  Acts = λ s e a. (e.reply ≡ (step s e.thread e.call).reply) × (a ≡ (step s e.thread e.call).state);
-  opening = λ x. origin x;
+  Content = Kept;
+  Keeps = λ x k. Stands x k;
+  Acts = λ k e a. (e.reply ≡ (step k.state e.thread e.call).reply) × (a ≡ record k { state = (step k.state e.thread e.call).state });
+  opening = λ x. record { state = origin x; most = x.tokens.most };
   history = λ x. x.journal.entries;
   number = λ e. e.thread;
   made = λ x. x.driver.made;
-  live = λ x. x.live;
+  live = λ x. x.tokens.live;
   rooms = λ x. x.rooms.items;
 }
 
@@ -142,7 +148,7 @@ takes_place (Gl DeleteFramebuffers) = true
 takes_place (Own Halt) = true
 takes_place k = false
 
--- it says that it is full exactly where 65,536 tokens were made
-abbrev pub IsFull : ℕ → AttachError → Type 0
-IsFull made (Full m) = (m ≡ 65536) × (made ≡ 65536)
-IsFull made NoMemory = made < 65536
+-- it says that it is full exactly where as many tokens were made as may be
+abbrev pub IsFull : ℕ → ℕ → AttachError → Type 0
+IsFull most made (Full m) = (m ≡ most) × (made ≡ most)
+IsFull most made NoMemory = made < most

@@ -1,5 +1,6 @@
 -- A token as a value.
 use Rattle.std.specs.Prelude.{slice_index, ◌≡◌, ◌+◌, ◌-◌, ◌<◌, ◌≤◌, ◌&&◌, nat_lt, if◌then◌else◌, true, false, ◌⊎◌, ℕ, Bool, List, [], ◌∷◌, ◌++◌, All, Contains}
+use Rattle.egl_calls.specs.Errors.{is_waiting}
 use Rattle.egl_calls.specs.declared.entries.Entry.{Entry}
 use Rattle.egl_calls.specs.Calls.{CallValue, ReplyValue}
 use Rattle.egl_calls.specs.declared.kinds.Kind.{Kind}
@@ -8,7 +9,7 @@ use Rattle.egl_model.specs.History.{replay_from}
 use Rattle.egl_model.specs.Parts.{part_of}
 use Rattle.egl_model.specs.State.{State}
 use Rattle.turn_lock.specs.Passes as passes
-use Rattle.shared_driver.specs.Cores.{entry, halt_call, has_halted, is_waiting, of_number, origin, start_in, takes_place, wait_end_call, wait_ended}
+use Rattle.shared_driver.specs.Cores.{entry, halt_call, has_halted, of_number, origin, start_in, takes_place, wait_end_call, wait_ended}
 use Rattle.shared_driver.specs.declared.tokens.Shared.{Shared}
 use Rattle.shared_driver.specs.declared.tokens.Thread.{Thread}
 
@@ -52,6 +53,10 @@ room_of t = let v = passes.view_of t.hold.pass in slice_index v.rooms v.number
 -- the state that the history starts at
 abbrev pub opening_of : Shared → State
 opening_of s = origin (passes.first_of s.turns).value
+
+-- how many tokens the driver is for
+abbrev pub most_of : Shared → ℕ
+most_of s = (passes.first_of s.turns).value.tokens.most
 
 -- the number is the token's own, or of a token that ended in it
 abbrev pub Owns : Token → ℕ → Type 0

@@ -15,7 +15,7 @@ use Rattle.turn_lock.specs.Views.{AreOthers, AreOwn}
 use Rattle.turn_lock.specs.declared.pass.Pass.{Pass}
 use Rattle.shared_driver.specs.declared.cores.Core.{Core}
 use Rattle.shared_driver.specs.declared.tokens.Holding.{Holding}
-use Rattle.shared_driver.specs.Cores.{IsLegalAt, are_local, away_by, meaning, origin, owed, part_after, start_in}
+use Rattle.shared_driver.specs.Cores.{IsLegalAt, IsWithin, are_local, away_by, meaning, origin, owed, part_after, start_in}
 
 -- A thread's holding between two turns: its own calls are legal after what its pass has seen, each local at its place, and the part is the thread's after them
 pub record Holds (h : Holding) : Type 0 where
@@ -61,14 +61,16 @@ pub record Begun (first : Core) (t u : Holding) (x : Core) : Type 0 where
   pub own_room : slice_index x.rooms.items u.number ≡ slice_index (view_of t.pass).rooms (view_of t.pass).number
   pub room : length u.tail.items < slice_index x.rooms.items u.number
   pub ended_rooms : (n : ℕ) → Contains (view_of t.pass).ended n → slice_index x.rooms.items n ≡ 0
-  pub sole : (view_of t.pass).counts.live ≡ 1 → x.live ≡ 1
+  pub sole : (view_of t.pass).counts.live ≡ 1 → x.tokens.live ≡ 1
   pub below : All (λ e. e.thread < x.driver.made) x.journal.entries
   -- the numbers of tokens that ended in its own are of tokens made, and no fewer were made than it had counted
   pub ended_below : (n : ℕ) → Contains (view_of t.pass).ended n → n < x.driver.made
   pub made_counted : (view_of t.pass).counts.made ≤ x.driver.made
   pub few_made : x.driver.made ≤ 65536
-  pub some_live : 1 ≤ x.live
-  pub live_few : x.live ≤ x.driver.made
+  pub some_live : 1 ≤ x.tokens.live
+  pub live_few : x.tokens.live ≤ x.driver.made
+  -- the limit of tokens is the one that the lock began with
+  pub within : IsWithin first.tokens.most x
 
 -- a turn may end: u is held, and y is the value
 pub record Ends (first : Core) (u : Holding) (y : Core) : Type 0 where
@@ -82,7 +84,9 @@ pub record Ends (first : Core) (u : Holding) (y : Core) : Type 0 where
   pub own : AreOwn meaning (view_of u.pass) more
   -- the value counts the passes made and the live ones, and no room but the thread's has changed
   pub made : y.driver.made ≡ (view_of u.pass).counts.made
-  pub live : y.live ≡ (view_of u.pass).counts.live
+  pub live : y.tokens.live ≡ (view_of u.pass).counts.live
+  -- the limit of tokens is as it was, and no more were made
+  pub within : IsWithin first.tokens.most y
   pub long : length y.rooms.items ≡ length (view_of u.pass).rooms
   pub other_rooms : (n : ℕ) → n ≢ (view_of u.pass).number → slice_index y.rooms.items n ≡ slice_index (view_of u.pass).rooms n
   pub room : length u.tail.items < slice_index y.rooms.items u.number

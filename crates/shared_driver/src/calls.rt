@@ -1,5 +1,6 @@
 //! What a thread does with its token.
 ghost use Rattle.std.specs.Prelude.{◌≡◌, ◌==◌, ◌≤◌, ◌<◌, ◌+◌, ◌||◌, ◌⊎◌, ◌∷◌, ◌++◌, [], true, false, slice_index_or, OnErr, OnOk, IfOk, IsOk, All, List};
+ghost use Rattle.egl_calls.specs.Errors.{is_waiting};
 ghost use Rattle.surface_store.specs.Windows.{windows_ok};
 ghost use Rattle.egl_calls.specs.declared.entries.Entry.{Entry};
 ghost use Rattle.model_laws.specs.Hidden.{hide};
@@ -8,17 +9,17 @@ ghost use Rattle.egl_model.specs.Waits.{is_wait_end};
 ghost use Rattle.egl_model.specs.History.{IsLegalFrom, replay_from};
 ghost use Rattle.driver_core.specs.Machine.{Machine, outs};
 ghost use Rattle.shared_driver.specs.declared.picks.Pick.{Pick as ThePick};
-ghost use Rattle.shared_driver.specs.Cores.{entry, is_waiting, takes_place};
+ghost use Rattle.shared_driver.specs.Cores.{entry, takes_place};
 ghost use Rattle.shared_driver.specs.Picks.{IsAnswer, IsAtTurn, picked_entries};
-ghost use Rattle.shared_driver.specs.Tokens.{AnswersAfterWait, AnswersAtOnce, Goes, Halts, IsFrom, IsOf, IsSame, Learns, Owns, has_given_up, mine, opening_of, places_after, token_of};
+ghost use Rattle.shared_driver.specs.Tokens.{AnswersAfterWait, AnswersAtOnce, Goes, Halts, IsFrom, IsOf, IsSame, Learns, Owns, has_given_up, mine, most_of, opening_of, places_after, token_of};
 
-use crate::cores::{Core, PLACES, Played, is_waiting};
+use crate::cores::{Core, MOST_TOKENS, PLACES, Played};
 use crate::newcomers::own_calls;
 use crate::news::News;
 use crate::picks::{Picked, PickedCall, Picker, has_stopped, is_halt};
 use crate::tokens::{Closed, Holding, Opened, Shared, Thread};
 use crate::uploads::upload_of;
-use egl_calls::{Call, EglKind, GlKind, Kind, NoMemory, OwnKind, Reply};
+use egl_calls::{Call, EglKind, GlKind, Kind, NoMemory, OwnKind, Reply, is_waiting};
 use std::alloc::Global;
 use std::sync::Wait;
 use surface_store::WindowSpec;
@@ -56,17 +57,36 @@ fn takes_place(kind: Kind) -> bool
 }
 
 impl Shared {
-    /// A driver with one token, whose history is empty.
+    /// A driver for 65,536 tokens, with one, whose history is empty.
     pub fn open(alloc: Global, windows: &[WindowSpec], video: u64) -> Result<Opened, NoMemory>
         requires windows { windows_ok windows.now ≡ true }
         requires video { video ≤ 1073741824 }
         ensures owns { IfOk result (λ o. IsOf o.shared o.thread) }
         ensures opening { IfOk result (λ o. opening_of o.shared ≡ opening windows.now video) }
+        ensures most { IfOk result (λ o. most_of o.shared ≡ 65536) }
+        ensures token { IfOk result (λ o. token_of o.thread ≡ record { number = 0; seen = []; tail = []; ended = []; made = 1; live = 1; sole = false; places = 256; start = opening windows.now video }) }
+    {
+        Shared::open_for(alloc, windows, video, MOST_TOKENS)
+    }
+
+    /// The same for at most so many tokens, with the first: the numbers of all are below that.
+    pub fn open_for(
+        alloc: Global,
+        windows: &[WindowSpec],
+        video: u64,
+        most: u32,
+    ) -> Result<Opened, NoMemory>
+        requires windows { windows_ok windows.now ≡ true }
+        requires video { video ≤ 1073741824 }
+        requires most { (1 ≤ most) × (most ≤ 65536) }
+        ensures owns { IfOk result (λ o. IsOf o.shared o.thread) }
+        ensures opening { IfOk result (λ o. opening_of o.shared ≡ opening windows.now video) }
+        ensures most { IfOk result (λ o. most_of o.shared ≡ most) }
         ensures token { IfOk result (λ o. token_of o.thread ≡ record { number = 0; seen = []; tail = []; ended = []; made = 1; live = 1; sole = false; places = 256; start = opening windows.now video }) }
     {
         // The core comes last, since whatever owns it drops it at each early exit.
         let tail = own_calls(alloc)?;
-        let mut core = Core::new(alloc, windows, video)?;
+        let mut core = Core::new(alloc, windows, video, most)?;
         let part = core.part_out(0);
         let Ok(Opening { turns, pass }) = Turns::new(alloc, core) else {
             return Err(NoMemory);
@@ -220,7 +240,7 @@ impl Shared {
         ensures places { (token_of thread.new).places ≡ (token_of thread.old).places }
     {
         let mut held = self.turns.take_turn(&mut thread.hold.pass, rt);
-        let live = held.value().live;
+        let live = held.value().tokens.live;
         self.turns.give_back(&mut thread.hold.pass, held);
         live
     }
@@ -290,7 +310,7 @@ impl Shared {
         let Core {
             driver,
             journal,
-            live: _,
+            tokens: _,
             rooms: _,
             promised: _,
         } = core;

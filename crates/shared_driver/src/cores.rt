@@ -1,5 +1,6 @@
 //! The value under the lock.
 ghost use Rattle.std.specs.Prelude.{◌≡◌, ◌<◌, ◌≤◌, ◌+◌, ◌-◌, [], ◌∷◌, ◌++◌, true, false, length, Some, IfOk, IfSome, IfNone, OnSome, OnOk, OnErr, IsOk, slice_index, slice_index_or, slice_set};
+ghost use Rattle.egl_calls.specs.Errors.{is_waiting};
 ghost use Rattle.std.specs.VecDeque.{deque_capacity};
 ghost use Rattle.surface_store.specs.Windows.{windows_ok};
 ghost use Rattle.model_laws.specs.Frame.{IsReady};
@@ -11,15 +12,15 @@ ghost use Rattle.egl_model.specs.Step.{step};
 ghost use Rattle.egl_model.specs.Waits.{is_ready};
 ghost use Rattle.driver_core.specs.Machine.{outs};
 ghost use Rattle.driver_core.specs.LateDraws.{IsLeft};
-ghost use Rattle.driver_core.specs.Memory.{takes_no_memory};
+ghost use Rattle.driver_facts.specs.Memory.{takes_no_memory};
 ghost use Rattle.driver_core.specs.Parts.{FitsThread, HasBoundStill};
 ghost use Rattle.thread_part.specs.Private.{IsAllOrNothing};
 ghost use Rattle.thread_part.specs.Uploads.{upload_of};
-ghost use Rattle.shared_driver.specs.Cores.{entry, halt_call, is_waiting, owed, own_call, place_for, wait_end_call, wait_ended};
+ghost use Rattle.shared_driver.specs.Cores.{entry, halt_call, owed, own_call, place_for, wait_end_call, wait_ended};
 
 use driver_core::{Drawing, Driver, LateDraw};
 use egl_calls::{
-    Call, Entry, Journal, Kind, NoMemory, Numbers, Outcome, OwnKind, Reply, ReplyPair,
+    Call, Entry, Journal, Kind, NoMemory, Numbers, OwnKind, Reply, ReplyPair, is_waiting,
 };
 use ref_store::Steps;
 use std::alloc::Global;
@@ -30,13 +31,20 @@ use surface_store::WindowSpec;
 use thread_part::{ThreadPart, Upload};
 use turn_lock::Replays;
 
+/// How many tokens are live, and how many may ever be made.
+#[derive(Drop)]
+pub struct TokenCount {
+    pub live: u32,
+    /// The driver is for so many tokens, from its opening on.
+    pub most: u32,
+}
+
 /// A driver with its journal. What each live token may still add without memory stands in its room, which is one more than that. The private part of a live token's thread is out of the driver.
 #[derive(Drop)]
 pub struct Core {
     pub driver: Driver,
     pub journal: Journal,
-    /// How many tokens are live.
-    pub live: u32,
+    pub tokens: TokenCount,
     /// A room for each token made, in the order of their numbers. That of a token which was joined is 0.
     pub rooms: Vec<u64>,
     /// How many entries the rooms promise together. The journal has room for as many.
@@ -61,15 +69,11 @@ impl Replays for Core {
 /// How many calls a token may make without memory before it makes one that takes memory.
 pub const PLACES: u64 = 256;
 
+/// The most tokens that a driver can be for.
+pub const MOST_TOKENS: u32 = 65_536;
+
 /// The room of a new token: it is live, it may halt, and all its places are free.
 pub const FIRST_ROOM: u64 = 258;
-
-/// Whether a reply says that the thread now waits for a sync.
-pub fn is_waiting(outcome: Outcome) -> bool
-    ensures { result ≡ is_waiting outcome }
-{
-    matches!(outcome, Outcome::Waiting)
-}
 
 /// The place that a wait which was begun keeps for its end.
 fn place_for(waits: bool) -> u64
@@ -221,13 +225,18 @@ fn move_entries(journal: &mut Journal, tail: &mut VecDeque<Entry>)
 }
 
 impl Core {
-    /// A new driver, for one token. All parts are in.
-    pub fn new(alloc: Global, windows: &[WindowSpec], video: u64) -> Result<Core, NoMemory>
+    /// A new driver for so many tokens, with one. All parts are in.
+    pub fn new(
+        alloc: Global,
+        windows: &[WindowSpec],
+        video: u64,
+        most: u32,
+    ) -> Result<Core, NoMemory>
         requires windows { windows_ok windows.now ≡ true }
         requires video { video ≤ 1073741824 }
         ensures driver { IfOk result (λ x. (x.driver.state ≡ opening windows.now video) × (x.driver.made ≡ 1) × (x.driver.away ≡ false ∷ [])) }
         ensures journal { IfOk result (λ x. (x.journal.entries ≡ []) × (257 ≤ x.journal.spare)) }
-        ensures rooms { IfOk result (λ x. (x.live ≡ 1) × (x.rooms.items ≡ 258 ∷ []) × (x.promised ≡ 257)) }
+        ensures rooms { IfOk result (λ x. (x.tokens ≡ record { live = 1; most = most }) × (x.rooms.items ≡ 258 ∷ []) × (x.promised ≡ 257)) }
     {
         let mut journal = Journal::new(alloc);
         journal.reserve(FIRST_ROOM - 1)?;
@@ -238,7 +247,7 @@ impl Core {
         Ok(Core {
             driver: Driver::new(alloc, windows, video)?,
             journal,
-            live: 1,
+            tokens: TokenCount { live: 1, most },
             rooms,
             promised: FIRST_ROOM - 1,
         })
@@ -252,7 +261,7 @@ impl Core {
         ensures outside { (s : State) → IsSound s → self.old.driver.state ≡ hide (outs self.old.driver.away) s → part ≡ part_of s number → self.new.driver.state ≡ hide (outs self.new.driver.away) s }
         ensures bound { HasBoundStill self.old.driver.state self.new.driver.state }
         ensures driver { (self.new.driver.made ≡ self.old.driver.made) × (self.new.driver.away ≡ slice_set self.old.driver.away number false) }
-        ensures kept { (self.new.journal ≡ self.old.journal) × (self.new.live ≡ self.old.live) × (self.new.rooms ≡ self.old.rooms) × (self.new.promised ≡ self.old.promised) }
+        ensures kept { (self.new.journal ≡ self.old.journal) × (self.new.tokens ≡ self.old.tokens) × (self.new.rooms ≡ self.old.rooms) × (self.new.promised ≡ self.old.promised) }
     {
         self.driver.part_in(number, part.into_parts());
     }
@@ -265,7 +274,7 @@ impl Core {
         ensures whole { (s : State) → IsReady s number → self.old.driver.state ≡ hide (outs self.old.driver.away) s → IsAllOrNothing 2147483648 result }
         ensures driver { (self.new.driver.made ≡ self.old.driver.made) × (self.new.driver.away ≡ slice_set self.old.driver.away number true) }
         ensures opening { (self.new.driver.state.windows ≡ self.old.driver.state.windows) × (self.new.driver.state.video ≡ self.old.driver.state.video) }
-        ensures kept { (self.new.journal ≡ self.old.journal) × (self.new.live ≡ self.old.live) × (self.new.rooms ≡ self.old.rooms) × (self.new.promised ≡ self.old.promised) }
+        ensures kept { (self.new.journal ≡ self.old.journal) × (self.new.tokens ≡ self.old.tokens) × (self.new.rooms ≡ self.old.rooms) × (self.new.promised ≡ self.old.promised) }
     {
         ThreadPart::new(self.driver.part_out(number))
     }
@@ -278,7 +287,7 @@ impl Core {
         ensures rooms { self.new.rooms.items ≡ slice_set self.old.rooms.items number room }
         ensures owed { self.new.promised ≡ owed self.new.rooms.items }
         ensures promised { self.new.promised + (slice_index self.old.rooms.items number - 1) ≡ self.old.promised + (room - 1) }
-        ensures kept { (self.new.driver ≡ self.old.driver) × (self.new.journal ≡ self.old.journal) × (self.new.live ≡ self.old.live) }
+        ensures kept { (self.new.driver ≡ self.old.driver) × (self.new.journal ≡ self.old.journal) × (self.new.tokens ≡ self.old.tokens) }
     {
         let former = self.rooms[number as usize];
         self.promised -= former.saturating_sub(1);
@@ -295,7 +304,7 @@ impl Core {
         ensures rooms { self.new.rooms.items ≡ slice_set self.old.rooms.items number (slice_index self.old.rooms.items number + more) }
         ensures owed { self.new.promised ≡ owed self.new.rooms.items }
         ensures promised { self.new.promised ≡ self.old.promised + more }
-        ensures kept { (self.new.driver ≡ self.old.driver) × (self.new.journal ≡ self.old.journal) × (self.new.live ≡ self.old.live) }
+        ensures kept { (self.new.driver ≡ self.old.driver) × (self.new.journal ≡ self.old.journal) × (self.new.tokens ≡ self.old.tokens) }
     {
         let room = self.rooms[number as usize];
         self.set_room(number, room + more);
@@ -308,7 +317,7 @@ impl Core {
         ensures fits { OnOk result (self.old.promised + more < 18446744073709551616) }
         ensures spare { self.new.promised ≤ self.new.journal.spare }
         ensures entries { self.new.journal.entries ≡ self.old.journal.entries }
-        ensures kept { (self.new.driver ≡ self.old.driver) × (self.new.live ≡ self.old.live) × (self.new.rooms ≡ self.old.rooms) × (self.new.promised ≡ self.old.promised) }
+        ensures kept { (self.new.driver ≡ self.old.driver) × (self.new.tokens ≡ self.old.tokens) × (self.new.rooms ≡ self.old.rooms) × (self.new.promised ≡ self.old.promised) }
     {
         let Some(entries) = self.promised.checked_add(more) else {
             return Err(NoMemory);
@@ -329,7 +338,7 @@ impl Core {
         ensures owed { self.new.promised ≡ owed self.new.rooms.items }
         ensures promised { self.new.promised + length tail.old.items ≡ self.old.promised }
         ensures spare { self.new.journal.spare + length tail.old.items ≡ self.old.journal.spare }
-        ensures kept { (self.new.driver ≡ self.old.driver) × (self.new.live ≡ self.old.live) }
+        ensures kept { (self.new.driver ≡ self.old.driver) × (self.new.tokens ≡ self.old.tokens) }
     {
         let room = self.rooms[number as usize];
         self.set_room(number, room - tail.len() as u64);
@@ -363,7 +372,7 @@ impl Core {
         ensures promised { OnOk result (self.new.promised + length tail.old.items ≡ self.old.promised + more) }
         ensures spare { OnOk result (self.new.promised + self.old.journal.spare ≡ self.new.journal.spare + (self.old.promised + more + 1)) }
         ensures err { OnErr result ((self.new ≡ self.old) × (tail.new.items ≡ tail.old.items)) }
-        ensures live { self.new.live ≡ self.old.live }
+        ensures live { self.new.tokens ≡ self.old.tokens }
     {
         let LateDraw {
             reply,
@@ -407,7 +416,7 @@ impl Core {
         ensures owed { self.new.promised ≡ owed self.new.rooms.items }
         ensures err { OnErr result ((self.new.driver ≡ self.old.driver) × (self.new.journal.entries ≡ self.old.journal.entries) × (self.new.rooms ≡ self.old.rooms) × (tail.new.items ≡ tail.old.items)) }
         ensures spare { self.new.promised ≤ self.new.journal.spare }
-        ensures live { self.new.live ≡ self.old.live }
+        ensures live { self.new.tokens ≡ self.old.tokens }
     {
         self.make_room(back + 2)?;
         let played = self.play(alloc, number, mark, call, upload, tail, back)?;
@@ -438,7 +447,7 @@ impl Core {
         ensures rooms { self.new.rooms.items ≡ slice_set self.old.rooms.items number (slice_index self.old.rooms.items number - length tail.old.items - 1) }
         ensures owed { self.new.promised ≡ owed self.new.rooms.items }
         ensures spare { self.new.promised ≤ self.new.journal.spare }
-        ensures live { self.new.live ≡ self.old.live }
+        ensures live { self.new.tokens ≡ self.old.tokens }
     {
         self.hand_in(number, tail);
         let room = self.rooms[number as usize];
@@ -463,7 +472,7 @@ impl Core {
         ensures rooms { self.new.rooms.items ≡ slice_set self.old.rooms.items number 0 }
         ensures owed { self.new.promised ≡ owed self.new.rooms.items }
         ensures spare { self.new.promised ≤ self.new.journal.spare }
-        ensures kept { (self.new.driver ≡ self.old.driver) × (self.new.journal ≡ self.old.journal) × (self.new.live ≡ self.old.live) }
+        ensures kept { (self.new.driver ≡ self.old.driver) × (self.new.journal ≡ self.old.journal) × (self.new.tokens ≡ self.old.tokens) }
     {
         self.set_room(number, 0);
     }
@@ -481,7 +490,7 @@ impl Core {
         ensures rooms { self.new.rooms.items ≡ slice_set self.old.rooms.items number (slice_index self.old.rooms.items number - length tail.old.items - 1) }
         ensures owed { self.new.promised ≡ owed self.new.rooms.items }
         ensures spare { self.new.promised ≤ self.new.journal.spare }
-        ensures live { self.new.live ≡ self.old.live }
+        ensures live { self.new.tokens ≡ self.old.tokens }
     {
         let call = own_call(alloc, OwnKind::Halt);
         self.add(alloc, number, 0, call, tail);
@@ -517,7 +526,7 @@ impl Core {
         ensures rooms { OnSome result (self.new.rooms.items ≡ slice_set self.old.rooms.items number (slice_index self.old.rooms.items number - length tail.old.items - 1)) }
         ensures owed { OnSome result (self.new.promised ≡ owed self.new.rooms.items) }
         ensures spare { OnSome result (self.new.promised ≤ self.new.journal.spare) }
-        ensures live { self.new.live ≡ self.old.live }
+        ensures live { self.new.tokens ≡ self.old.tokens }
         ensures waits { IfNone result (is_ready self.old.driver.state number ≡ false) }
         ensures none { IfNone result ((self.new ≡ self.old) × (tail.new.items ≡ tail.old.items)) }
     {
@@ -530,10 +539,10 @@ impl Core {
 
     /// Counts one live token fewer.
     pub fn dismiss(&mut self)
-        requires { 0 < self.old.live }
-        ensures live { self.new.live ≡ self.old.live - 1 }
+        requires { 0 < self.old.tokens.live }
+        ensures live { self.new.tokens ≡ record self.old.tokens { live = self.old.tokens.live - 1 } }
         ensures kept { (self.new.driver ≡ self.old.driver) × (self.new.journal ≡ self.old.journal) × (self.new.rooms ≡ self.old.rooms) × (self.new.promised ≡ self.old.promised) }
     {
-        self.live -= 1;
+        self.tokens.live -= 1;
     }
 }

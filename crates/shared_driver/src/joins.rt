@@ -1,9 +1,9 @@
 //! Tokens that begin and end.
-ghost use Rattle.std.specs.Prelude.{◌≡◌, ◌∷◌, ◌++◌, [], false, slice_index, OnErr, OnOk, IfOk, IfErr};
+ghost use Rattle.std.specs.Prelude.{◌≡◌, ◌<◌, ◌∷◌, ◌++◌, [], false, slice_index, OnErr, OnOk, IfOk, IfErr};
 ghost use Rattle.turn_lock.specs.Passes as passes;
 ghost use Rattle.turn_lock.specs.Passes.{view_of, IsFree};
 ghost use Rattle.shared_driver.specs.Cores.{IsFull, of_number};
-ghost use Rattle.shared_driver.specs.Tokens.{AreDisjoint, Goes, HasNewNumber, Includes, IsNew, IsOf, IsSame, KnowsEnded, Learns, mine, token_of};
+ghost use Rattle.shared_driver.specs.Tokens.{AreDisjoint, Goes, HasNewNumber, Includes, IsNew, IsOf, IsSame, KnowsEnded, Learns, mine, most_of, token_of};
 ghost use Rattle.shared_driver.specs.Turns.{Holds, Retires};
 
 use crate::cores::{Core, FIRST_ROOM, PLACES};
@@ -14,6 +14,8 @@ use turn_lock::Pass;
 
 impl Shared {
     /// Makes a token that has seen what this one has. First this one hands in its own calls. Where none can be made, this one sees at most what others added.
+    ///
+    /// Full comes exactly where as many tokens were made as the driver is for, whether they are live or not.
     pub fn attach<R: Wait>(&self, from: &mut Thread, rt: &R) -> Result<Thread, AttachError>
         requires owns { IsOf self.now from.old }
         ensures owns { IsOf self.now from.new × IfOk result (λ t. IsOf self.now t) }
@@ -25,8 +27,9 @@ impl Shared {
         ensures new { IfOk result (λ t. IsNew (token_of from.new) (token_of t)) }
         ensures new_mine { IfOk result (λ t. mine (token_of t) ≡ []) }
         ensures new_number { IfOk result (λ t. HasNewNumber (token_of from.old) (token_of from.new) (token_of t)) }
+        ensures below { IfOk result (λ t. (token_of t).number < most_of self.now) }
         ensures places { OnOk result ((token_of from.new).places ≡ 256) × OnErr result ((token_of from.new).places ≡ (token_of from.old).places) }
-        ensures full { IfErr result (IsFull (token_of from.new).made) }
+        ensures full { IfErr result (IsFull (most_of self.now) (token_of from.new).made) }
     {
         let back = PLACES - from.places;
         let alloc = *from.hold.tail.allocator();

@@ -23,9 +23,6 @@ pub struct Newcomer {
     pub tail: VecDeque<Entry>,
 }
 
-/// The most tokens that a driver ever makes.
-const MOST_TOKENS: u32 = 65_536;
-
 /// Room for the own calls of a token.
 pub fn own_calls(alloc: Global) -> Result<VecDeque<Entry>, NoMemory>
     ensures items { IfOk result (λ q. q.items ≡ []) }
@@ -41,15 +38,15 @@ impl Core {
     // Makes a thread and its room, and room in the journal for so many entries more than the rooms then promise.
     fn enrol(&mut self, more: u64) -> Result<u32, NoMemory>
         requires made { self.old.driver.made < 65536 }
-        requires live { self.old.live ≤ 65536 }
+        requires live { self.old.tokens.live ≤ 65536 }
         requires more { more ≤ 256 }
         requires owed { self.old.promised ≡ owed self.old.rooms.items }
         requires spare { self.old.promised ≤ self.old.journal.spare }
         ensures number { IfOk result (λ n. n ≡ self.old.driver.made) }
         ensures driver { OnOk result (self.new.driver ≡ record self.old.driver { made = self.old.driver.made + 1; away = self.old.driver.away ++ false ∷ [] }) }
-        ensures rooms { OnOk result ((self.new.live ≡ self.old.live + 1) × (self.new.rooms.items ≡ self.old.rooms.items ++ 258 ∷ [])) }
+        ensures rooms { OnOk result ((self.new.tokens ≡ record self.old.tokens { live = self.old.tokens.live + 1 }) × (self.new.rooms.items ≡ self.old.rooms.items ++ 258 ∷ [])) }
         ensures room { OnOk result ((self.new.promised + more ≤ self.new.journal.spare) × (self.new.promised + more + 1 < 18446744073709551616)) }
-        ensures err { OnErr result ((self.new.driver ≡ self.old.driver) × (self.new.live ≡ self.old.live) × (self.new.rooms.items ≡ self.old.rooms.items)) }
+        ensures err { OnErr result ((self.new.driver ≡ self.old.driver) × (self.new.tokens ≡ self.old.tokens) × (self.new.rooms.items ≡ self.old.rooms.items)) }
         ensures owed { self.new.promised ≡ owed self.new.rooms.items }
         ensures spare { self.new.promised ≤ self.new.journal.spare }
         ensures entries { self.new.journal.entries ≡ self.old.journal.entries }
@@ -60,7 +57,7 @@ impl Core {
         }
         let number = self.driver.add_thread()?;
         self.rooms.push_reserved(FIRST_ROOM);
-        self.live += 1;
+        self.tokens.live += 1;
         self.promised += FIRST_ROOM - 1;
         Ok(number)
     }
@@ -75,25 +72,27 @@ impl Core {
     ) -> Result<Newcomer, AttachError>
         requires from { from < length self.old.rooms.items }
         requires known { (length self.old.rooms.items ≡ self.old.driver.made) × (length self.old.driver.away ≡ self.old.driver.made) }
-        requires live { self.old.live ≤ 65536 }
+        requires live { self.old.tokens.live ≤ 65536 }
+        requires limit { (self.old.driver.made ≤ self.old.tokens.most) × (self.old.tokens.most ≤ 65536) }
         requires back { back ≤ 256 }
         requires room { length tail.old.items < slice_index self.old.rooms.items from }
         requires owed { self.old.promised ≡ owed self.old.rooms.items }
         requires spare { self.old.promised ≤ self.old.journal.spare }
         ensures number { IfOk result (λ n. (n.number ≡ self.old.driver.made) × (n.number < 65536)) }
+        ensures below { IfOk result (λ n. n.number < self.old.tokens.most) }
         ensures its_tail { IfOk result (λ n. (n.tail.items ≡ []) × (256 ≤ deque_capacity n.tail)) }
         ensures part { (s : State) → IsReady s self.old.driver.made → self.old.driver.state ≡ hide (outs (self.old.driver.away ++ false ∷ [])) s → IfOk result (λ n. n.part ≡ part_of s n.number) × OnOk result (self.new.driver.state ≡ hide (outs self.new.driver.away) s) }
         ensures driver { OnOk result ((self.new.driver.made ≡ self.old.driver.made + 1) × (self.new.driver.away ≡ slice_set (self.old.driver.away ++ false ∷ []) self.old.driver.made true)) }
-        ensures rooms { OnOk result ((self.new.live ≡ self.old.live + 1) × (self.new.rooms.items ≡ slice_set (self.old.rooms.items ++ 258 ∷ []) from (slice_index self.old.rooms.items from - length tail.old.items + back))) }
-        ensures full { IfErr result (IsFull self.old.driver.made) }
-        ensures err { OnErr result ((self.new.driver ≡ self.old.driver) × (self.new.live ≡ self.old.live) × (self.new.rooms.items ≡ self.old.rooms.items) × (self.new.journal.entries ≡ self.old.journal.entries) × (tail.new.items ≡ tail.old.items)) }
+        ensures rooms { OnOk result ((self.new.tokens ≡ record self.old.tokens { live = self.old.tokens.live + 1 }) × (self.new.rooms.items ≡ slice_set (self.old.rooms.items ++ 258 ∷ []) from (slice_index self.old.rooms.items from - length tail.old.items + back))) }
+        ensures full { IfErr result (IsFull self.old.tokens.most self.old.driver.made) }
+        ensures err { OnErr result ((self.new.driver ≡ self.old.driver) × (self.new.tokens ≡ self.old.tokens) × (self.new.rooms.items ≡ self.old.rooms.items) × (self.new.journal.entries ≡ self.old.journal.entries) × (tail.new.items ≡ tail.old.items)) }
         ensures added { OnOk result ((self.new.journal.entries ≡ self.old.journal.entries ++ tail.old.items) × (tail.new.items ≡ [])) }
         ensures capacity { deque_capacity tail.new ≡ deque_capacity tail.old }
         ensures owed { self.new.promised ≡ owed self.new.rooms.items }
         ensures spare { self.new.promised ≤ self.new.journal.spare }
     {
         let made = self.driver.threads();
-        if made >= MOST_TOKENS {
+        if made >= self.tokens.most {
             return Err(AttachError::Full { made });
         }
         let Ok(room) = own_calls(alloc) else {

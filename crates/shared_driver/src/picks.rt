@@ -92,7 +92,7 @@ impl Core {
         ensures rooms { OnOk result (self.new.rooms.items ≡ slice_set self.old.rooms.items number (slice_index self.old.rooms.items number + back)) }
         ensures err { OnErr result ((self.new.driver ≡ self.old.driver) × (self.new.journal.entries ≡ self.old.journal.entries) × (self.new.rooms ≡ self.old.rooms)) }
         ensures tail { (tail.new.items ≡ []) × (deque_capacity tail.new ≡ deque_capacity tail.old) }
-        ensures live { self.new.live ≡ self.old.live }
+        ensures live { self.new.tokens ≡ self.old.tokens }
         ensures owed { self.new.promised ≡ owed self.new.rooms.items }
         ensures spare { self.new.promised ≤ self.new.journal.spare }
     {

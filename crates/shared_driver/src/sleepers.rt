@@ -3,7 +3,7 @@ ghost use Rattle.std.specs.Prelude.{◌<◌};
 
 use driver_core::Driver;
 use egl_calls::places::POSTED;
-use egl_calls::{Entry, GlKind, Journal, Kind, Outcome, OwnKind, unsigned};
+use egl_calls::{Entry, GlKind, Journal, Kind, OwnKind, is_waiting, unsigned};
 
 /// How many tokens have a bed each. Of more, those whose numbers leave the same remainder share one.
 pub(crate) const BEDS: usize = 32;
@@ -76,7 +76,7 @@ fn is_post_of(entry: &Entry, number: u64) -> bool {
 }
 
 fn answers(entry: &Entry, mark: u64) -> bool {
-    entry.mark == mark && !matches!(entry.reply.outcome, Outcome::Waiting)
+    entry.mark == mark && !is_waiting(entry.reply.outcome)
 }
 
 /// Whether a call of this kind can signal a sync: one that flushes, ends a context, or waits in the server. Of those of EGL no list is kept, so that a call to come isn't forgotten here.

@@ -1,6 +1,6 @@
 -- Windows as they are declared.
-use Rattle.std.proofs.Common.{◌≡◌, ◌≤◌, ◌<◌, ℕ, ℤ, eqb, Option, Some, Bool, true, false, cond, List, [], ◌∷◌, map, take, get_or, zero, suc, ap, refl, sym, ◌∙◌, arith}
-use Rattle.std.specs.Prelude.{All, nat_le, length}
+use Rattle.std.proofs.Common.{◌≡◌, ◌<◌, ℕ, eqb, Some, Bool, true, false, cond, List, [], ◌∷◌, map, take, get_or, zero, suc, ap, refl, ◌∙◌, arith}
+use Rattle.std.specs.Prelude.{All, length}
 use Rattle.std.proofs.lemmas.Bool.{and_parts, leb-true}
 use Rattle.std.proofs.Math.Seq.{take-length}
 use Rattle.std.proofs.lemmas.List.{length-map}

@@ -1,5 +1,5 @@
 -- Windows: what is declared of them, and what they show.
-use Rattle.std.specs.Prelude.{◌≡◌, ℕ, ℤ, pos, ◌≤◌, Bool, true, false, ◌&&◌, ◌||◌, List, [], ◌∷◌, length, nat_le, int_le, if◌then◌else◌}
+use Rattle.std.specs.Prelude.{◌≡◌, ℤ, pos, Bool, true, false, ◌&&◌, List, [], ◌∷◌, length, nat_le, int_le, if◌then◌else◌}
 use Rattle.std.specs.Ordering.{int_eq}
 use Rattle.pixel_formats.specs.declared.formats.Format.TheVariants.{Rgba8888}
 use Rattle.pixel_rows.specs.Images.{ImageValue, IsImage, blank}

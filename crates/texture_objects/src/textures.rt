@@ -1,5 +1,5 @@
 //! Textures.
-ghost use Rattle.std.specs.Prelude.{◌≡◌, ◌<◌, ◌≤◌, true, pos, ◌<ℤ◌, All, IfSome, IsSome, is_some, length, unwrap_or};
+ghost use Rattle.std.specs.Prelude.{◌≡◌, ◌<◌, true, pos, ◌<ℤ◌, All, IfSome, IsSome, is_some, length, unwrap_or};
 ghost use Rattle.egl_calls.specs.Ranges.{IsNumber, unsigned};
 ghost use Rattle.texture_objects.specs.Levels as values;
 ghost use Rattle.texture_objects.specs.Textures.{crop_of, fresh, parameter, with_parameter};

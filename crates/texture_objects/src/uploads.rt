@@ -1,12 +1,12 @@
 //! The pixels that calls give a texture.
-ghost use Rattle.std.specs.Prelude.{◌≡◌, ◌≤◌, true, IfOk, IsOk, IsSome, OnErr, OnOk};
+ghost use Rattle.std.specs.Prelude.{◌≡◌, true, IfOk, IsOk, IsSome, OnErr, OnOk};
 ghost use Rattle.std.specs.Option.{option_copied};
 ghost use Rattle.egl_calls.specs.Ranges.{unsigned};
-ghost use Rattle.pixel_rows.specs.Images.{IsImage, IsSameShape, blank};
+ghost use Rattle.pixel_rows.specs.Images.{IsImage, IsSameShape};
 ghost use Rattle.pixel_rows.specs.Payloads.{loaded};
 ghost use Rattle.pixel_rows.specs.Rects.{IsInside};
 ghost use Rattle.pixel_rows.specs.Transfers.{IsAlignment};
-ghost use Rattle.texture_objects.specs.Uploads.{IsImageCall, IsPartCall, data_form, given, given_form, part_rect, rewritten, uploaded, whole_rect};
+ghost use Rattle.texture_objects.specs.Uploads.{IsImageCall, IsPartCall, data_form, given, given_form, rewritten, uploaded};
 
 use crate::forms::form_of;
 use egl_calls::{Bytes, Call, NoMemory, Payload, unsigned};

@@ -7,7 +7,7 @@ use Rattle.egl_calls.specs.Calls.{CallValue}
 use Rattle.egl_calls.specs.Arguments.{number, signed}
 use Rattle.egl_calls.specs.Ranges.{unsigned}
 use Rattle.egl_calls.specs.declared.kinds.Kind.TheVariants.{Gl}
-use Rattle.egl_calls.specs.declared.kinds.GlKind.TheVariants.{CopyTexImage2d, TexImage2d}
+use Rattle.egl_calls.specs.declared.kinds.GlKind.TheVariants.{TexImage2d}
 use Rattle.call_rules.specs.GlAllowed.{CopyAllowed, ImageAllowed}
 use Rattle.call_rules.specs.TextureRules.{is_no_level_side}
 use Rattle.call_rules.specs.declared.gl_facts.GlFacts.{GlFacts}

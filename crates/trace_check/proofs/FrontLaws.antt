@@ -1,6 +1,6 @@
 -- No line of a trace is the first of a recording, so a recording behind a trace begins where the trace ends.
-use Rattle.std.proofs.Common.{◌≡◌, ℕ, zero, suc, ◌+◌, Bool, true, false, cond, ◌&&◌, List, [], ◌∷◌, ◌++◌, length, refl, sym, ap, ◌∙◌, subst, Option, None, Some}
-use Rattle.std.proofs.lemmas.Bool.{cond-true, cond-false}
+use Rattle.std.proofs.Common.{◌≡◌, ℕ, ◌+◌, Bool, true, false, cond, ◌&&◌, List, [], ◌∷◌, ◌++◌, length, refl, sym, ap, ◌∙◌, subst, Option, None, Some}
+use Rattle.std.proofs.lemmas.Bool.{cond-false}
 use Rattle.std.proofs.lemmas.Slice.Eq.{bytes_eq-Decides}
 use Rattle.std.specs.Prelude.{Result, Ok, Err, codes, if◌then◌else◌}
 use Rattle.std.specs.Char.{is_newline}
@@ -24,7 +24,6 @@ use Rattle.trace_reader.specs.Traces.{TraceValue}
 use Rattle.trace_reader.specs.Words.{words, is_skipped}
 use Rattle.journal_text.proofs.CutLaws.{split_both}
 use Rattle.journal_text.specs.Cuts.{cut_parts, cut_recording}
-use Rattle.journal_text.specs.declared.cuts.Cut.{Cut}
 
 abbrev mark : List ℕ
 mark = codes "recording"

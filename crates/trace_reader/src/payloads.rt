@@ -2,12 +2,12 @@
 ghost use Rattle.std.specs.Prelude.{◌≡◌, ◌+◌, ◌*◌, ◌/◌, ◌%◌, ◌<◌, ◌≤◌, ◌++◌, [], length, position, slice_index, Some, true, IfOk, IfSome, OnOk};
 ghost use Rattle.std.specs.Option.{option_map};
 ghost use Rattle.trace_reader.specs.Hexadecimals.{hex_digit};
-ghost use Rattle.trace_reader.specs.Payloads.{are_byte_digits, counted, given_bytes, hex_bytes, is_colon, most_line_payload, most_repeats, payload, payload_bytes, payload_size, repeated, repeats};
+ghost use Rattle.trace_reader.specs.Payloads.{are_byte_digits, counted, hex_bytes, is_colon, most_line_payload, most_repeats, payload, payload_size, repeated, repeats};
 
 use crate::hexadecimals::{are_hex_digits, hex_digit};
 use crate::numerals::numeral;
 use crate::word_cuts::begins_with;
-use egl_calls::{Bytes, Call, NoMemory, Payload};
+use egl_calls::{Bytes, NoMemory, Payload};
 use std::alloc::Global;
 use std::marker::Model;
 
@@ -213,15 +213,5 @@ impl<'a> PayloadWord<'a> {
             }
             None => Ok(None),
         }
-    }
-}
-
-/// How many bytes the payload of a call has.
-pub fn payload_bytes(call: &Call) -> u64
-    ensures { result ≡ payload_bytes call.now }
-{
-    match &call.bytes {
-        Some(payload) => payload.bytes().len(),
-        None => 0,
     }
 }

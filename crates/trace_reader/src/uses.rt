@@ -6,6 +6,7 @@ ghost use Rattle.trace_reader.specs.Lists.{items};
 ghost use Rattle.trace_reader.specs.Order.{LeadsToOne};
 
 use crate::call_names::Form;
+use crate::line_uses::LineUses;
 use crate::lists::{inside, is_bracketed};
 use crate::references::{is_reference, used_in};
 use crate::traces::{Reference, Uses};
@@ -146,7 +147,7 @@ pub fn references(
     variables: &Variables<'_>,
     forms: &[Form],
     words: &[&[u8]],
-) -> Result<Option<Uses>, NoMemory>
+) -> Result<Option<LineUses>, NoMemory>
     requires few { length forms.now ≤ 9 }
     requires count { length words.now ≡ length forms.now }
     ensures known { IfOk result (λ o. is_some o ≡ are_known variables.now forms.now (map (λ w. w.now) words.now)) }
@@ -161,5 +162,5 @@ pub fn references(
         }
         place = place_behind(place, forms[k]);
     }
-    Ok(Some(uses))
+    Ok(Some(LineUses::new(alloc, uses)?))
 }

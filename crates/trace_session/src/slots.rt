@@ -1,5 +1,5 @@
 //! What is kept of the answers of a trace's variables.
-ghost use Rattle.std.specs.Prelude.{◌≡◌, ℕ, pos, Some, None, true, IfOk, IfSome, is_some, slice_index_or};
+ghost use Rattle.std.specs.Prelude.{◌≡◌, pos, Some, None, true, IfOk, IfSome, is_some, slice_index_or};
 ghost use Rattle.std.specs.Arc.{arc_value};
 ghost use Rattle.egl_calls.specs.Ranges.{IsNumber};
 ghost use Rattle.egl_calls.specs.declared.errors.Outcome.TheVariants.{Done};

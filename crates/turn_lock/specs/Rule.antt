@@ -3,7 +3,7 @@
 -- its held value keep that, and the pass on asks for it (`Returns`).
 -- A spent view is excepted from all that is said of live ones. The entries of its number stay in the history.
 -- What the rule has beyond the sentences of the lock's promise is marked "more:".
-use Rattle.std.specs.Prelude.{◌≡◌, ◌≢◌, ◌⊎◌, ℕ, ◌+◌, ◌%◌, ◌^◌, ◌<◌, ◌≤◌, true, false, List, [], ◌∷◌, ◌++◌, length, slice_index, All, Contains, count_by, Some, None}
+use Rattle.std.specs.Prelude.{◌≡◌, ◌≢◌, ◌⊎◌, ℕ, ◌+◌, ◌%◌, ◌^◌, ◌<◌, ◌≤◌, true, false, List, [], ◌∷◌, ◌++◌, length, slice_index, All, Contains, count_by, Some}
 use Rattle.std.specs.Prelude as std
 use mathlib.Core.Option.{none, some}
 use Rattle.atomic_table.specs.Table.{State}

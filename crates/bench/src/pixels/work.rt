@@ -128,8 +128,11 @@ pub fn context(alloc: Global, text: &str) -> Result<ContextPart> {
     let mut part = ContextPart::new();
     let lines = lines_of(alloc, text)?;
     for line in lines.lines() {
-        if is_context_call(line.call.kind) {
-            part.apply(alloc, &line.call);
+        let Ok(call) = line.call.to_call(alloc) else {
+            bail!("no memory for a call");
+        };
+        if is_context_call(call.kind) {
+            part.apply(alloc, &call);
         }
     }
     Ok(part)

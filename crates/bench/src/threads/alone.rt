@@ -17,7 +17,7 @@ fn play(alloc: Global, driver: &mut Driver, lines: &Trace, place: u64) -> Result
     ensures { driver.new.made ≡ driver.old.made }
 {
     if let Some(line) = lines.line(place) {
-        driver.play(alloc, 0, &line.call.copy(alloc)?)?;
+        driver.play(alloc, 0, &line.call.to_call(alloc)?)?;
     }
     Ok(())
 }

@@ -1,12 +1,12 @@
 //! Calls of threads that share a driver, each with a token.
-ghost use Rattle.std.specs.Prelude.{◌≡◌, ◌+◌, ◌<◌, ◌≤◌, All, vec_len, vec_capacity, false};
+ghost use Rattle.std.specs.Prelude.{◌≡◌, ◌+◌, ◌<◌, ◌≤◌, All, vec_len, vec_capacity};
 ghost use Rattle.egl_model.specs.Waits.{is_wait_end};
 ghost use Rattle.shared_driver.specs.Tokens.{IsOf};
 
 use crate::calls::{PIXEL_BYTES, lines_of};
 use crate::threads::sorts::{Sort, Way, before};
 use anyhow::{Result, bail};
-use egl_calls::{Call, Kind, OwnKind};
+use egl_calls::{Kind, OwnKind};
 use shared_driver::{Closed, Opened, Shared, Thread};
 use std::alloc::Global;
 use std::rt::Clock;
@@ -14,7 +14,7 @@ use std::sync::Wait;
 use std::thread;
 use std::thread::Threads;
 use std::time::{Duration, Instant};
-use trace_reader::Trace;
+use trace_reader::{LineCall, Trace};
 
 fn is_wait_end(kind: Kind) -> bool
     ensures { result ≡ is_wait_end kind }
@@ -30,12 +30,12 @@ fn call<R: Wait>(
     token: &mut Thread,
     way: Way,
     mark: u64,
-    call: &Call,
+    call: &LineCall,
 )
     requires { IsOf shared.now token.old }
     ensures { IsOf shared.now token.new }
 {
-    let Ok(call) = call.copy(alloc) else {
+    let Ok(call) = call.to_call(alloc) else {
         return;
     };
     if way == Way::Part && token.is_local(&call) {

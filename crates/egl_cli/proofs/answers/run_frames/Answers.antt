@@ -8,12 +8,12 @@ use Rattle.egl_cli.proofs.answers.run_frames.Goals as goal
 
 pub ended_frames-requires-clause-threads : goal.ended_frames-requires-clause-threads
 ended_frames-requires-clause-threads c =
-    threads_below c.args.trace.now c.journal_of.result.entries c.lines.ensures.trace (ap (λ (j : JournalValue). j.entries) c.journal_of.ensures ∙ c.in-Ok.ensures.complete.0.journal)
+    threads_below c.args.trace.now c.journal_of.result.entries c.in_order.ensures (ap (λ (j : JournalValue). j.entries) c.journal_of.ensures ∙ c.in-Ok.ensures.complete.0.journal)
 
 pub stalled_frames-requires-clause-threads : goal.stalled_frames-requires-clause-threads
 stalled_frames-requires-clause-threads c =
     let stalled = rw c.in-Err-Stalled.field-0-is at c.in-Err-Stalled.ensures.stalled in
-    threads_below c.args.trace.now c.journal_of-in-Err-Stalled.result.entries c.lines.ensures.trace (ap (λ (j : JournalValue). j.entries) c.journal_of-in-Err-Stalled.ensures ∙ stalled.0.journal)
+    threads_below c.args.trace.now c.journal_of-in-Err-Stalled.result.entries c.in_order.ensures (ap (λ (j : JournalValue). j.entries) c.journal_of-in-Err-Stalled.ensures ∙ stalled.0.journal)
 
 pub returns-in-Ok : goal.returns-in-Ok
 returns-in-Ok c =

@@ -1,4 +1,4 @@
-use Rattle.std.proofs.Common.{◌≡◌, ◌∙◌, ap, true, false}
+use Rattle.std.proofs.Common.{true, false}
 use Rattle.std.proofs.lemmas.Result.{IfOk-weaker}
 use Rattle.egl_cli.specs.declared.answers.Answer.{Answer}
 use Rattle.egl_cli.specs.Answers.{IsJournalRaces, IsRacesAnswer}
@@ -8,12 +8,12 @@ use Rattle.egl_cli.proofs.races.run_races.Goals as goal
 
 pub ended_races-requires : goal.ended_races-requires
 ended_races-requires c =
-    threads_below c.args.trace.now c.in-Ok.run'.journal.entries c.lines.ensures.trace c.in-Ok.ensures.complete.0.journal
+    threads_below c.args.trace.now c.in-Ok.run'.journal.entries c.in_order.ensures c.in-Ok.ensures.complete.0.journal
 
 pub stalled_races-requires : goal.stalled_races-requires
 stalled_races-requires c =
     let stalled = rw c.in-Err-Stalled.field-0-is at c.in-Err-Stalled.ensures.stalled in
-    threads_below c.args.trace.now c.in-Err-Stalled.run'.journal.entries c.lines.ensures.trace stalled.0.journal
+    threads_below c.args.trace.now c.in-Err-Stalled.run'.journal.entries c.in_order.ensures stalled.0.journal
 
 pub returns-in-Ok : goal.returns-in-Ok
 returns-in-Ok c =

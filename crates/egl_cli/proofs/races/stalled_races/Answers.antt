@@ -1,4 +1,4 @@
-use Rattle.std.proofs.Common.{◌≡◌, ◌++◌, ◌∙◌, ℕ, List, ap}
+use Rattle.std.proofs.Common.{◌++◌, ◌∙◌, ℕ, List, ap}
 use Rattle.egl_calls.specs.declared.entries.Entry.{Entry}
 use Rattle.egl_cli.specs.RaceLines.{races_text}
 use Rattle.egl_cli.specs.StalledLines.{stalled_lines}

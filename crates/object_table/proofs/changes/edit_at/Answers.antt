@@ -1,4 +1,4 @@
-use Rattle.std.proofs.Common.{sym, ap, subst}
+use Rattle.std.proofs.Common.{sym, subst}
 use Rattle.ref_store.specs.Kept.{at}
 use Rattle.object_table.specs.Nodes.{object_in}
 use Rattle.object_table.proofs.ChangeLaws.{edited_here, edited_none, edited_of, shown_may}

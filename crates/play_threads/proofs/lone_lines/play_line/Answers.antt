@@ -14,12 +14,12 @@ returns-clause-lone c =
     let l : Line = c.args.line.now in
     let r = c.in_ok-reply.reply in
     let h = c.requires.learnt in
-    let is : record u { tail = u.tail ++ entry u.number l.number c.in_ok-call.call r ∷ []; places = u.places - 1 } ≡ record u { tail = u.tail ++ entry u.number l.number l.call r ∷ []; places = u.places - 1 } =
-    ap (λ (x : CallValue). record u { tail = u.tail ++ entry u.number l.number x r ∷ []; places = u.places - 1 }) c.in_ok-call.ensures in
+    let is : record u { tail = u.tail ++ entry u.number l.number c.args.call r ∷ []; places = u.places - 1 } ≡ record u { tail = u.tail ++ entry u.number l.number l.call r ∷ []; places = u.places - 1 } =
+    ap (λ (x : CallValue). record u { tail = u.tail ++ entry u.number l.number x r ∷ []; places = u.places - 1 }) c.requires.call in
     let after = c.in_ok-reply.ensures.ok ∙ is in
     let seen : v.seen ≡ u.seen = ap (λ (x : Token). x.seen) after in
     let tail : v.tail ≡ u.tail ++ entry u.number l.number l.call r ∷ [] = ap (λ (x : Token). x.tail) after in
-    let own : mine v ≡ mine u ++ entry u.number l.number l.call r ∷ [] = c.in_ok-reply.ensures.mine ∙ ap (λ (x : CallValue). mine u ++ entry u.number l.number x r ∷ []) c.in_ok-call.ensures in
+    let own : mine v ≡ mine u ++ entry u.number l.number l.call r ∷ [] = c.in_ok-reply.ensures.mine ∙ ap (λ (x : CallValue). mine u ++ entry u.number l.number x r ∷ []) c.requires.call in
     lone_played u v p c.learn_own.new.self l r c.requires.number c.requires.facts c.requires.below h (c.requires.lone h.learned h.knows) seen tail own
 
 pub returns-clause-learnt : goal.returns-clause-learnt
@@ -30,10 +30,10 @@ returns-clause-learnt c =
     let l : Line = c.args.line.now in
     let r = c.in_ok-reply.reply in
     let h = c.requires.learnt in
-    let is : record u { tail = u.tail ++ entry u.number l.number c.in_ok-call.call r ∷ []; places = u.places - 1 } ≡ record u { tail = u.tail ++ entry u.number l.number l.call r ∷ []; places = u.places - 1 } =
-    ap (λ (x : CallValue). record u { tail = u.tail ++ entry u.number l.number x r ∷ []; places = u.places - 1 }) c.in_ok-call.ensures in
+    let is : record u { tail = u.tail ++ entry u.number l.number c.args.call r ∷ []; places = u.places - 1 } ≡ record u { tail = u.tail ++ entry u.number l.number l.call r ∷ []; places = u.places - 1 } =
+    ap (λ (x : CallValue). record u { tail = u.tail ++ entry u.number l.number x r ∷ []; places = u.places - 1 }) c.requires.call in
     let after = c.in_ok-reply.ensures.ok ∙ is in
     let seen : v.seen ≡ u.seen = ap (λ (x : Token). x.seen) after in
     let tail : v.tail ≡ u.tail ++ entry u.number l.number l.call r ∷ [] = ap (λ (x : Token). x.tail) after in
-    let own : mine v ≡ mine u ++ entry u.number l.number l.call r ∷ [] = c.in_ok-reply.ensures.mine ∙ ap (λ (x : CallValue). mine u ++ entry u.number l.number x r ∷ []) c.in_ok-call.ensures in
+    let own : mine v ≡ mine u ++ entry u.number l.number l.call r ∷ [] = c.in_ok-reply.ensures.mine ∙ ap (λ (x : CallValue). mine u ++ entry u.number l.number x r ∷ []) c.requires.call in
     lone_learnt_if_ok u v p c.learn_own.new.self l r c.requires.number c.requires.facts c.requires.below h (c.requires.lone h.learned h.knows) seen tail own c.learn_own.result c.learn_own.ensures.same.0 c.learn_own.ensures.same.2 c.learn_own.ensures.same.3 c.learn_own.ensures.knows

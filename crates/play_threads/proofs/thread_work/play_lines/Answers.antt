@@ -64,7 +64,7 @@ returns-in_err-picked-clause-plays g c =
     let plays = let P : List Entry → Type 0 = λ es. PlaysAs t n es in subst P (sym played.same.1) h.plays in
     let lone = lone_as c.turns.picker.session.trace t c.turns.picker.thread n w.seen w.tail u.seen u.tail h.trace h.thread played.lone h.lone in
     let calm = played.calm h.calm in
-    handed_in t c.lines.ensures.trace n c.requires.number _ c.requires.opening u v same plays lone c.what_a_token_has_seen_is_legal.ensures c.in_err-picked.ensures.err
+    handed_in t c.in_order.ensures n c.requires.number _ c.requires.opening u v same plays lone c.what_a_token_has_seen_is_legal.ensures c.in_err-picked.ensures.err
 
 pub returns-in_err-picked-clause-calm : goal.returns-in_err-picked-clause-calm
 unfolding has_halted
@@ -90,12 +90,12 @@ turns-preserved-in-Continue-branch-4 g c =
     record {
       owns = c.call_picked-outcome.ensures.owns;
       same = (c.call_picked-outcome.ensures.same.0 ∙ same, c.call_picked-outcome.ensures.same.1 ∙ played.same.0.1 ∙ h.same.1);
-      plays = turn_plays t c.lines.ensures.trace _ c.requires.opening n c.requires.number u v p q c.in_ok-picked.picked same plays lone calm own of c.in_ok-picked.ensures.ok c.in_ok-picked.ensures.tail c.what_a_token_has_seen_is_legal.ensures;
+      plays = turn_plays t c.in_order.ensures _ c.requires.opening n c.requires.number u v p q c.in_ok-picked.picked same plays lone calm own of c.in_ok-picked.ensures.ok c.in_ok-picked.ensures.tail c.what_a_token_has_seen_is_legal.ensures;
       lone = none_lone t n v c.in_ok-picked.ensures.tail;
-      calm = turn_calm t c.lines.ensures.trace _ c.requires.opening n c.requires.number u v p q c.in_ok-picked.picked same plays lone calm own of c.in_ok-picked.ensures.ok;
+      calm = turn_calm t c.in_order.ensures _ c.requires.opening n c.requires.number u v p q c.in_ok-picked.picked same plays lone calm own of c.in_ok-picked.ensures.ok;
       thread = c.learn_own.ensures.same.0 ∙ c.in_ok-picked.ensures.ok.5.thread ∙ own;
       trace = c.learn_own.ensures.same.1 ∙ c.in_ok-picked.ensures.ok.5.trace ∙ of;
-      learnt = turn_told t c.lines.ensures.trace _ c.requires.opening n c.requires.number u v p q c.in_ok-picked.picked same plays lone calm own of c.in_ok-picked.ensures.ok c.in-Replied.reply c.in-Replied.is c.learn_own.new.self c.learn_own.ensures.same.0 c.learn_own.ensures.same.2 c.learn_own.ensures.same.3 c.in_ok-learn_own-in-Replied.ensures.knows;
+      learnt = turn_told t c.in_order.ensures _ c.requires.opening n c.requires.number u v p q c.in_ok-picked.picked same plays lone calm own of c.in_ok-picked.ensures.ok c.in-Replied.reply c.in-Replied.is c.learn_own.new.self c.learn_own.ensures.same.0 c.learn_own.ensures.same.2 c.learn_own.ensures.same.3 c.in_ok-learn_own-in-Replied.ensures.knows;
     }
 
 pub returns-in_err-learn_own-in-Replied-clause-plays : goal.returns-in_err-learn_own-in-Replied-clause-plays
@@ -115,7 +115,7 @@ returns-in_err-learn_own-in-Replied-clause-plays g c =
     let plays = let P : List Entry → Type 0 = λ es. PlaysAs t n es in subst P (sym played.same.1) h.plays in
     let lone = lone_as c.turns.picker.session.trace t c.turns.picker.thread n w.seen w.tail u.seen u.tail h.trace h.thread played.lone h.lone in
     let calm = played.calm h.calm in
-    turn_plays t c.lines.ensures.trace _ c.requires.opening n c.requires.number u v p q c.in_ok-picked.picked same plays lone calm own of c.in_ok-picked.ensures.ok c.in_ok-picked.ensures.tail c.what_a_token_has_seen_is_legal.ensures
+    turn_plays t c.in_order.ensures _ c.requires.opening n c.requires.number u v p q c.in_ok-picked.picked same plays lone calm own of c.in_ok-picked.ensures.ok c.in_ok-picked.ensures.tail c.what_a_token_has_seen_is_legal.ensures
 
 pub returns-in_err-learn_own-in-Replied-clause-calm : goal.returns-in_err-learn_own-in-Replied-clause-calm
 unfolding has_halted
@@ -135,7 +135,7 @@ returns-in_err-learn_own-in-Replied-clause-calm g c =
     let plays = let P : List Entry → Type 0 = λ es. PlaysAs t n es in subst P (sym played.same.1) h.plays in
     let lone = lone_as c.turns.picker.session.trace t c.turns.picker.thread n w.seen w.tail u.seen u.tail h.trace h.thread played.lone h.lone in
     let calm = played.calm h.calm in
-    turn_calm t c.lines.ensures.trace _ c.requires.opening n c.requires.number u v p q c.in_ok-picked.picked same plays lone calm own of c.in_ok-picked.ensures.ok
+    turn_calm t c.in_order.ensures _ c.requires.opening n c.requires.number u v p q c.in_ok-picked.picked same plays lone calm own of c.in_ok-picked.ensures.ok
 
 pub turns-preserved : goal.turns-preserved
 turns-preserved g c =
@@ -157,12 +157,12 @@ turns-preserved g c =
     record {
       owns = c.call_picked-outcome.ensures.owns;
       same = (c.call_picked-outcome.ensures.same.0 ∙ same, c.call_picked-outcome.ensures.same.1 ∙ played.same.0.1 ∙ h.same.1);
-      plays = turn_plays t c.lines.ensures.trace _ c.requires.opening n c.requires.number u v p q c.in_ok-picked.picked same plays lone calm own of c.in_ok-picked.ensures.ok c.in_ok-picked.ensures.tail c.what_a_token_has_seen_is_legal.ensures;
+      plays = turn_plays t c.in_order.ensures _ c.requires.opening n c.requires.number u v p q c.in_ok-picked.picked same plays lone calm own of c.in_ok-picked.ensures.ok c.in_ok-picked.ensures.tail c.what_a_token_has_seen_is_legal.ensures;
       lone = none_lone t n v c.in_ok-picked.ensures.tail;
-      calm = turn_calm t c.lines.ensures.trace _ c.requires.opening n c.requires.number u v p q c.in_ok-picked.picked same plays lone calm own of c.in_ok-picked.ensures.ok;
+      calm = turn_calm t c.in_order.ensures _ c.requires.opening n c.requires.number u v p q c.in_ok-picked.picked same plays lone calm own of c.in_ok-picked.ensures.ok;
       thread = c.in_ok-picked.ensures.ok.5.thread ∙ own;
       trace = c.in_ok-picked.ensures.ok.5.trace ∙ of;
-      learnt = turn_learnt t c.lines.ensures.trace _ c.requires.opening n c.requires.number u v p q c.in_ok-picked.picked same plays lone calm own of c.in_ok-picked.ensures.ok c.in-Waited.is;
+      learnt = turn_learnt t c.in_order.ensures _ c.requires.opening n c.requires.number u v p q c.in_ok-picked.picked same plays lone calm own of c.in_ok-picked.ensures.ok c.in-Waited.is;
     }
 
 pub returns-in-Stopped-clause-plays : goal.returns-in-Stopped-clause-plays
@@ -182,7 +182,7 @@ returns-in-Stopped-clause-plays g c =
     let plays = let P : List Entry → Type 0 = λ es. PlaysAs t n es in subst P (sym played.same.1) h.plays in
     let lone = lone_as c.turns.picker.session.trace t c.turns.picker.thread n w.seen w.tail u.seen u.tail h.trace h.thread played.lone h.lone in
     let calm = played.calm h.calm in
-    turn_plays t c.lines.ensures.trace _ c.requires.opening n c.requires.number u v p q c.in_ok-picked.picked same plays lone calm own of c.in_ok-picked.ensures.ok c.in_ok-picked.ensures.tail c.what_a_token_has_seen_is_legal.ensures
+    turn_plays t c.in_order.ensures _ c.requires.opening n c.requires.number u v p q c.in_ok-picked.picked same plays lone calm own of c.in_ok-picked.ensures.ok c.in_ok-picked.ensures.tail c.what_a_token_has_seen_is_legal.ensures
 
 pub returns-in-Stopped-clause-calm : goal.returns-in-Stopped-clause-calm
 unfolding has_halted
@@ -202,7 +202,7 @@ returns-in-Stopped-clause-calm g c =
     let plays = let P : List Entry → Type 0 = λ es. PlaysAs t n es in subst P (sym played.same.1) h.plays in
     let lone = lone_as c.turns.picker.session.trace t c.turns.picker.thread n w.seen w.tail u.seen u.tail h.trace h.thread played.lone h.lone in
     let calm = played.calm h.calm in
-    turn_calm t c.lines.ensures.trace _ c.requires.opening n c.requires.number u v p q c.in_ok-picked.picked same plays lone calm own of c.in_ok-picked.ensures.ok
+    turn_calm t c.in_order.ensures _ c.requires.opening n c.requires.number u v p q c.in_ok-picked.picked same plays lone calm own of c.in_ok-picked.ensures.ok
 
 pub returns-in-Stopped-clause-over : goal.returns-in-Stopped-clause-over
 returns-in-Stopped-clause-over g c =
@@ -221,4 +221,4 @@ returns-in-Stopped-clause-over g c =
     let plays = let P : List Entry → Type 0 = λ es. PlaysAs t n es in subst P (sym played.same.1) h.plays in
     let lone = lone_as c.turns.picker.session.trace t c.turns.picker.thread n w.seen w.tail u.seen u.tail h.trace h.thread played.lone h.lone in
     let calm = played.calm h.calm in
-    turn_over t c.lines.ensures.trace _ c.requires.opening n c.requires.number u v p q c.in_ok-picked.picked same plays lone calm own of c.in_ok-picked.ensures.ok c.in-Stopped.is
+    turn_over t c.in_order.ensures _ c.requires.opening n c.requires.number u v p q c.in_ok-picked.picked same plays lone calm own of c.in_ok-picked.ensures.ok c.in-Stopped.is

@@ -28,6 +28,6 @@ joining-preserved g c =
     record {
       owns = joined.owns;
       play = λ e. play_joined t (token_of c.joining.thread) (token_of c.join.new.into) (token_of c.in-Some.worker.thread) joined.number joined.ended through.ended through.tail
-          (through.number e) (through.plays e) joined.seen joined.other (c.joining.invariant.play c.if-wanted.false);
+          through.number (through.plays e) joined.seen joined.other (c.joining.invariant.play c.if-wanted.false);
       through = rest.0;
     }

@@ -1,4 +1,4 @@
-use Rattle.std.proofs.Common.{sym, ap, ◌∙◌, set, Some}
+use Rattle.std.proofs.Common.{sym, ap, ◌∙◌, set}
 use Rattle.numbered.proofs.Writes.{wrote}
 use Rattle.ref_store.proofs.editing.edit_at.Goals as goal
 

@@ -1,4 +1,4 @@
-use Rattle.std.proofs.Common.{◌≡◌, ◌∙◌, ℕ, ◌+◌, length, arith, ap}
+use Rattle.std.proofs.Common.{◌∙◌, ◌+◌, length, ap}
 use Rattle.shared_driver.specs.Cores.{place_for, room_for}
 use Rattle.shared_driver.proofs.Turning.{no_place, unused}
 use Rattle.shared_driver.proofs.laws.a_token_has_the_room_it_needs.Goals as goal

@@ -7,25 +7,25 @@ use Rattle.egl_model.specs.State.{State}
 use Rattle.egl_model.specs.Sweep.{roots_of}
 use Rattle.egl_model.specs.Textures.{change_pixels}
 use Rattle.object_table.specs.Tables.{TableValue}
-use Rattle.driver_core.specs.Machine.{state_of}
+use Rattle.driver_facts.specs.Tables.{state_of}
 use Rattle.driver_core.proofs.LevelLaws.{held_again, left_after}
 use Rattle.driver_core.proofs.RenderbufferLaws.{cheap_stored}
-use Rattle.driver_core.proofs.RootLaws.{first_held}
+use Rattle.driver_facts.proofs.RootLaws.{first_held}
 use Rattle.driver_core.proofs.machine.Driver.add_storage.Goals as goal
 
 pub release-requires : goal.release-requires
 release-requires g c =
-    let roots = roots_of c.self.inside.displays.handles c.self.inside.threads.records in
+    let roots = roots_of c.self.inside.tables.displays.handles c.self.inside.tables.threads.records in
     let e = ap (λ (v : TableValue). v.holds) c.set_kind.ensures ∙ c.reserve.ensures.holds in
     let k = held_again c.len-new.result roots c.make_one.new.self.holds c.link_pixels.new.self.holds c.link_pixels.ensures.holds (rw c.len-new.ensures.value (c.make_one.ensures.held roots (rw e c.self.invariant))) in
     record { held = first_held c.len-new.result roots c.link_pixels.new.self.holds k }
 
 pub returns-clause-state : goal.returns-clause-state
 returns-clause-state g c =
-    let roots = roots_of c.self.inside.displays.handles c.self.inside.threads.records in
+    let roots = roots_of c.self.inside.tables.displays.handles c.self.inside.tables.threads.records in
     let e = ap (λ (v : TableValue). v.holds) c.set_kind.ensures ∙ c.reserve.ensures.holds in
     let k = held_again c.len-new.result roots c.make_one.new.self.holds c.link_pixels.new.self.holds c.link_pixels.ensures.holds (rw c.len-new.ensures.value (c.make_one.ensures.held roots (rw e c.self.invariant))) in
-    let m : c.set_kind.new.self.objects ≡ change_renderbuffer (with_kind c.args.kind) c.args.renderbuffer c.self.inside.objects.objects = ap (λ (v : TableValue). v.objects) c.set_kind.ensures ∙ ap (change_renderbuffer (with_kind c.args.kind) c.args.renderbuffer) c.reserve.ensures.objects in
+    let m : c.set_kind.new.self.objects ≡ change_renderbuffer (with_kind c.args.kind) c.args.renderbuffer c.self.inside.tables.objects.objects = ap (λ (v : TableValue). v.objects) c.set_kind.ensures ∙ ap (change_renderbuffer (with_kind c.args.kind) c.args.renderbuffer) c.reserve.ensures.objects in
     let w = c.make_one.ensures.objects ∙ ap (λ (os : List (Option Object)). os ++ Some (Storage c.args.storage) ∷ []) m in
     let n = c.len-new.ensures.value ∙ ap length m in
     let o = left_after c.link_pixels.new.self c.release.new.self (change_pixels 0 (Some c.len-new.result) c.args.renderbuffer c.make_one.new.self.objects) c.len-new.result c.link_pixels.new.steps c.release.new.steps roots c.link_pixels.ensures.objects k c.release.ensures c.left.ensures in
@@ -33,8 +33,8 @@ returns-clause-state g c =
 
 pub returns-clause-steps : goal.returns-clause-steps
 returns-clause-steps g c =
-    let s : State = state_of c.self.inside.displays c.self.inside.objects.objects c.self.inside.threads.records c.self.inside.windows c.self.inside.video in
-    let a : State = state_of c.self.inside.displays c.release.new.self.objects c.self.inside.threads.records c.self.inside.windows c.self.inside.video in
-    let m : c.set_kind.new.self.objects ≡ change_renderbuffer (with_kind c.args.kind) c.args.renderbuffer c.self.inside.objects.objects = ap (λ (v : TableValue). v.objects) c.set_kind.ensures ∙ ap (change_renderbuffer (with_kind c.args.kind) c.args.renderbuffer) c.reserve.ensures.objects in
+    let s : State = state_of c.self.inside.tables.displays c.self.inside.tables.objects.objects c.self.inside.tables.threads.records c.self.inside.tables.windows c.self.inside.tables.video in
+    let a : State = state_of c.self.inside.tables.displays c.release.new.self.objects c.self.inside.tables.threads.records c.self.inside.tables.windows c.self.inside.tables.video in
+    let m : c.set_kind.new.self.objects ≡ change_renderbuffer (with_kind c.args.kind) c.args.renderbuffer c.self.inside.tables.objects.objects = ap (λ (v : TableValue). v.objects) c.set_kind.ensures ∙ ap (change_renderbuffer (with_kind c.args.kind) c.args.renderbuffer) c.reserve.ensures.objects in
     let w = c.make_one.ensures.objects ∙ ap (λ (os : List (Option Object)). os ++ Some (Storage c.args.storage) ∷ []) m in
     rw (← c.self.view_is) (cheap_stored s a c.link_pixels.new.self.objects c.make_one.new.self.objects c.args.kind c.args.renderbuffer c.args.storage c.args.steps.now c.link_pixels.new.steps c.release.new.steps refl w c.link_pixels.ensures.steps c.release.ensures.steps)

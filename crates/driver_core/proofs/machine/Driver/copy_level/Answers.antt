@@ -1,4 +1,4 @@
-use Rattle.driver_core.proofs.CopyLaws.{copied_below}
+use Rattle.driver_facts.proofs.CopyLaws.{copied_below}
 use Rattle.driver_core.proofs.machine.Driver.copy_level.Goals as goal
 
 pub give_level-requires : goal.give_level-requires

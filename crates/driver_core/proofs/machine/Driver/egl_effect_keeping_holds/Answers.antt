@@ -1,5 +1,5 @@
-use Rattle.driver_core.proofs.Allowed.{sync_current, sync_display, sync_numbers, window_display, window_numbers, window_range, window_place, initialize_display, choice_list, pbuffer_display, pbuffer_numbers, pbuffer_range, context_display, context_numbers, context_range}
-use Rattle.driver_core.proofs.ImageLaws.{image_display, image_numbers, image_source}
+use Rattle.driver_facts.proofs.Allowed.{sync_current, sync_display, sync_numbers, window_display, window_numbers, window_range, window_place, initialize_display, choice_list, pbuffer_display, pbuffer_numbers, pbuffer_range, context_display, context_numbers, context_range}
+use Rattle.driver_facts.proofs.ImageLaws.{image_display, image_numbers, image_source}
 use Rattle.driver_core.proofs.machine.Driver.egl_effect_keeping_holds.Goals as goal
 
 pub initialize-requires : goal.initialize-requires

@@ -1,5 +1,4 @@
 use Rattle.std.proofs.Common.{◌∙◌, ap}
-use Rattle.context_state.specs.Parts.{PartValue}
 use Rattle.pixel_rows.specs.declared.rects.Rect.{Rect}
 use Rattle.egl_model.specs.Currents.{part_of_context}
 use Rattle.egl_model.specs.Draws.{sampler}

@@ -2,10 +2,9 @@ use Rattle.std.proofs.Common.{◌≡◌, true, ap, subst, sym, ◌∙◌, IfOk, 
 use Rattle.std.specs.Prelude.{IsOk}
 use Rattle.egl_calls.specs.Calls.{CallValue}
 use Rattle.egl_calls.specs.declared.kinds.Kind.{Kind}
-use Rattle.egl_model.specs.Parts.{part_of}
 use Rattle.egl_model.specs.Step.{Stepped}
-use Rattle.driver_core.specs.Memory.{is_bare}
-use Rattle.driver_core.proofs.UploadLaws.{gives_gl, upload_step}
+use Rattle.driver_facts.specs.Memory.{is_bare}
+use Rattle.driver_core.proofs.UploadLaws.{upload_step}
 use Rattle.driver_core.proofs.machine.Driver.step_in_with_upload.Goals as goal
 
 pub returns-clause-reply : goal.returns-clause-reply

@@ -1,4 +1,4 @@
-use Rattle.std.proofs.Common.{arith, rules, ◌≡◌, ◌<◌, ◌+◌, List, length, take, ℕ, suc, ap, ◌∙◌, slice_set, Some}
+use Rattle.std.proofs.Common.{arith, ◌≡◌, ◌<◌, ◌+◌, length, take, suc, ap, ◌∙◌, slice_set, Some}
 use Rattle.refusal_rows.specs.Rows.{held}
 use Rattle.refusal_rows.proofs.HeldLaws.{held_on, held_off}
 use Rattle.refusal_rows.proofs.rows.HoldingVerdict.tell.Goals.{then-holds, else-holds}

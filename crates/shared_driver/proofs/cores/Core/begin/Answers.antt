@@ -1,6 +1,7 @@
 use Rattle.std.proofs.Common.{ℕ, ◌+◌, ◌-◌, ◌≤◌, ◌∙◌, List, arith, ap, get_or, set, length, subst, sym}
+use Rattle.egl_calls.specs.Errors.{is_waiting}
 use Rattle.shared_driver.specs.declared.cores.Played.{Played}
-use Rattle.shared_driver.specs.Cores.{is_waiting, place_for}
+use Rattle.shared_driver.specs.Cores.{place_for}
 use Rattle.shared_driver.proofs.Rooms.{place_one, set_more}
 use Rattle.shared_driver.proofs.cores.Core.begin.Goals as goal
 

@@ -10,14 +10,23 @@ use Rattle.egl_model.specs.Parts.{Private}
 use Rattle.turn_lock.specs.Passes.{first_of, view_of}
 use Rattle.turn_lock.specs.declared.view.View.{View}
 use Rattle.shared_driver.specs.declared.cores.Core.{Core}
+use Rattle.shared_driver.specs.declared.cores.TokenCount.{TokenCount}
 use Rattle.shared_driver.specs.Cores.{origin, place_for, room_for}
 use Rattle.shared_driver.specs.Tokens.{Goes}
 use Rattle.shared_driver.specs.Turns.{IsTurn}
-use Rattle.shared_driver.proofs.Attaching.{counted_before, new_token, not_halted, outs_new, owned_before, room_given, room_gives, rooms_long, rooms_other, rooms_own, turn_admits}
+use Rattle.shared_driver.proofs.Attaching.{below_limit, counted_before, full_now, new_token, not_halted, outs_new, owned_before, room_given, room_gives, rooms_long, rooms_other, rooms_own, turn_admits}
 use Rattle.shared_driver.proofs.Histories.{of_thread, ready_at, ready_replay}
 use Rattle.shared_driver.proofs.Owned.{halted_same, own_each}
+use Rattle.shared_driver.proofs.Standing.{may_admit, within_more}
 use Rattle.shared_driver.proofs.Turning.{after, hands_mine, keeps_ends, keeps_learns, keeps_mine, kept_rooms, lent_begun, many_kept, many_now, room_found, room_kept, room_now, tok}
 use Rattle.shared_driver.proofs.tokens.Shared.attach.Goals as goal
+
+pub admit-requires-clause-limit : goal.admit-requires-clause-limit
+admit-requires-clause-limit g c =
+    let f = (first_of c.args.self.now.turns).value in
+    let z = c.value-core.result.now in
+    let b = lent_begun f c.args.from.now.hold c.begin_turn-held.new.hold c.begin_turn-held.result.value z c.value-core.ensures.value c.begin_turn-held.ensures.begun in
+    may_admit f.tokens.most z b.within
 
 pub split_after-pass-requires-clause-added : goal.split_after-pass-requires-clause-added
 split_after-pass-requires-clause-added g c =
@@ -66,7 +75,8 @@ end_turn-requires-clause-ends g c =
       entries = sym (ap (λ (v : View Core Entry). v.seen) grew) ∙ sym (append-nil _);
       own = λ i d l. absurd (omega arith);
       made = p.driver.0 ∙ sym (ap (λ (v : View Core Entry). v.counts.made) grew ∙ ap (λ (v : View Core Entry). v.counts.made + 1) b.view);
-      live = p.rooms.0 ∙ sym (ap (λ (v : View Core Entry). v.counts.live) grew ∙ ap (λ (v : View Core Entry). v.counts.live + 1) b.view);
+      live = ap (λ (q : TokenCount). q.live) p.rooms.0 ∙ sym (ap (λ (v : View Core Entry). v.counts.live) grew ∙ ap (λ (v : View Core Entry). v.counts.live + 1) b.view);
+      within = within_more f.tokens.most z y (ap (λ (q : TokenCount). q.most) p.rooms.0) p.driver.0 (subst (λ m. m < z.tokens.most) p.number.0 p.below) b.within;
       long = rooms_long z y n room p.rooms.1 ∙ ap length (sym rooms);
       other_rooms = λ m ne. rooms_other z y n room m p.rooms.1 (λ k. ne (k ∙ b.numbered ∙ sym number)) ∙ ap (λ l. slice_index l m) (sym rooms);
       room = subst (λ (q : List Entry × ℕ). length q.0 < q.1) (λ j. (sym p.added.1 j, sym (rooms_own z y n room b.turn.number p.rooms.1) j)) (room_given (length u.tail.items) _ (256 - t.places) b.room);
@@ -272,3 +282,22 @@ returns-in-Ok-clause-new_number g c =
     let number = ap (λ (q : View Core Entry). q.number) left ∙ ap (λ (q : View Core Entry). q.number) grew ∙ ap (λ (q : View Core Entry). q.number) b.view in
     let ended = ap (λ (q : View Core Entry). q.ended) left ∙ ap (λ (q : View Core Entry). q.ended) grew ∙ ap (λ (q : View Core Entry). q.ended) b.view in
     (counted_before f h u z v y.journal.entries b new, owned_before f h u z v w y.journal.entries b new number ended)
+
+pub returns-in-Ok-clause-below : goal.returns-in-Ok-clause-below
+returns-in-Ok-clause-below g c =
+    let f = (first_of c.args.self.now.turns).value in
+    let h = c.args.from.now.hold in
+    let u = c.begin_turn-held.new.hold in
+    let z = c.value-core.result.now in
+    let b = lent_begun f h u c.begin_turn-held.result.value z c.value-core.ensures.value c.begin_turn-held.ensures.begun in
+    let p = c.in-Ok.ensures in
+    below_limit f h u z (view_of c.split_after-pass.result) c.admit.new.self.journal.entries c.in-Ok.field-0.number b c.split_after-pass.ensures.new p.number.0 p.below
+
+pub returns-in-Err-clause-full : goal.returns-in-Err-clause-full
+returns-in-Err-clause-full g c =
+    let f = (first_of c.args.self.now.turns).value in
+    let h = c.args.from.now.hold in
+    let u = c.begin_turn-held.new.hold in
+    let z = c.value-core.result.now in
+    let b = lent_begun f h u c.begin_turn-held.result.value z c.value-core.ensures.value c.begin_turn-held.ensures.begun in
+    full_now f h u c.end_turn-in-Err.new.hold z c.admit.new.self c.in-Err.error b c.end_turn-in-Err.ensures.view c.in-Err.ensures.full

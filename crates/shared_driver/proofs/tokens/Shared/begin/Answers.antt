@@ -1,10 +1,11 @@
 use Rattle.std.proofs.Common.{◌≡◌, ◌≤◌, ◌+◌, ◌-◌, ◌||◌, ◌∙◌, ◌∷◌, ◌++◌, [], Bool, arith, refl, ap, sym, subst, length}
+use Rattle.egl_calls.specs.Errors.{is_waiting}
 use Rattle.std.specs.Prelude.{slice_index}
 use Rattle.std.specs.VecDeque.{deque_capacity}
 use Rattle.egl_calls.specs.Calls.{CallValue, ReplyValue}
 use Rattle.egl_calls.specs.Journals.{is_halt_kind}
 use Rattle.turn_lock.specs.Passes.{first_of, view_of}
-use Rattle.shared_driver.specs.Cores.{entry, is_waiting, place_for, room_for}
+use Rattle.shared_driver.specs.Cores.{entry, place_for, room_for}
 use Rattle.shared_driver.proofs.Owned.{halted_more, halted_same, or_false}
 use Rattle.shared_driver.proofs.LateTurns.{adds_with}
 use Rattle.shared_driver.proofs.Turning.{adds_goes, adds_mine, after, enough_back, keeps_ends, keeps_learns, keeps_mine, kept_rooms, lent_begun, many_kept, many_now, room_back, room_found, room_kept, room_now, upload_found}

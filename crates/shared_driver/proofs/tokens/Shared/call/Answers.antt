@@ -1,6 +1,6 @@
 use Rattle.std.proofs.Common.{◌≡◌, inr, ap, sym, true, ◌∙◌}
 use Rattle.egl_calls.specs.Calls.{ReplyValue}
-use Rattle.shared_driver.specs.Cores.{is_waiting}
+use Rattle.egl_calls.specs.Errors.{is_waiting}
 use Rattle.shared_driver.specs.Tokens.{token_of}
 use Rattle.shared_driver.proofs.Learning.{after_wait}
 use Rattle.shared_driver.proofs.tokens.Shared.call.Goals as goal

@@ -1,4 +1,4 @@
-use Rattle.std.proofs.Common.{◌≡◌, ◌≤◌, ◌<◌, ◌+◌, ◌-◌, ◌||◌, ◌∙◌, ◌++◌, [], ℕ, Bool, false, List, arith, refl, ap, sym, subst, length}
+use Rattle.std.proofs.Common.{◌≡◌, ◌≤◌, ◌<◌, ◌+◌, ◌-◌, ◌||◌, ◌∙◌, ◌++◌, [], ℕ, false, List, arith, refl, ap, sym, subst, length}
 use Rattle.std.specs.Prelude.{slice_index}
 use Rattle.std.specs.Prelude as std
 use Rattle.std.specs.VecDeque.{deque_capacity}

@@ -1,10 +1,10 @@
-use Rattle.std.proofs.Common.{◌≡◌, ◌≤◌, ◌+◌, ◌-◌, ◌||◌, ◌∙◌, ◌∷◌, ◌++◌, [], Bool, arith, refl, ap, sym, subst, length}
-use Rattle.std.specs.Prelude.{slice_index}
+use Rattle.std.proofs.Common.{◌≡◌, ◌≤◌, ◌+◌, ◌-◌, ◌||◌, ◌∙◌, ◌∷◌, ◌++◌, [], arith, refl, ap, sym, subst}
+use Rattle.egl_calls.specs.Errors.{is_waiting}
 use Rattle.std.specs.VecDeque.{deque_capacity}
 use Rattle.egl_calls.specs.Calls.{CallValue, ReplyValue}
 use Rattle.egl_calls.specs.Journals.{is_halt_kind}
 use Rattle.turn_lock.specs.Passes.{first_of, view_of}
-use Rattle.shared_driver.specs.Cores.{entry, is_waiting, place_for, room_for}
+use Rattle.shared_driver.specs.Cores.{entry, place_for, room_for}
 use Rattle.shared_driver.proofs.Owned.{halted_more, or_false}
 use Rattle.shared_driver.proofs.Turning.{adds_ends, adds_goes, adds_mine, after, enough_less, fits_place, lent_begun, many_now, room_found, room_now, room_place}
 use Rattle.shared_driver.proofs.Places.{never_waits}

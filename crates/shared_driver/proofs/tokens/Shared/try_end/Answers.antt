@@ -29,7 +29,7 @@ end_turn-requires-in-None-clause-ends g c =
     let y = c.try_end.new.self in
     let n = c.in-None.ensures.none in
     keeps_ends f h u _ z y b refl refl n.1 (ap (λ (q : Core). q.driver) n.0) (ap (λ (q : Core). q.journal.entries) n.0) (ap (λ (q : Core). q.rooms.items) n.0)
-    (subst (λ (q : Core). q.promised ≡ owed q.rooms.items) (sym n.0) b.turn.promised) (subst (λ (q : Core). q.promised ≤ q.journal.spare) (sym n.0) b.turn.spare) (ap (λ (q : Core). q.live) n.0)
+    (subst (λ (q : Core). q.promised ≡ owed q.rooms.items) (sym n.0) b.turn.promised) (subst (λ (q : Core). q.promised ≤ q.journal.spare) (sym n.0) b.turn.spare) (ap (λ (q : Core). q.tokens) n.0)
 
 pub invariant_of-thread : goal.invariant_of-thread
 invariant_of-thread g c =

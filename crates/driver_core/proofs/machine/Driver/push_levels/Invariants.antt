@@ -1,7 +1,0 @@
-use Rattle.std.proofs.Common.{◌≡◌, ◌++◌, drop, map, pos}
-use Rattle.driver_objects.specs.Objects.{filled}
-use Rattle.driver_core.specs.Touches.{levels_in}
-use Rattle.driver_core.proofs.machine.Driver.push_levels.Given as goal
-
-abbrev pub invariant-each : goal.invariant-each
-invariant-each l = l.numbers ++ map pos (filled (drop l.level (levels_in l.self.state l.texture))) ≡ l.fn.numbers ++ map pos (filled (levels_in l.self.state l.texture))

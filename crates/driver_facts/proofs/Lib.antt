@@ -1,0 +1,10 @@
+pub mod PaddedLaws
+pub mod RootLaws
+pub mod Allowed
+pub mod CountLaws
+pub mod ListedLaws
+pub mod CopyLaws
+pub mod BufferLaws
+pub mod FramebufferLaws
+pub mod ImageLaws
+pub mod TouchLaws
