@@ -1,5 +1,5 @@
 -- What no refusal of a call of OpenGL ES says.
-use Rattle.std.proofs.Common.{◌≡◌, ℕ, ◌+◌, ◌≤◌, ◌<◌, arith, [], ◌∷◌, ℤ, pos, Bool, true, false, not, ◌||◌, ◌&&◌, None, Some, refl, sym, ap, ◌∙◌, ◌⊎◌, inl, inr, bit_or}
+use Rattle.std.proofs.Common.{◌≡◌, ℕ, ◌+◌, ◌≤◌, ◌<◌, arith, List, [], ◌∷◌, ℤ, pos, Bool, true, false, not, ◌||◌, ◌&&◌, None, Some, is_some, refl, sym, ap, ◌∙◌, ◌⊎◌, inl, inr, bit_or}
 use Rattle.std.specs.Prelude.{int_lt, nat_lt, ◌≤ℤ◌, ◌+ℤ◌, ◌==◌}
 use Rattle.std.proofs.lemmas.Int.{ints}
 use Rattle.std.proofs.lemmas.Bool.{not-false, or_parts, or_from, or_cases, and_parts, and_from}
@@ -8,24 +8,32 @@ use Rattle.egl_calls.specs.Calls.{CallValue}
 use Rattle.egl_calls.specs.declared.kinds.Kind.{Kind}
 use Rattle.egl_calls.specs.declared.kinds.Kind.TheVariants.{Gl, Own}
 use Rattle.egl_calls.specs.declared.kinds.GlKind.{GlKind}
-use Rattle.egl_calls.specs.declared.kinds.GlKind.TheVariants.{Clear, ReadPixels, TexImage2d, TexSubImage2d, CopyTexImage2d, CopyTexSubImage2d, BufferData, BufferSubData, RenderbufferStorage}
+use Rattle.egl_calls.specs.declared.kinds.GlKind.TheVariants.{GetError, Clear, ReadPixels, TexImage2d, TexSubImage2d, CopyTexImage2d, CopyTexSubImage2d, BufferData, BufferSubData, RenderbufferStorage}
 use Rattle.egl_calls.specs.declared.kinds.OwnKind.TheVariants.{ReadBuffer}
 use Rattle.egl_calls.specs.declared.errors.GlError.{GlError}
 use Rattle.egl_calls.specs.declared.errors.GlError.TheVariants.{OutOfMemory}
 use Rattle.egl_calls.specs.Ranges.{unsigned}
 use Rattle.egl_names.specs.declared.codes.TheConstants.{GL_RGB, GL_RGBA, GL_UNSIGNED_BYTE, GL_UNSIGNED_SHORT_5_6_5}
 use Rattle.call_rules.specs.declared.gl_facts.GlFacts.{GlFacts}
-use Rattle.refusal_rows.specs.Rows.{AllOff, IsFirst, ◌⇒◌, first_error}
+use Rattle.refusal_rows.specs.Rows.{AllOff, IsFirst, Row, ◌⇒◌, first_error}
+use Rattle.call_table.specs.Roles.{is_own_state}
+use Rattle.call_table.specs.Rows.{gl_role, gl_rules, own_rules}
+use Rattle.context_state.specs.Kinds.{context_gl_call}
 use Rattle.egl_calls.specs.Arguments.{number, signed}
 use Rattle.pixel_rows.specs.Rects.{IsInSide}
-use Rattle.call_rules.specs.GlRules.{buffer_bits, is_read_format, is_read_type, is_read_pair, read_format, read_type, gl_rows, gl_rows_by, gl_refusal}
-use Rattle.call_rules.specs.TextureRules.{asked_image_rows, is_no_level_side, is_no_part, memory_row}
-use Rattle.call_rules.specs.CopyRules.{asked_copy_rows}
-use Rattle.call_rules.specs.GlAllowed.{ClearAllowed, CopyAllowed, CopyAsked, CopyPartAllowed, ImageAllowed, ImageAsked, IsSide, PartAllowed, ReadAllowed, BufferPartAllowed, DataAsked, StorageAllowed, StorageAsked}
-use Rattle.call_rules.specs.BufferRules.{asked_data_rows, buffer_part_rows}
-use Rattle.call_rules.specs.RenderbufferRules.{asked_storage_rows, is_no_side}
+use Rattle.call_rules.specs.GlRules.{buffer_bits, is_read_format, is_read_type, is_read_pair, read_format, read_type, gl_rows, gl_rows_by, gl_refusal, no_gl_facts, ruled}
+use Rattle.call_rules.specs.TextureRules.{is_no_level_side, is_no_part}
+use Rattle.call_rules.specs.GlAllowed.{but_last, ClearAllowed, CopyAllowed, CopyAsked, CopyPartAllowed, ImageAllowed, ImageAsked, IsSide, PartAllowed, ReadAllowed, BufferPartAllowed, DataAsked, StorageAllowed, StorageAsked}
+use Rattle.call_rules.specs.RenderbufferRules.{is_no_side}
 use Rattle.refusal_rows.proofs.RowLaws.{all_off, first_is, first_of, from_others, none_on, past_off}
 use Rattle.call_rules.proofs.TestLaws.{not_below, is_not_below, within, past, is_past}
+
+-- the rows of a call before the last, and a last one that asks for bytes
+abbrev asked : GlKind → CallValue → GlFacts → List (Row GlError)
+asked k c f = ruled (but_last (gl_rules k)) c f
+
+abbrev memory_row : GlFacts → Row GlError
+memory_row f = nat_lt f.video_limit (f.live_bytes + f.new_bytes) ⇒ OutOfMemory
 
 of_kind : (c : CallValue) (f : GlFacts) (k : GlKind) → c.kind ≡ Gl k → gl_refusal c f ≡ first_error (gl_rows k c f)
 unfolding gl_refusal
@@ -127,12 +135,12 @@ last false e h = absurd (let g : Some e ≡ None = sym h in cc)
 
 pub image_wants : (c : CallValue) (f : GlFacts) → c.kind ≡ Gl TexImage2d → gl_refusal c f ≡ Some OutOfMemory → ImageAsked c × (f.video_limit < f.live_bytes + f.new_bytes)
 image_wants c f h n =
-    let o = from_others is_out_of_memory OutOfMemory (asked_image_rows c) (memory_row f ∷ []) refl (refl, (refl, (refl, (refl, (refl, (refl, (refl, (refl, tt)))))))) (sym (of_kind c f TexImage2d h) ∙ n) in
+    let o = from_others is_out_of_memory OutOfMemory (asked TexImage2d c no_gl_facts) (memory_row f ∷ []) refl (refl, (refl, (refl, (refl, (refl, (refl, (refl, (refl, tt)))))))) (sym (of_kind c f TexImage2d h) ∙ n) in
     (o.0, past f.video_limit (f.live_bytes + f.new_bytes) (last (nat_lt f.video_limit (f.live_bytes + f.new_bytes)) OutOfMemory o.1))
 
 pub wanting_image : (c : CallValue) (f : GlFacts) → c.kind ≡ Gl TexImage2d → ImageAsked c × (f.video_limit < f.live_bytes + f.new_bytes) → gl_refusal c f ≡ Some OutOfMemory
 wanting_image c f h w =
-    of_kind c f TexImage2d h ∙ past_off (asked_image_rows c) (memory_row f ∷ []) w.0
+    of_kind c f TexImage2d h ∙ past_off (asked TexImage2d c no_gl_facts) (memory_row f ∷ []) w.0
     ∙ ap (λ b. first_error ((b ⇒ OutOfMemory) ∷ [])) (is_past f.video_limit (f.live_bytes + f.new_bytes) w.1)
 
 ends_inside : (side : ℕ) (a b : ℤ) → pos 0 ≤ℤ a → pos 0 ≤ℤ b → unsigned a + unsigned b ≤ side → (a +ℤ b) ≤ℤ pos side
@@ -171,12 +179,12 @@ copy_allowed c f h n =
 
 pub copy_wants : (c : CallValue) (f : GlFacts) → c.kind ≡ Gl CopyTexImage2d → gl_refusal c f ≡ Some OutOfMemory → CopyAsked c f × (f.video_limit < f.live_bytes + f.new_bytes)
 copy_wants c f h n =
-    let o = from_others is_out_of_memory OutOfMemory (asked_copy_rows c f) (memory_row f ∷ []) refl (refl, (refl, (refl, (refl, (refl, (refl, (refl, tt))))))) (sym (of_kind c f CopyTexImage2d h) ∙ n) in
+    let o = from_others is_out_of_memory OutOfMemory (asked CopyTexImage2d c f) (memory_row f ∷ []) refl (refl, (refl, (refl, (refl, (refl, (refl, (refl, tt))))))) (sym (of_kind c f CopyTexImage2d h) ∙ n) in
     (o.0, past f.video_limit (f.live_bytes + f.new_bytes) (last (nat_lt f.video_limit (f.live_bytes + f.new_bytes)) OutOfMemory o.1))
 
 pub wanting_copy : (c : CallValue) (f : GlFacts) → c.kind ≡ Gl CopyTexImage2d → CopyAsked c f × (f.video_limit < f.live_bytes + f.new_bytes) → gl_refusal c f ≡ Some OutOfMemory
 wanting_copy c f h w =
-    of_kind c f CopyTexImage2d h ∙ past_off (asked_copy_rows c f) (memory_row f ∷ []) w.0
+    of_kind c f CopyTexImage2d h ∙ past_off (asked CopyTexImage2d c f) (memory_row f ∷ []) w.0
     ∙ ap (λ b. first_error ((b ⇒ OutOfMemory) ∷ [])) (is_past f.video_limit (f.live_bytes + f.new_bytes) w.1)
 
 pub copy_part_allowed : (c : CallValue) (f : GlFacts) → c.kind ≡ Gl CopyTexSubImage2d → gl_refusal c f ≡ None → CopyPartAllowed c f
@@ -197,15 +205,15 @@ data_room c f h n = within f.video_limit (f.live_bytes + f.new_bytes) (rows_off 
 
 pub data_wants : (c : CallValue) (f : GlFacts) → c.kind ≡ Gl BufferData → gl_refusal c f ≡ Some OutOfMemory → DataAsked c f × (f.video_limit < f.live_bytes + f.new_bytes)
 data_wants c f h n =
-    let o = from_others is_out_of_memory OutOfMemory (asked_data_rows c f) (memory_row f ∷ []) refl (refl, (refl, (refl, (refl, tt)))) (sym (of_kind c f BufferData h) ∙ n) in
+    let o = from_others is_out_of_memory OutOfMemory (asked BufferData c f) (memory_row f ∷ []) refl (refl, (refl, (refl, (refl, tt)))) (sym (of_kind c f BufferData h) ∙ n) in
     (o.0, past f.video_limit (f.live_bytes + f.new_bytes) (last (nat_lt f.video_limit (f.live_bytes + f.new_bytes)) OutOfMemory o.1))
 
 pub wanting_data : (c : CallValue) (f : GlFacts) → c.kind ≡ Gl BufferData → DataAsked c f × (f.video_limit < f.live_bytes + f.new_bytes) → gl_refusal c f ≡ Some OutOfMemory
 wanting_data c f h w =
-    of_kind c f BufferData h ∙ past_off (asked_data_rows c f) (memory_row f ∷ []) w.0
+    of_kind c f BufferData h ∙ past_off (asked BufferData c f) (memory_row f ∷ []) w.0
     ∙ ap (λ b. first_error ((b ⇒ OutOfMemory) ∷ [])) (is_past f.video_limit (f.live_bytes + f.new_bytes) w.1)
 
-buffer_part : (c : CallValue) (f : GlFacts) → AllOff (buffer_part_rows c f) → BufferPartAllowed c f
+buffer_part : (c : CallValue) (f : GlFacts) → AllOff (ruled (own_rules ReadBuffer) c f) → BufferPartAllowed c f
 buffer_part c f a =
     let o = or_parts (int_lt (signed c 1) (pos 0)) (int_lt (signed c 2) (pos 0)) a.1.0 in
     record { offset = not_below _ _ o.0; size = not_below _ _ o.1; bound = not-false _ a.1.1.0; inside = within f.bound_size (number c 1 + number c 2) a.1.1.1.0 }
@@ -215,7 +223,7 @@ buffer_part_allowed c f h n = buffer_part c f (rows_off c f BufferSubData h n)
 
 pub read_buffer_allowed : (c : CallValue) (f : GlFacts) → c.kind ≡ Own ReadBuffer → gl_refusal c f ≡ None → BufferPartAllowed c f
 unfolding gl_refusal
-read_buffer_allowed c f h n = buffer_part c f (all_off (buffer_part_rows c f) (sym (ap (λ (kind : Kind). first_error (gl_rows_by kind c f)) h) ∙ n))
+read_buffer_allowed c f h n = buffer_part c f (all_off (ruled (own_rules ReadBuffer) c f) (sym (ap (λ (kind : Kind). first_error (gl_rows_by kind c f)) h) ∙ n))
 
 -- ---- Renderbuffers.
 pub storage_allowed : (c : CallValue) (f : GlFacts) → c.kind ≡ Gl RenderbufferStorage → gl_refusal c f ≡ None → StorageAllowed c f
@@ -232,12 +240,12 @@ storage_allowed c f h n =
 
 pub storage_wants : (c : CallValue) (f : GlFacts) → c.kind ≡ Gl RenderbufferStorage → gl_refusal c f ≡ Some OutOfMemory → StorageAsked c f × (f.video_limit < f.live_bytes + f.new_bytes)
 storage_wants c f h n =
-    let o = from_others is_out_of_memory OutOfMemory (asked_storage_rows c f) (memory_row f ∷ []) refl (refl, (refl, (refl, (refl, tt)))) (sym (of_kind c f RenderbufferStorage h) ∙ n) in
+    let o = from_others is_out_of_memory OutOfMemory (asked RenderbufferStorage c f) (memory_row f ∷ []) refl (refl, (refl, (refl, (refl, tt)))) (sym (of_kind c f RenderbufferStorage h) ∙ n) in
     (o.0, past f.video_limit (f.live_bytes + f.new_bytes) (last (nat_lt f.video_limit (f.live_bytes + f.new_bytes)) OutOfMemory o.1))
 
 pub wanting_storage : (c : CallValue) (f : GlFacts) → c.kind ≡ Gl RenderbufferStorage → StorageAsked c f × (f.video_limit < f.live_bytes + f.new_bytes) → gl_refusal c f ≡ Some OutOfMemory
 wanting_storage c f h w =
-    of_kind c f RenderbufferStorage h ∙ past_off (asked_storage_rows c f) (memory_row f ∷ []) w.0
+    of_kind c f RenderbufferStorage h ∙ past_off (asked RenderbufferStorage c f) (memory_row f ∷ []) w.0
     ∙ ap (λ b. first_error ((b ⇒ OutOfMemory) ∷ [])) (is_past f.video_limit (f.live_bytes + f.new_bytes) w.1)
 
 -- ---- Any call, by its rows.
@@ -246,3 +254,8 @@ refused_first c f k e h n = first_of e (gl_rows k c f) (sym (of_kind c f k h) �
 
 pub first_refused : (c : CallValue) (f : GlFacts) (k : GlKind) (e : GlError) → c.kind ≡ Gl k → IsFirst e (gl_rows k c f) → gl_refusal c f ≡ Some e
 first_refused c f k e h n = of_kind c f k h ∙ first_is e (gl_rows k c f) n
+
+-- ---- The table's role of a call; one kind stands apart, so that the others are tried one by one.
+pub told_role : (k : GlKind) → is_own_state (gl_role k) ≡ is_some (context_gl_call k)
+told_role GetError = refl
+told_role k = refl

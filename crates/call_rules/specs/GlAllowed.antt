@@ -1,6 +1,9 @@
 -- What is known where a call of OpenGL ES isn't refused.
-use Rattle.std.specs.Prelude.{◌≡◌, ◌+◌, ◌≤◌, ℤ, pos, ◌≤ℤ◌, true, false, ◌⊎◌, bit_or, IsSome}
+use Rattle.std.specs.Prelude.{◌≡◌, ◌+◌, ◌≤◌, ℤ, pos, ◌≤ℤ◌, true, false, ◌⊎◌, List, [], ◌∷◌, bit_or, IsSome}
 use Rattle.egl_calls.specs.Calls.{CallValue}
+use Rattle.egl_calls.specs.declared.kinds.GlKind.{GlKind}
+use Rattle.egl_calls.specs.declared.kinds.GlKind.TheVariants.{BufferData, CopyTexImage2d, RenderbufferStorage, TexImage2d}
+use Rattle.call_table.specs.Rows.{gl_rules}
 use Rattle.egl_calls.specs.Ranges.{unsigned}
 use Rattle.egl_names.specs.declared.codes.TheConstants.{GL_RGB, GL_RGBA, GL_UNSIGNED_BYTE, GL_UNSIGNED_SHORT_5_6_5}
 use Rattle.egl_calls.specs.declared.places.TheConstants.{COPIED_HEIGHT, COPIED_PART_HEIGHT, COPIED_PART_WIDTH, COPIED_WIDTH, HEIGHT, IMAGE_HEIGHT, IMAGE_WIDTH, LEVEL, MASK, STORED_FORMAT, STORED_HEIGHT, STORED_WIDTH, WIDTH, X_OFFSET, Y_OFFSET, BUFFER_OFFSET, BUFFER_PART_SIZE}
@@ -8,13 +11,20 @@ use Rattle.pixel_rows.specs.Rects.{IsInSide, IsInside}
 use Rattle.texture_objects.specs.Uploads.{given_form, part_rect}
 use Rattle.call_rules.specs.declared.gl_facts.GlFacts.{GlFacts}
 use Rattle.egl_calls.specs.Arguments.{number, signed}
-use Rattle.call_rules.specs.GlRules.{buffer_bits, read_format, read_type}
+use Rattle.call_rules.specs.GlRules.{buffer_bits, no_gl_facts, read_format, read_type, ruled}
 use Rattle.refusal_rows.specs.Rows.{AllOff}
-use Rattle.call_rules.specs.CopyRules.{asked_copy_rows}
-use Rattle.call_rules.specs.BufferRules.{asked_data_rows}
-use Rattle.call_rules.specs.RenderbufferRules.{asked_storage_rows}
 use Rattle.framebuffer_objects.specs.InternalFormats.{is_internal}
-use Rattle.call_rules.specs.TextureRules.{asked_image_rows, is_no_level, is_no_level_side}
+use Rattle.call_rules.specs.TextureRules.{is_no_level, is_no_level_side}
+
+-- the rules before the last, which asks for bytes
+abbrev pub but_last : {A : Type 0} → List A → List A
+but_last [] = []
+but_last (x ∷ []) = []
+but_last (x ∷ y ∷ xs) = x ∷ but_last (y ∷ xs)
+
+-- nothing is wrong with a call but, it may be, that bytes want
+abbrev pub IsAsked : GlKind → CallValue → GlFacts → Type 0
+IsAsked k c f = AllOff (ruled (but_last (gl_rules k)) c f)
 
 -- glClear (OpenGL ES 1.1, section 4.2.3): the mask adds no bit to those of the buffers
 pub record ClearAllowed (c : CallValue) (f : GlFacts) : Type 0 where
@@ -42,7 +52,7 @@ pub record ReadAllowed (c : CallValue) (f : GlFacts) : Type 0 where
 
 -- glTexImage2D (section 3.7.1): nothing is wrong with the call's own numbers
 abbrev pub ImageAsked : CallValue → Type 0
-ImageAsked c = AllOff (asked_image_rows c)
+ImageAsked c = IsAsked TexImage2d c no_gl_facts
 
 -- a level and sides that it may have, a format and a type that go together, and bytes for the pixels
 pub record ImageAllowed (c : CallValue) (f : GlFacts) : Type 0 where
@@ -61,7 +71,7 @@ pub record PartAllowed (c : CallValue) (f : GlFacts) : Type 0 where
 
 -- glCopyTexImage2D (section 3.7.2): nothing is wrong but, it may be, the bytes of the new pixels
 abbrev pub CopyAsked : CallValue → GlFacts → Type 0
-CopyAsked c f = AllOff (asked_copy_rows c f)
+CopyAsked c f = IsAsked CopyTexImage2d c f
 
 -- a level and sides that it may have, and bytes for the pixels
 pub record CopyAllowed (c : CallValue) (f : GlFacts) : Type 0 where
@@ -81,7 +91,7 @@ pub record CopyPartAllowed (c : CallValue) (f : GlFacts) : Type 0 where
 
 -- glBufferData (section 2.9): nothing is wrong but that bytes may want
 abbrev pub DataAsked : CallValue → GlFacts → Type 0
-DataAsked c f = AllOff (asked_data_rows c f)
+DataAsked c f = IsAsked BufferData c f
 
 -- glBufferSubData and readBuffer: a buffer is bound, and the part is one of its contents
 pub record BufferPartAllowed (c : CallValue) (f : GlFacts) : Type 0 where
@@ -92,7 +102,7 @@ pub record BufferPartAllowed (c : CallValue) (f : GlFacts) : Type 0 where
 
 -- glRenderbufferStorageOES (OES_framebuffer_object): nothing is wrong but that bytes may want
 abbrev pub StorageAsked : CallValue → GlFacts → Type 0
-StorageAsked c f = AllOff (asked_storage_rows c f)
+StorageAsked c f = IsAsked RenderbufferStorage c f
 
 -- a renderbuffer is bound, and there are bytes for pixels of such a format and such sides
 pub record StorageAllowed (c : CallValue) (f : GlFacts) : Type 0 where

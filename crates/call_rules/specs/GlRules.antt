@@ -1,31 +1,33 @@
--- When each call of OpenGL ES is refused, and with which error: the first row that holds.
-use Rattle.std.specs.Prelude.{ℕ, ℤ, pos, Bool, false, not, ◌&&◌, ◌||◌, ◌==◌, List, [], ◌∷◌, bit_or, int_lt}
+-- When each call of OpenGL ES is refused, and with which error: the first of its rows in the table of calls whose condition holds.
+use Rattle.std.specs.Prelude.{ℕ, ◌+◌, ℤ, pos, Bool, false, not, ◌&&◌, ◌||◌, ◌==◌, List, [], bit_or, int_lt, is_some, length, map, nat_lt}
 use Rattle.std.specs.declared.option.Option.{Option}
 use Rattle.std.specs.declared.option.Option.TheVariants.{None, Some}
 use Rattle.egl_calls.specs.Calls.{CallValue}
 use Rattle.egl_calls.specs.declared.kinds.Kind.{Kind}
 use Rattle.egl_calls.specs.declared.kinds.Kind.TheVariants.{Gl, Own}
 use Rattle.egl_calls.specs.declared.kinds.GlKind.{GlKind}
-use Rattle.egl_calls.specs.declared.kinds.GlKind.TheVariants.{Flush, Finish, Clear, ReadPixels, DrawTexi, DrawTexx, GenTextures, DeleteTextures, IsTexture, BindTexture, TexParameterx, TexParameteriv, TexImage2d, TexSubImage2d, CopyTexImage2d, CopyTexSubImage2d, GenBuffers, DeleteBuffers, IsBuffer, BindBuffer, BufferData, BufferSubData, GetBufferParameteriv, GenRenderbuffers, DeleteRenderbuffers, IsRenderbuffer, BindRenderbuffer, RenderbufferStorage, GetRenderbufferParameteriv, GenFramebuffers, DeleteFramebuffers, IsFramebuffer, BindFramebuffer, FramebufferTexture2d, FramebufferRenderbuffer, CheckFramebufferStatus, GetFramebufferAttachmentParameteriv, ImageTargetTexture2d, ImageTargetRenderbufferStorage}
-use Rattle.egl_calls.specs.declared.kinds.OwnKind.TheVariants.{ReadBuffer}
 use Rattle.egl_calls.specs.declared.errors.GlError.{GlError}
-use Rattle.egl_calls.specs.declared.errors.GlError.TheVariants.{InvalidEnum, InvalidValue, InvalidOperation}
 use Rattle.egl_calls.specs.Ranges.{unsigned}
-use Rattle.egl_names.specs.declared.codes.TheConstants.{GL_RGB, GL_RGBA, GL_UNSIGNED_BYTE, GL_UNSIGNED_SHORT_5_6_5, GL_COLOR_BUFFER_BIT, GL_DEPTH_BUFFER_BIT, GL_STENCIL_BUFFER_BIT}
-use Rattle.egl_calls.specs.declared.places.TheConstants.{DRAWN_HEIGHT, DRAWN_WIDTH, FORMAT, HEIGHT, MASK, TYPE, WIDTH}
+use Rattle.egl_names.specs.declared.codes.TheConstants.{GL_COLOR_BUFFER_BIT, GL_DEPTH_BUFFER_BIT, GL_FRAMEBUFFER_ATTACHMENT_OBJECT_NAME_OES, GL_FRAMEBUFFER_OES, GL_RENDERBUFFER_OES, GL_RGB, GL_RGBA, GL_STENCIL_BUFFER_BIT, GL_TEXTURE_2D, GL_TEXTURE_CROP_RECT_OES, GL_UNSIGNED_BYTE, GL_UNSIGNED_SHORT_5_6_5}
+use Rattle.egl_calls.specs.declared.places.TheConstants.{ATTACHED_LEVEL, ATTACHED_TARGET, ATTACHMENT, ATTACHMENT_PNAME, BORDER, BOUND_NAME, BOUND_PARAM, BOUND_PNAME, BUFFER_OFFSET, BUFFER_PART_SIZE, BUFFER_SIZE, BUFFER_USAGE, COPIED_BORDER, COPIED_HEIGHT, COPIED_PART_HEIGHT, COPIED_PART_WIDTH, COPIED_WIDTH, COUNT, DRAWN_HEIGHT, DRAWN_WIDTH, FORMAT, HEIGHT, IMAGE_FORMAT, IMAGE_HEIGHT, IMAGE_TYPE, IMAGE_WIDTH, INTERNAL_FORMAT, LEVEL, MASK, PART_HEIGHT, PART_WIDTH, STORED_FORMAT, STORED_HEIGHT, STORED_WIDTH, TARGET, TYPE, WIDTH, X_OFFSET, Y_OFFSET}
 use Rattle.call_rules.specs.declared.gl_facts.GlFacts.{GlFacts}
-use Rattle.refusal_rows.specs.Rows.{Row, ◌⇒◌, first_error}
-use Rattle.call_rules.specs.AttachmentRules.{attachment_parameter_rows, framebuffer_renderbuffer_rows, framebuffer_target_row, framebuffer_texture_rows}
-use Rattle.call_rules.specs.ImageTargetRules.{renderbuffer_target_rows, texture_target_rows}
-use Rattle.call_rules.specs.FramebufferRules.{framebuffer_row}
-use Rattle.call_rules.specs.CopyRules.{copy_part_rows, copy_rows}
-use Rattle.call_rules.specs.TextureRules.{count_row, crop_length_row, crop_row, image_rows, name_row, parameter_row, part_rows, texture_row}
-use Rattle.call_rules.specs.BufferRules.{bound_row, buffer_parameter_row, buffer_row, buffer_part_rows, data_rows}
-use Rattle.call_rules.specs.RenderbufferRules.{is_no_side, renderbuffer_parameter_row, renderbuffer_row, storage_rows}
+use Rattle.call_table.specs.Rows.{gl_rules, own_rules}
+use Rattle.call_table.specs.declared.gl_conditions.GlCondition.{GlCondition}
+use Rattle.call_table.specs.declared.gl_conditions.GlCondition.TheVariants.{NoBufferBit, NotComplete, WrongReadSides, NoReadKind, NoReadPair, DrawsNothing, WrongCount, NoTextureTarget, NegativeName, NoBufferTarget, NoRenderbufferTarget, NoFramebufferTarget, NoTextureParameter, NoCropParameter, WrongCropLength, NoImageKind, NoInternalFormat, NoLevel, WrongLevelSides, SomeBorder, OtherFormat, NoImagePair, NoVideo, NoStorage, OutsideLevel, OtherLevelFormat, WrongCopiedSides, SomeCopiedBorder, NoInternalAlpha, CopiedOutsideLevel, NoLevelAlpha, NoUsage, NegativeSize, NothingBound, NegativePart, PartBehindEnd, NoBufferParameter, NoRenderbufferFormat, WrongStorageSides, NoRenderbufferParameter, NoAttachment, NoAttachedTarget, NoObjectNamed, SomeAttachedLevel, NoAttachedRenderbufferTarget, NoAttachmentParameter, NothingAttached, NoImage, NotRenderable}
+use Rattle.refusal_rows.specs.Rows.{Row, first_error, row_of}
+use Rattle.framebuffer_objects.specs.InternalFormats.{is_internal}
+use Rattle.framebuffer_objects.specs.Attachments.{is_attachment}
+use Rattle.call_rules.specs.AttachmentRules.{attaches, is_attachment_parameter}
+use Rattle.call_rules.specs.CopyRules.{has_alpha}
+use Rattle.call_rules.specs.TextureRules.{is_image_format, is_image_type, is_no_count, is_no_level, is_no_level_side, is_no_part}
+use Rattle.call_rules.specs.BufferRules.{is_buffer_parameter, is_buffer_target, is_usage}
+use Rattle.call_rules.specs.RenderbufferRules.{is_no_side, is_renderbuffer_parameter}
+use Rattle.texture_objects.specs.Forms.{form_of}
+use Rattle.texture_objects.specs.Textures.{is_parameter_pair}
 use Rattle.context_state.specs.Kinds.{context_gl_call}
 use Rattle.context_state.specs.Refusals.{context_rows}
 use Rattle.context_state.specs.declared.kinds.ContextCall.{ContextCall}
-use Rattle.egl_calls.specs.Arguments.{signed}
+use Rattle.egl_calls.specs.Arguments.{is_zero, number, signed}
 
 -- no fact holds, and each number is 0
 abbrev pub no_gl_facts : GlFacts
@@ -80,115 +82,79 @@ read_type c = unsigned (signed c TYPE)
 abbrev pub draws_nothing : CallValue → Bool
 draws_nothing c = int_lt (signed c DRAWN_WIDTH) (pos 1) || int_lt (signed c DRAWN_HEIGHT) (pos 1)
 
--- the rows of the calls that draw a texture
-abbrev pub draw_rows : CallValue → GlFacts → List (Row GlError)
-draw_rows c f =
-    (draws_nothing c ⇒ InvalidValue) ∷
-    framebuffer_row f ∷
-    []
+-- what each condition is of the call and of the facts about the state
+abbrev pub gl_holds : GlCondition → CallValue → GlFacts → Bool
+-- what is bound to a target, and what is named
+gl_holds NoTextureTarget c f = not (number c TARGET == GL_TEXTURE_2D)
+gl_holds NoBufferTarget c f = not (is_buffer_target (number c TARGET))
+gl_holds NoRenderbufferTarget c f = not (number c TARGET == GL_RENDERBUFFER_OES)
+gl_holds NoFramebufferTarget c f = not (number c TARGET == GL_FRAMEBUFFER_OES)
+gl_holds NothingBound c f = not f.is_bound
+gl_holds WrongCount c f = is_no_count (signed c COUNT)
+gl_holds NegativeName c f = int_lt (signed c BOUND_NAME) (pos 0)
+-- bytes for new pixels, or for what a buffer is given
+gl_holds NoVideo c f = nat_lt f.video_limit (f.live_bytes + f.new_bytes)
+-- what is drawn to and read from (OES_framebuffer_object)
+gl_holds NotComplete c f = not f.is_framebuffer_complete
+-- OpenGL ES 1.1, section 4.2.3
+gl_holds NoBufferBit c f = not (is_clear_mask (signed c MASK))
+-- section 4.3.1
+gl_holds WrongReadSides c f = is_no_side (signed c WIDTH) || is_no_side (signed c HEIGHT)
+gl_holds NoReadKind c f = not (is_read_format (read_format c) && is_read_type (read_type c))
+gl_holds NoReadPair c f = not (is_read_pair (read_format c) (read_type c))
+-- OES_draw_texture: a draw has a width and a height, a crop rectangle four numbers
+gl_holds DrawsNothing c f = draws_nothing c
+gl_holds NoCropParameter c f = not (number c BOUND_PNAME == GL_TEXTURE_CROP_RECT_OES)
+gl_holds WrongCropLength c f = not (length c.list == 4)
+-- section 3.7.4
+gl_holds NoTextureParameter c f = not (is_parameter_pair (number c BOUND_PNAME) (number c BOUND_PARAM))
+-- section 3.7.1: a level, and the pixels that are given for it
+gl_holds NoImageKind c f = not (is_image_format (number c IMAGE_FORMAT) && is_image_type (number c IMAGE_TYPE))
+gl_holds NoImagePair c f = not (is_some (form_of (number c IMAGE_FORMAT) (number c IMAGE_TYPE)))
+gl_holds NoInternalFormat c f = not (is_image_format (number c INTERNAL_FORMAT))
+gl_holds NoLevel c f = is_no_level (signed c LEVEL)
+gl_holds WrongLevelSides c f = is_no_level_side (number c LEVEL) (signed c IMAGE_WIDTH) || is_no_level_side (number c LEVEL) (signed c IMAGE_HEIGHT)
+gl_holds SomeBorder c f = not (is_zero c BORDER)
+gl_holds OtherFormat c f = not (number c INTERNAL_FORMAT == number c IMAGE_FORMAT)
+-- section 3.7.2: a part of a level
+gl_holds NoStorage c f = not f.is_stored
+gl_holds OutsideLevel c f = is_no_part f.stored_width (signed c X_OFFSET) (signed c PART_WIDTH) || is_no_part f.stored_height (signed c Y_OFFSET) (signed c PART_HEIGHT)
+gl_holds OtherLevelFormat c f = not (number c IMAGE_FORMAT == f.stored_base)
+-- and pixels that are copied: no alpha comes from pixels that have none
+gl_holds WrongCopiedSides c f = is_no_level_side (number c LEVEL) (signed c COPIED_WIDTH) || is_no_level_side (number c LEVEL) (signed c COPIED_HEIGHT)
+gl_holds SomeCopiedBorder c f = not (is_zero c COPIED_BORDER)
+gl_holds NoInternalAlpha c f = has_alpha (number c INTERNAL_FORMAT) && not f.has_read_alpha
+gl_holds CopiedOutsideLevel c f = is_no_part f.stored_width (signed c X_OFFSET) (signed c COPIED_PART_WIDTH) || is_no_part f.stored_height (signed c Y_OFFSET) (signed c COPIED_PART_HEIGHT)
+gl_holds NoLevelAlpha c f = has_alpha f.stored_base && not f.has_read_alpha
+-- sections 2.9 and 6.1.12
+gl_holds NoUsage c f = not (is_usage (number c BUFFER_USAGE))
+gl_holds NegativeSize c f = int_lt (signed c BUFFER_SIZE) (pos 0)
+gl_holds NegativePart c f = int_lt (signed c BUFFER_OFFSET) (pos 0) || int_lt (signed c BUFFER_PART_SIZE) (pos 0)
+gl_holds PartBehindEnd c f = nat_lt f.bound_size (number c BUFFER_OFFSET + number c BUFFER_PART_SIZE)
+gl_holds NoBufferParameter c f = not (is_buffer_parameter (number c BOUND_PNAME))
+-- OES_framebuffer_object: renderbuffers
+gl_holds NoRenderbufferFormat c f = not (is_internal (number c STORED_FORMAT))
+gl_holds WrongStorageSides c f = is_no_side (signed c STORED_WIDTH) || is_no_side (signed c STORED_HEIGHT)
+gl_holds NoRenderbufferParameter c f = not (is_renderbuffer_parameter (number c BOUND_PNAME))
+-- what is attached to framebuffers: where the name 0 detaches, the target and the level of a texture count for nothing
+gl_holds NoAttachment c f = not (is_attachment (number c ATTACHMENT))
+gl_holds NoObjectNamed c f = attaches c && not f.is_named
+gl_holds NoAttachedTarget c f = attaches c && not (number c ATTACHED_TARGET == GL_TEXTURE_2D)
+gl_holds SomeAttachedLevel c f = attaches c && not (is_zero c ATTACHED_LEVEL)
+gl_holds NoAttachedRenderbufferTarget c f = not (number c ATTACHED_TARGET == GL_RENDERBUFFER_OES)
+gl_holds NoAttachmentParameter c f = not (is_attachment_parameter (number c ATTACHMENT_PNAME))
+gl_holds NothingAttached c f = (number c ATTACHMENT_PNAME == GL_FRAMEBUFFER_ATTACHMENT_OBJECT_NAME_OES) && not f.is_attached
+-- OES_EGL_image: the image is a valid one of the context's display, and a renderbuffer has red, green and blue
+gl_holds NoImage c f = not f.is_image
+gl_holds NotRenderable c f = not f.is_renderable
 
--- the rows of a call that the table hasn't: nothing can be proved of them, so no code can be proved to have them
-pub unlisted : List (Row GlError)
-unlisted = []
+-- the rows that rules of the table of calls make
+abbrev pub ruled : List (GlCondition × GlError) → CallValue → GlFacts → List (Row GlError)
+ruled rules c f = map (row_of (λ x. gl_holds x c f)) rules
 
 -- the rows of each call that asks or changes more than its context's own state, in the order of the tests
 abbrev pub object_rows : GlKind → CallValue → GlFacts → List (Row GlError)
--- OpenGL ES 1.1, chapter 5: never refused
-object_rows Flush c f = []
-object_rows Finish c f = []
--- section 4.2.3
-object_rows Clear c f =
-    (not (is_clear_mask (signed c MASK)) ⇒ InvalidValue) ∷
-    framebuffer_row f ∷
-    []
--- section 4.3.1
-object_rows ReadPixels c f =
-    (is_no_side (signed c WIDTH) || is_no_side (signed c HEIGHT) ⇒ InvalidValue) ∷
-    (not (is_read_format (read_format c) && is_read_type (read_type c)) ⇒ InvalidEnum) ∷
-    (not (is_read_pair (read_format c) (read_type c)) ⇒ InvalidOperation) ∷
-    framebuffer_row f ∷
-    []
--- OES_draw_texture
-object_rows DrawTexi c f = draw_rows c f
-object_rows DrawTexx c f = draw_rows c f
--- section 3.7.11
-object_rows GenTextures c f =
-    count_row c ∷
-    []
-object_rows DeleteTextures c f = []
-object_rows IsTexture c f = []
-object_rows BindTexture c f =
-    texture_row c ∷
-    name_row c ∷
-    []
--- section 3.7.4
-object_rows TexParameterx c f =
-    texture_row c ∷
-    parameter_row c ∷
-    []
--- OES_draw_texture
-object_rows TexParameteriv c f =
-    texture_row c ∷
-    crop_row c ∷
-    crop_length_row c ∷
-    []
--- sections 3.7.1 and 3.7.2
-object_rows TexImage2d c f = image_rows c f
-object_rows TexSubImage2d c f = part_rows c f
-object_rows CopyTexImage2d c f = copy_rows c f
-object_rows CopyTexSubImage2d c f = copy_part_rows c f
--- sections 2.9 and 6.1.12
-object_rows GenBuffers c f =
-    count_row c ∷
-    []
-object_rows DeleteBuffers c f = []
-object_rows IsBuffer c f = []
-object_rows BindBuffer c f =
-    buffer_row c ∷
-    name_row c ∷
-    []
-object_rows BufferData c f = data_rows c f
-object_rows BufferSubData c f = buffer_part_rows c f
-object_rows GetBufferParameteriv c f =
-    buffer_row c ∷
-    buffer_parameter_row c ∷
-    bound_row f ∷
-    []
--- OES_framebuffer_object
-object_rows GenRenderbuffers c f =
-    count_row c ∷
-    []
-object_rows DeleteRenderbuffers c f = []
-object_rows IsRenderbuffer c f = []
-object_rows BindRenderbuffer c f =
-    renderbuffer_row c ∷
-    name_row c ∷
-    []
-object_rows RenderbufferStorage c f = storage_rows c f
-object_rows GetRenderbufferParameteriv c f =
-    renderbuffer_row c ∷
-    renderbuffer_parameter_row c ∷
-    bound_row f ∷
-    []
-object_rows GenFramebuffers c f =
-    count_row c ∷
-    []
-object_rows DeleteFramebuffers c f = []
-object_rows IsFramebuffer c f = []
-object_rows BindFramebuffer c f =
-    framebuffer_target_row c ∷
-    name_row c ∷
-    []
-object_rows FramebufferTexture2d c f = framebuffer_texture_rows c f
-object_rows FramebufferRenderbuffer c f = framebuffer_renderbuffer_rows c f
-object_rows CheckFramebufferStatus c f =
-    framebuffer_target_row c ∷
-    []
-object_rows GetFramebufferAttachmentParameteriv c f = attachment_parameter_rows c f
--- OES_EGL_image
-object_rows ImageTargetTexture2d c f = texture_target_rows c f
-object_rows ImageTargetRenderbufferStorage c f = renderbuffer_target_rows c f
-object_rows k c f = unlisted
+object_rows k c f = ruled (gl_rules k) c f
 
 -- a call that asks or sets its context's own state has its rows with that state
 abbrev pub rows_by : Option ContextCall → GlKind → CallValue → GlFacts → List (Row GlError)
@@ -199,10 +165,10 @@ rows_by None k c f = object_rows k c f
 abbrev pub gl_rows : GlKind → CallValue → GlFacts → List (Row GlError)
 gl_rows k c f = rows_by (context_gl_call k) k c f
 
--- readBuffer has those of glBufferSubData; another call that isn't one of OpenGL ES has no row
+-- a call that isn't one of OpenGL ES has the rows of its rules: readBuffer those of a part of a buffer, another call of this project none
 abbrev pub gl_rows_by : Kind → CallValue → GlFacts → List (Row GlError)
 gl_rows_by (Gl k) c f = gl_rows k c f
-gl_rows_by (Own ReadBuffer) c f = buffer_part_rows c f
+gl_rows_by (Own k) c f = ruled (own_rules k) c f
 gl_rows_by k c f = []
 
 -- the error that a call of OpenGL ES or a readBuffer keeps, if it is refused

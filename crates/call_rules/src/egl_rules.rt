@@ -1,22 +1,19 @@
 //! When each call of EGL is refused.
-ghost use Rattle.std.specs.Prelude.{◌≡◌, ◌+◌, nat_lt, not, ◌<◌};
-ghost use Rattle.egl_calls.specs.Arguments.{is_zero};
-ghost use Rattle.egl_calls.specs.declared.kinds.EglKind.TheVariants.{CreateWindowSurface, CreatePbufferSurface, SurfaceAttrib, CreateContext, MakeCurrent, CreateSync, WaitSync, CreateImage};
-ghost use Rattle.egl_calls.specs.declared.errors.EglError.TheVariants.{NotInitialized, BadSurface, BadContext, BadParameter};
-ghost use Rattle.refusal_rows.specs.Rows.{◌⇒◌};
-ghost use Rattle.call_rules.specs.EglRules.{egl_refusal, egl_rows, egl_rows_by, display_row, current_rows, has_attributes, has_code, is_one_alone, is_wrong, is_long, is_later_version, is_supported_version};
+ghost use Rattle.std.specs.Prelude.{◌≡◌, ◌+◌, nat_lt, ◌<◌};
+ghost use Rattle.call_rules.specs.EglRules.{egl_refusal, egl_rows_by, egl_holds, has_attributes, has_code, is_one_alone, is_release_by, is_wrong, is_long, is_later_version, is_supported_version};
 
 use crate::egl_facts::EglFacts;
+use call_table::{EglCondition, Role, egl_role, egl_rules};
 use egl_calls::arguments::{is_zero, number};
 use egl_calls::places::{
     API, ATTRIBUTE, CONTEXT, DRAW, FLAGS, IMAGE_SOURCE, READ, READDRAW, SYNC_TYPE, VALUE,
 };
-use egl_calls::{Call, EglError, EglKind, Kind};
+use egl_calls::{Call, EglError, Kind};
 use egl_names::codes::{
     EGL_BUFFER_DESTROYED, EGL_BUFFER_PRESERVED, EGL_DRAW, EGL_GL_RENDERBUFFER, EGL_GL_TEXTURE_2D,
     EGL_OPENGL_ES_API, EGL_READ, EGL_SWAP_BEHAVIOR, EGL_SYNC_FENCE,
 };
-use refusal_rows::Verdict;
+use refusal_rows::{Judge, Verdict};
 
 fn is_long(side: i64) -> bool
     ensures { result ≡ is_long side }
@@ -66,118 +63,6 @@ fn is_wrong(call: &Call, place: usize, is_valid: bool) -> bool
     !is_zero(call, place) && !is_valid
 }
 
-// The rows that calls share (EGL 1.5, sections 3.1 and 3.2).
-
-fn no_display(facts: &EglFacts) -> (bool, EglError)
-    ensures { result ≡ display_row facts.now }
-{
-    (!facts.is_display, EglError::BadDisplay)
-}
-
-fn uninitialized(facts: &EglFacts) -> (bool, EglError)
-    ensures { result ≡ (not facts.now.is_initialized ⇒ NotInitialized) }
-{
-    (!facts.is_initialized, EglError::NotInitialized)
-}
-
-fn no_surface(facts: &EglFacts) -> (bool, EglError)
-    ensures { result ≡ (not facts.now.is_surface ⇒ BadSurface) }
-{
-    (!facts.is_surface, EglError::BadSurface)
-}
-
-fn no_context(facts: &EglFacts) -> (bool, EglError)
-    ensures { result ≡ (not facts.now.is_context ⇒ BadContext) }
-{
-    (!facts.is_context, EglError::BadContext)
-}
-
-fn no_sync(facts: &EglFacts) -> (bool, EglError)
-    ensures { result ≡ (not facts.now.is_sync ⇒ BadParameter) }
-{
-    (!facts.is_sync, EglError::BadParameter)
-}
-
-/// Section 3.5.1.
-fn create_window_surface<V: Verdict<EglError>>(call: &Call, facts: &EglFacts) -> V
-    ensures { result ≡ V.told (egl_rows CreateWindowSurface call.now facts.now) }
-{
-    let _ = call;
-    V::tell(&[
-        no_display(facts),
-        uninitialized(facts),
-        (!facts.is_config, EglError::BadConfig),
-        (!facts.is_list_allowed, EglError::BadAttribute),
-        (!facts.is_window_config, EglError::BadMatch),
-        (!facts.is_window, EglError::BadNativeWindow),
-        (facts.is_window_used, EglError::BadAlloc),
-        (
-            exceeds(facts.video_limit, facts.live_bytes, facts.new_bytes),
-            EglError::BadAlloc,
-        ),
-        (facts.are_handles_used_up, EglError::BadAlloc),
-    ])
-}
-
-/// Section 3.5.2.
-fn create_pbuffer_surface<V: Verdict<EglError>>(call: &Call, facts: &EglFacts) -> V
-    ensures { result ≡ V.told (egl_rows CreatePbufferSurface call.now facts.now) }
-{
-    let _ = call;
-    let is_long = is_long(facts.width) || is_long(facts.height);
-    V::tell(&[
-        no_display(facts),
-        uninitialized(facts),
-        (!facts.is_config, EglError::BadConfig),
-        (!facts.is_list_allowed, EglError::BadAttribute),
-        (facts.width < 0 || facts.height < 0, EglError::BadParameter),
-        (is_long && !facts.is_largest, EglError::BadAlloc),
-        (
-            exceeds(facts.video_limit, facts.live_bytes, facts.new_bytes),
-            EglError::BadAlloc,
-        ),
-        (facts.are_handles_used_up, EglError::BadAlloc),
-    ])
-}
-
-/// Section 3.5.6.
-fn surface_attrib<V: Verdict<EglError>>(call: &Call, facts: &EglFacts) -> V
-    ensures { result ≡ V.told (egl_rows SurfaceAttrib call.now facts.now) }
-{
-    let is_behavior = has_code(call, VALUE, EGL_BUFFER_PRESERVED)
-        || has_code(call, VALUE, EGL_BUFFER_DESTROYED);
-    V::tell(&[
-        no_display(facts),
-        uninitialized(facts),
-        no_surface(facts),
-        (
-            !has_code(call, ATTRIBUTE, EGL_SWAP_BEHAVIOR),
-            EglError::BadAttribute,
-        ),
-        (!is_behavior, EglError::BadParameter),
-    ])
-}
-
-/// Section 3.7.1.
-fn create_context<V: Verdict<EglError>>(call: &Call, facts: &EglFacts) -> V
-    ensures { result ≡ V.told (egl_rows CreateContext call.now facts.now) }
-{
-    let _ = call;
-    let is_later = is_later_version(facts.version, facts.minor_version);
-    let is_supported = is_supported_version(facts.version, facts.minor_version);
-    V::tell(&[
-        no_display(facts),
-        uninitialized(facts),
-        (!facts.is_config, EglError::BadConfig),
-        (!facts.is_list_allowed, EglError::BadAttribute),
-        (!facts.is_share, EglError::BadContext),
-        (!facts.is_share_here, EglError::BadMatch),
-        (is_later, EglError::BadConfig),
-        (!is_supported, EglError::BadMatch),
-        (facts.are_handles_used_up, EglError::BadAlloc),
-    ])
-}
-
 /// Whether a surface to draw to is given without one to read from, or the other way round.
 fn is_one_alone(call: &Call) -> bool
     ensures { result ≡ is_one_alone call.now }
@@ -185,175 +70,100 @@ fn is_one_alone(call: &Call) -> bool
     is_zero(call, DRAW) && !is_zero(call, READ) || !is_zero(call, DRAW) && is_zero(call, READ)
 }
 
-/// Section 3.7.3, where a draw surface, a read surface or a context is given.
-fn make_some_current<V: Verdict<EglError>>(call: &Call, facts: &EglFacts) -> V
-    ensures { result ≡ V.told (current_rows call.now facts.now) }
+/// Whether a call only releases what is current (section 3.7.3): it is given neither surfaces nor a context.
+fn is_release_by(role: Role, call: &Call) -> bool
+    ensures { result ≡ is_release_by role call.now }
 {
-    let is_no_surface = is_wrong(call, DRAW, facts.is_draw) || is_wrong(call, READ, facts.is_read);
-    V::tell(&[
-        no_display(facts),
-        uninitialized(facts),
-        (is_no_surface, EglError::BadSurface),
-        (
-            is_wrong(call, CONTEXT, facts.is_context),
-            EglError::BadContext,
-        ),
-        (is_zero(call, CONTEXT), EglError::BadMatch),
-        (is_one_alone(call), EglError::BadMatch),
-        (
-            is_wrong(call, DRAW, facts.is_compatible),
-            EglError::BadMatch,
-        ),
-        (facts.is_context_elsewhere, EglError::BadAccess),
-        (facts.is_surface_elsewhere, EglError::BadAccess),
-    ])
+    matches!(role, Role::Binds)
+        && is_zero(call, DRAW)
+        && is_zero(call, READ)
+        && is_zero(call, CONTEXT)
 }
 
-/// Section 3.7.3.
-fn make_current<V: Verdict<EglError>>(call: &Call, facts: &EglFacts) -> V
-    ensures { result ≡ V.told (egl_rows MakeCurrent call.now facts.now) }
-{
-    if is_zero(call, DRAW) && is_zero(call, READ) && is_zero(call, CONTEXT) {
-        return V::tell(&[no_display(facts)]);
+/// A call, and the facts about the state in which it is made.
+#[derive(Drop)]
+struct EglCase<'a> {
+    call: &'a Call,
+    facts: &'a EglFacts,
+}
+
+impl<'a> Judge<EglCondition> for EglCase<'a> {
+    ghost meets = { λ c x. egl_holds x c.call.now c.facts.now };
+
+    fn holds(&self, condition: EglCondition) -> bool {
+        let EglCase { call, facts } = *self;
+        match condition {
+            EglCondition::NoDisplay => !facts.is_display,
+            EglCondition::NotInitialized => !facts.is_initialized,
+            EglCondition::NoConfig => !facts.is_config,
+            EglCondition::NoSurface => !facts.is_surface,
+            EglCondition::NoContext => !facts.is_context,
+            EglCondition::NoSync => !facts.is_sync,
+            EglCondition::NoImage => !facts.is_image,
+            EglCondition::NoAttribute => !facts.is_attribute,
+            EglCondition::WrongList => !facts.is_list_allowed,
+            EglCondition::SomeList => has_attributes(call),
+            EglCondition::NoVideo => {
+                exceeds(facts.video_limit, facts.live_bytes, facts.new_bytes)
+            }
+            EglCondition::NoHandle => facts.are_handles_used_up,
+            EglCondition::NoWindowBit => !facts.is_window_config,
+            EglCondition::NoWindow => !facts.is_window,
+            EglCondition::WindowUsed => facts.is_window_used,
+            EglCondition::NegativeSide => facts.width < 0 || facts.height < 0,
+            EglCondition::LongSide => {
+                (is_long(facts.width) || is_long(facts.height)) && !facts.is_largest
+            }
+            EglCondition::NoSwapAttribute => !has_code(call, ATTRIBUTE, EGL_SWAP_BEHAVIOR),
+            EglCondition::NoSwapBehavior => {
+                !(has_code(call, VALUE, EGL_BUFFER_PRESERVED)
+                    || has_code(call, VALUE, EGL_BUFFER_DESTROYED))
+            }
+            EglCondition::NoApi => !has_code(call, API, EGL_OPENGL_ES_API),
+            EglCondition::NoShare => !facts.is_share,
+            EglCondition::ShareElsewhere => !facts.is_share_here,
+            EglCondition::LaterVersion => is_later_version(facts.version, facts.minor_version),
+            EglCondition::NoVersion => !is_supported_version(facts.version, facts.minor_version),
+            EglCondition::WrongSurface => {
+                is_wrong(call, DRAW, facts.is_draw) || is_wrong(call, READ, facts.is_read)
+            }
+            EglCondition::WrongContext => is_wrong(call, CONTEXT, facts.is_context),
+            EglCondition::WithoutContext => is_zero(call, CONTEXT),
+            EglCondition::OneSurface => is_one_alone(call),
+            EglCondition::NotCompatible => is_wrong(call, DRAW, facts.is_compatible),
+            EglCondition::ContextElsewhere => facts.is_context_elsewhere,
+            EglCondition::SurfaceElsewhere => facts.is_surface_elsewhere,
+            EglCondition::NoReaddraw => {
+                !(has_code(call, READDRAW, EGL_DRAW) || has_code(call, READDRAW, EGL_READ))
+            }
+            EglCondition::NoFence => !has_code(call, SYNC_TYPE, EGL_SYNC_FENCE),
+            EglCondition::NoContextHere => !facts.is_current_here,
+            EglCondition::SomeFlags => !is_zero(call, FLAGS),
+            EglCondition::NotCurrent => !facts.is_current,
+            EglCondition::NoImageSource => {
+                !(has_code(call, IMAGE_SOURCE, EGL_GL_TEXTURE_2D)
+                    || has_code(call, IMAGE_SOURCE, EGL_GL_RENDERBUFFER))
+            }
+            EglCondition::NoPixels => !facts.is_source,
+            EglCondition::NotComplete => facts.is_incomplete,
+            EglCondition::NoLevel => !facts.is_level,
+            EglCondition::Sibling => facts.is_sibling,
+            EglCondition::NotDrawnTo => !facts.is_drawn_to,
+        }
     }
-    make_some_current(call, facts)
-}
-
-/// Section 3.8.1.
-fn create_sync<V: Verdict<EglError>>(call: &Call, facts: &EglFacts) -> V
-    ensures { result ≡ V.told (egl_rows CreateSync call.now facts.now) }
-{
-    V::tell(&[
-        no_display(facts),
-        uninitialized(facts),
-        (
-            !has_code(call, SYNC_TYPE, EGL_SYNC_FENCE),
-            EglError::BadAttribute,
-        ),
-        (has_attributes(call), EglError::BadAttribute),
-        (!facts.is_current_here, EglError::BadMatch),
-        (facts.are_handles_used_up, EglError::BadAlloc),
-    ])
-}
-
-/// Section 3.8.1.2.
-fn wait_sync<V: Verdict<EglError>>(call: &Call, facts: &EglFacts) -> V
-    ensures { result ≡ V.told (egl_rows WaitSync call.now facts.now) }
-{
-    V::tell(&[
-        no_display(facts),
-        uninitialized(facts),
-        no_sync(facts),
-        (!is_zero(call, FLAGS), EglError::BadParameter),
-        (!facts.is_current, EglError::BadMatch),
-    ])
-}
-
-/// Section 3.9.
-fn create_image<V: Verdict<EglError>>(call: &Call, facts: &EglFacts) -> V
-    ensures { result ≡ V.told (egl_rows CreateImage call.now facts.now) }
-{
-    let is_kind = has_code(call, IMAGE_SOURCE, EGL_GL_TEXTURE_2D)
-        || has_code(call, IMAGE_SOURCE, EGL_GL_RENDERBUFFER);
-    V::tell(&[
-        no_display(facts),
-        uninitialized(facts),
-        no_context(facts),
-        (!is_kind, EglError::BadParameter),
-        (!facts.is_list_allowed, EglError::BadParameter),
-        (!facts.is_source, EglError::BadParameter),
-        (facts.is_incomplete, EglError::BadParameter),
-        (!facts.is_level, EglError::BadMatch),
-        (facts.is_sibling, EglError::BadAccess),
-        (facts.are_handles_used_up, EglError::BadAlloc),
-    ])
 }
 
 /// What the rows of a call of EGL tell, in the order of the tests. A call of another interface has no row.
 pub fn egl_verdict<V: Verdict<EglError>>(call: &Call, facts: &EglFacts) -> V
     ensures { result ≡ V.told (egl_rows_by call.now.kind call.now facts.now) }
 {
-    match call.kind {
-        Kind::Egl(EglKind::GetError) => V::tell(&[]),
-        Kind::Egl(EglKind::GetDisplay) => V::tell(&[]),
-        Kind::Egl(EglKind::Initialize) => V::tell(&[no_display(facts)]),
-        Kind::Egl(EglKind::Terminate) => V::tell(&[no_display(facts)]),
-        Kind::Egl(EglKind::GetConfigs) => { V::tell(&[no_display(facts), uninitialized(facts)]) }
-        Kind::Egl(EglKind::ChooseConfig) => V::tell(&[
-            no_display(facts),
-            uninitialized(facts),
-            (!facts.is_list_allowed, EglError::BadAttribute),
-        ]),
-        Kind::Egl(EglKind::GetConfigAttrib) => V::tell(&[
-            no_display(facts),
-            uninitialized(facts),
-            (!facts.is_config, EglError::BadConfig),
-            (!facts.is_attribute, EglError::BadAttribute),
-        ]),
-        Kind::Egl(EglKind::CreateWindowSurface) => create_window_surface(call, facts),
-        Kind::Egl(EglKind::CreatePbufferSurface) => create_pbuffer_surface(call, facts),
-        Kind::Egl(EglKind::DestroySurface) => {
-            V::tell(&[no_display(facts), uninitialized(facts), no_surface(facts)])
-        }
-        Kind::Egl(EglKind::QuerySurface) => V::tell(&[
-            no_display(facts),
-            uninitialized(facts),
-            no_surface(facts),
-            (!facts.is_attribute, EglError::BadAttribute),
-        ]),
-        Kind::Egl(EglKind::SurfaceAttrib) => surface_attrib(call, facts),
-        Kind::Egl(EglKind::BindApi) => V::tell(&[(
-            !has_code(call, API, EGL_OPENGL_ES_API),
-            EglError::BadParameter,
-        )]),
-        Kind::Egl(EglKind::QueryApi) => V::tell(&[]),
-        Kind::Egl(EglKind::CreateContext) => create_context(call, facts),
-        Kind::Egl(EglKind::DestroyContext) => {
-            V::tell(&[no_display(facts), uninitialized(facts), no_context(facts)])
-        }
-        Kind::Egl(EglKind::MakeCurrent) => make_current(call, facts),
-        Kind::Egl(EglKind::GetCurrentContext) => V::tell(&[]),
-        Kind::Egl(EglKind::GetCurrentSurface) => V::tell(&[(
-            !(has_code(call, READDRAW, EGL_DRAW) || has_code(call, READDRAW, EGL_READ)),
-            EglError::BadParameter,
-        )]),
-        Kind::Egl(EglKind::GetCurrentDisplay) => V::tell(&[]),
-        Kind::Egl(EglKind::QueryContext) => V::tell(&[
-            no_display(facts),
-            uninitialized(facts),
-            no_context(facts),
-            (!facts.is_attribute, EglError::BadAttribute),
-        ]),
-        Kind::Egl(EglKind::SwapBuffers) => V::tell(&[
-            no_display(facts),
-            uninitialized(facts),
-            no_surface(facts),
-            (!facts.is_drawn_to, EglError::BadSurface),
-        ]),
-        Kind::Egl(EglKind::WaitClient) => V::tell(&[]),
-        Kind::Egl(EglKind::ReleaseThread) => V::tell(&[]),
-        Kind::Egl(EglKind::CreateSync) => create_sync(call, facts),
-        Kind::Egl(EglKind::DestroySync) => {
-            V::tell(&[no_display(facts), uninitialized(facts), no_sync(facts)])
-        }
-        Kind::Egl(EglKind::ClientWaitSync) => {
-            V::tell(&[no_display(facts), uninitialized(facts), no_sync(facts)])
-        }
-        Kind::Egl(EglKind::WaitSync) => wait_sync(call, facts),
-        Kind::Egl(EglKind::GetSyncAttrib) => V::tell(&[
-            no_display(facts),
-            uninitialized(facts),
-            no_sync(facts),
-            (!facts.is_attribute, EglError::BadAttribute),
-        ]),
-        Kind::Egl(EglKind::CreateImage) => create_image(call, facts),
-        Kind::Egl(EglKind::DestroyImage) => V::tell(&[
-            no_display(facts),
-            uninitialized(facts),
-            (!facts.is_image, EglError::BadParameter),
-        ]),
-        Kind::Gl(_) | Kind::Own(_) => V::tell(&[]),
+    let Kind::Egl(kind) = call.kind else {
+        return V::tell(&[]);
+    };
+    if is_release_by(egl_role(kind), call) {
+        return V::tell(&[(!facts.is_display, EglError::BadDisplay)]);
     }
+    V::judge(&EglCase { call, facts }, egl_rules(kind))
 }
 
 /// The error that a call of EGL answers, and None where it isn't refused: that of the first of its rows that holds.

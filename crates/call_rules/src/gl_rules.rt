@@ -1,35 +1,38 @@
 //! When each call of OpenGL ES is refused.
-ghost use Rattle.context_state.specs.Kinds.{context_gl_call};
-ghost use Rattle.std.specs.Prelude.{◌≡◌, None};
-ghost use Rattle.egl_calls.specs.declared.kinds.GlKind.TheVariants.{ReadPixels};
-ghost use Rattle.call_rules.specs.GlRules.{gl_refusal, gl_rows_by, object_rows, draw_rows, draws_nothing, is_clear_mask, is_read_format, is_read_type, is_read_pair};
+ghost use Rattle.std.specs.Prelude.{◌≡◌, ◌<◌, ◌||◌};
+ghost use Rattle.egl_calls.specs.Arguments.{number, signed};
+ghost use Rattle.call_rules.specs.TextureRules.{is_no_level_side, is_no_part};
+ghost use Rattle.call_rules.specs.GlRules.{gl_refusal, gl_rows_by, gl_holds, draws_nothing, is_clear_mask, is_read_format, is_read_type, is_read_pair};
 
-use crate::attachment_rules::{
-    attachment_parameter, framebuffer_renderbuffer, framebuffer_texture, wrong_framebuffer_target,
-};
-use crate::buffer_rules::{
-    buffer_data, buffer_part, not_bound, wrong_buffer_parameter, wrong_buffer_target,
-};
-use crate::copy_rules::{copy_tex_image, copy_tex_sub_image};
-use crate::framebuffer_rules::incomplete;
+use crate::attachment_rules::{attaches, is_attachment_parameter};
+use crate::buffer_rules::{is_buffer_parameter, is_buffer_target, is_usage};
+use crate::copy_rules::has_alpha;
+use crate::egl_rules::exceeds;
 use crate::gl_facts::GlFacts;
-use crate::image_target_rules::{target_renderbuffer, target_texture};
-use crate::renderbuffer_rules::{
-    is_no_side, renderbuffer_storage, wrong_renderbuffer_parameter, wrong_renderbuffer_target,
-};
+use crate::renderbuffer_rules::{is_no_side, is_renderbuffer_parameter};
 use crate::texture_rules::{
-    tex_image, tex_parameteriv, tex_sub_image, wrong_count, wrong_name, wrong_parameter,
-    wrong_target,
+    is_image_format, is_image_type, is_no_count, is_no_level, is_no_level_side, is_no_part,
 };
+use call_table::{GlCondition, gl_rules, own_rules};
 use context_state::context_gl_call;
-use egl_calls::arguments::signed;
-use egl_calls::places::{DRAWN_HEIGHT, DRAWN_WIDTH, MASK};
-use egl_calls::{Call, GlError, GlKind, Kind, OwnKind, unsigned};
-use egl_names::codes::{
-    GL_COLOR_BUFFER_BIT, GL_DEPTH_BUFFER_BIT, GL_RGB, GL_RGBA, GL_STENCIL_BUFFER_BIT,
-    GL_UNSIGNED_BYTE, GL_UNSIGNED_SHORT_5_6_5,
+use egl_calls::arguments::{is_zero, number, signed};
+use egl_calls::places::{
+    ATTACHED_LEVEL, ATTACHED_TARGET, ATTACHMENT, ATTACHMENT_PNAME, BORDER, BOUND_NAME, BOUND_PARAM,
+    BOUND_PNAME, BUFFER_OFFSET, BUFFER_PART_SIZE, BUFFER_SIZE, BUFFER_USAGE, COPIED_BORDER,
+    COPIED_HEIGHT, COPIED_PART_HEIGHT, COPIED_PART_WIDTH, COPIED_WIDTH, COUNT, DRAWN_HEIGHT,
+    DRAWN_WIDTH, FORMAT, HEIGHT, IMAGE_FORMAT, IMAGE_HEIGHT, IMAGE_TYPE, IMAGE_WIDTH,
+    INTERNAL_FORMAT, LEVEL, MASK, PART_HEIGHT, PART_WIDTH, STORED_FORMAT, STORED_HEIGHT,
+    STORED_WIDTH, TARGET, TYPE, WIDTH, X_OFFSET, Y_OFFSET,
 };
-use refusal_rows::Verdict;
+use egl_calls::{Call, GlError, Kind, unsigned};
+use egl_names::codes::{
+    GL_COLOR_BUFFER_BIT, GL_DEPTH_BUFFER_BIT, GL_FRAMEBUFFER_ATTACHMENT_OBJECT_NAME_OES,
+    GL_FRAMEBUFFER_OES, GL_RENDERBUFFER_OES, GL_RGB, GL_RGBA, GL_STENCIL_BUFFER_BIT, GL_TEXTURE_2D,
+    GL_TEXTURE_CROP_RECT_OES, GL_UNSIGNED_BYTE, GL_UNSIGNED_SHORT_5_6_5,
+};
+use framebuffer_objects::{is_attachment, is_internal};
+use refusal_rows::{Judge, Verdict};
+use texture_objects::{form_of, is_parameter_pair};
 
 const BUFFER_BITS: u64 = GL_COLOR_BUFFER_BIT | GL_DEPTH_BUFFER_BIT | GL_STENCIL_BUFFER_BIT;
 
@@ -64,93 +67,130 @@ fn draws_nothing(call: &Call) -> bool
     signed(call, DRAWN_WIDTH) < 1 || signed(call, DRAWN_HEIGHT) < 1
 }
 
-/// OES_draw_texture.
-fn draw<V: Verdict<GlError>>(call: &Call, facts: &GlFacts) -> V
-    ensures { result ≡ V.told (draw_rows call.now facts.now) }
+fn has_no_level_side(call: &Call, width: usize, height: usize) -> bool
+    requires { (width < 8) × (height < 8) }
+    ensures { result ≡ (is_no_level_side (number call.now LEVEL) (signed call.now width) || is_no_level_side (number call.now LEVEL) (signed call.now height)) }
 {
-    V::tell(&[
-        (draws_nothing(call), GlError::InvalidValue),
-        incomplete(facts),
-    ])
+    let level = number(call, LEVEL);
+    is_no_level_side(level, signed(call, width)) || is_no_level_side(level, signed(call, height))
 }
 
-/// OpenGL ES 1.1, section 4.3.1.
-fn read_pixels<V: Verdict<GlError>>(call: &Call, facts: &GlFacts) -> V
-    ensures { result ≡ V.told (object_rows ReadPixels call.now facts.now) }
+fn is_outside(call: &Call, facts: &GlFacts, width: usize, height: usize) -> bool
+    requires { (width < 8) × (height < 8) }
+    ensures { result ≡ (is_no_part facts.now.stored_width (signed call.now X_OFFSET) (signed call.now width) || is_no_part facts.now.stored_height (signed call.now Y_OFFSET) (signed call.now height)) }
 {
-    let [_, _, width, height, format, kind, ..] = call.args;
-    let format = unsigned(format);
-    let kind = unsigned(kind);
-    let is_known = is_read_format(format) && is_read_type(kind);
-    V::tell(&[
-        (
-            is_no_side(width) || is_no_side(height),
-            GlError::InvalidValue,
-        ),
-        (!is_known, GlError::InvalidEnum),
-        (!is_read_pair(format, kind), GlError::InvalidOperation),
-        incomplete(facts),
-    ])
+    is_no_part(
+        facts.stored_width,
+        signed(call, X_OFFSET),
+        signed(call, width),
+    ) || is_no_part(
+        facts.stored_height,
+        signed(call, Y_OFFSET),
+        signed(call, height),
+    )
 }
 
-/// What the rows tell of a call that asks or changes more than its context's own state: a table of the rows of each, in the order of the tests.
-fn object_verdict<V: Verdict<GlError>>(kind: GlKind, call: &Call, facts: &GlFacts) -> V
-    requires { context_gl_call kind ≡ None }
-    ensures { result ≡ V.told (object_rows kind call.now facts.now) }
-{
-    match kind {
-        GlKind::Flush => V::tell(&[]),
-        GlKind::Finish => V::tell(&[]),
-        GlKind::Clear => V::tell(&[
-            (!is_clear_mask(call.args[MASK]), GlError::InvalidValue),
-            incomplete(facts),
-        ]),
-        GlKind::ReadPixels => read_pixels(call, facts),
-        GlKind::DrawTexi | GlKind::DrawTexx => draw(call, facts),
-        GlKind::GenTextures => V::tell(&[wrong_count(call)]),
-        GlKind::DeleteTextures => V::tell(&[]),
-        GlKind::IsTexture => V::tell(&[]),
-        GlKind::BindTexture => V::tell(&[wrong_target(call), wrong_name(call)]),
-        GlKind::TexParameterx => V::tell(&[wrong_target(call), wrong_parameter(call)]),
-        GlKind::TexParameteriv => tex_parameteriv(call, facts),
-        GlKind::TexImage2d => tex_image(call, facts),
-        GlKind::TexSubImage2d => tex_sub_image(call, facts),
-        GlKind::CopyTexImage2d => copy_tex_image(call, facts),
-        GlKind::CopyTexSubImage2d => copy_tex_sub_image(call, facts),
-        GlKind::GenBuffers => V::tell(&[wrong_count(call)]),
-        GlKind::DeleteBuffers => V::tell(&[]),
-        GlKind::IsBuffer => V::tell(&[]),
-        GlKind::BindBuffer => V::tell(&[wrong_buffer_target(call), wrong_name(call)]),
-        GlKind::BufferData => buffer_data(call, facts),
-        GlKind::BufferSubData => buffer_part(call, facts),
-        GlKind::GetBufferParameteriv => V::tell(&[
-            wrong_buffer_target(call),
-            wrong_buffer_parameter(call),
-            not_bound(facts),
-        ]),
-        GlKind::GenRenderbuffers => V::tell(&[wrong_count(call)]),
-        GlKind::DeleteRenderbuffers => V::tell(&[]),
-        GlKind::IsRenderbuffer => V::tell(&[]),
-        GlKind::BindRenderbuffer => {
-            V::tell(&[wrong_renderbuffer_target(call), wrong_name(call)])
+/// A call, and the facts about the state in which it is made.
+#[derive(Drop)]
+struct GlCase<'a> {
+    call: &'a Call,
+    facts: &'a GlFacts,
+}
+
+impl<'a> Judge<GlCondition> for GlCase<'a> {
+    ghost meets = { λ c x. gl_holds x c.call.now c.facts.now };
+
+    fn holds(&self, condition: GlCondition) -> bool {
+        let GlCase { call, facts } = *self;
+        match condition {
+            GlCondition::NoTextureTarget => number(call, TARGET) != GL_TEXTURE_2D,
+            GlCondition::NoBufferTarget => !is_buffer_target(number(call, TARGET)),
+            GlCondition::NoRenderbufferTarget => number(call, TARGET) != GL_RENDERBUFFER_OES,
+            GlCondition::NoFramebufferTarget => number(call, TARGET) != GL_FRAMEBUFFER_OES,
+            GlCondition::NothingBound => !facts.is_bound,
+            GlCondition::WrongCount => is_no_count(signed(call, COUNT)),
+            GlCondition::NegativeName => signed(call, BOUND_NAME) < 0,
+            GlCondition::NoVideo => {
+                exceeds(facts.video_limit, facts.live_bytes, facts.new_bytes)
+            }
+            GlCondition::NotComplete => !facts.is_framebuffer_complete,
+            GlCondition::NoBufferBit => !is_clear_mask(signed(call, MASK)),
+            GlCondition::WrongReadSides => {
+                is_no_side(signed(call, WIDTH)) || is_no_side(signed(call, HEIGHT))
+            }
+            GlCondition::NoReadKind => {
+                !(is_read_format(number(call, FORMAT)) && is_read_type(number(call, TYPE)))
+            }
+            GlCondition::NoReadPair => !is_read_pair(number(call, FORMAT), number(call, TYPE)),
+            GlCondition::DrawsNothing => draws_nothing(call),
+            GlCondition::NoCropParameter => number(call, BOUND_PNAME) != GL_TEXTURE_CROP_RECT_OES,
+            GlCondition::WrongCropLength => call.list.len() != 4,
+            GlCondition::NoTextureParameter => {
+                !is_parameter_pair(number(call, BOUND_PNAME), number(call, BOUND_PARAM))
+            }
+            GlCondition::NoImageKind => {
+                !(is_image_format(number(call, IMAGE_FORMAT))
+                    && is_image_type(number(call, IMAGE_TYPE)))
+            }
+            GlCondition::NoImagePair => {
+                form_of(signed(call, IMAGE_FORMAT), signed(call, IMAGE_TYPE)).is_none()
+            }
+            GlCondition::NoInternalFormat => !is_image_format(number(call, INTERNAL_FORMAT)),
+            GlCondition::NoLevel => is_no_level(signed(call, LEVEL)),
+            GlCondition::WrongLevelSides => has_no_level_side(call, IMAGE_WIDTH, IMAGE_HEIGHT),
+            GlCondition::SomeBorder => !is_zero(call, BORDER),
+            GlCondition::OtherFormat => {
+                number(call, INTERNAL_FORMAT) != number(call, IMAGE_FORMAT)
+            }
+            GlCondition::NoStorage => !facts.is_stored,
+            GlCondition::OutsideLevel => is_outside(call, facts, PART_WIDTH, PART_HEIGHT),
+            GlCondition::OtherLevelFormat => number(call, IMAGE_FORMAT) != facts.stored_base,
+            GlCondition::WrongCopiedSides => has_no_level_side(call, COPIED_WIDTH, COPIED_HEIGHT),
+            GlCondition::SomeCopiedBorder => !is_zero(call, COPIED_BORDER),
+            GlCondition::NoInternalAlpha => {
+                has_alpha(number(call, INTERNAL_FORMAT)) && !facts.has_read_alpha
+            }
+            GlCondition::CopiedOutsideLevel => {
+                is_outside(call, facts, COPIED_PART_WIDTH, COPIED_PART_HEIGHT)
+            }
+            GlCondition::NoLevelAlpha => has_alpha(facts.stored_base) && !facts.has_read_alpha,
+            GlCondition::NoUsage => !is_usage(number(call, BUFFER_USAGE)),
+            GlCondition::NegativeSize => signed(call, BUFFER_SIZE) < 0,
+            GlCondition::NegativePart => {
+                signed(call, BUFFER_OFFSET) < 0 || signed(call, BUFFER_PART_SIZE) < 0
+            }
+            GlCondition::PartBehindEnd => exceeds(
+                facts.bound_size,
+                number(call, BUFFER_OFFSET),
+                number(call, BUFFER_PART_SIZE),
+            ),
+            GlCondition::NoBufferParameter => !is_buffer_parameter(number(call, BOUND_PNAME)),
+            GlCondition::NoRenderbufferFormat => !is_internal(number(call, STORED_FORMAT)),
+            GlCondition::WrongStorageSides => {
+                is_no_side(signed(call, STORED_WIDTH)) || is_no_side(signed(call, STORED_HEIGHT))
+            }
+            GlCondition::NoRenderbufferParameter => {
+                !is_renderbuffer_parameter(number(call, BOUND_PNAME))
+            }
+            GlCondition::NoAttachment => !is_attachment(number(call, ATTACHMENT)),
+            GlCondition::NoObjectNamed => attaches(call) && !facts.is_named,
+            GlCondition::NoAttachedTarget => {
+                attaches(call) && number(call, ATTACHED_TARGET) != GL_TEXTURE_2D
+            }
+            GlCondition::SomeAttachedLevel => attaches(call) && !is_zero(call, ATTACHED_LEVEL),
+            GlCondition::NoAttachedRenderbufferTarget => {
+                number(call, ATTACHED_TARGET) != GL_RENDERBUFFER_OES
+            }
+            GlCondition::NoAttachmentParameter => {
+                !is_attachment_parameter(number(call, ATTACHMENT_PNAME))
+            }
+            GlCondition::NothingAttached => {
+                number(call, ATTACHMENT_PNAME) == GL_FRAMEBUFFER_ATTACHMENT_OBJECT_NAME_OES
+                    && !facts.is_attached
+            }
+            GlCondition::NoImage => !facts.is_image,
+            GlCondition::NotRenderable => !facts.is_renderable,
         }
-        GlKind::RenderbufferStorage => renderbuffer_storage(call, facts),
-        GlKind::GetRenderbufferParameteriv => V::tell(&[
-            wrong_renderbuffer_target(call),
-            wrong_renderbuffer_parameter(call),
-            not_bound(facts),
-        ]),
-        GlKind::GenFramebuffers => V::tell(&[wrong_count(call)]),
-        GlKind::DeleteFramebuffers => V::tell(&[]),
-        GlKind::IsFramebuffer => V::tell(&[]),
-        GlKind::BindFramebuffer => { V::tell(&[wrong_framebuffer_target(call), wrong_name(call)]) }
-        GlKind::FramebufferTexture2d => framebuffer_texture(call, facts),
-        GlKind::FramebufferRenderbuffer => framebuffer_renderbuffer(call, facts),
-        GlKind::CheckFramebufferStatus => V::tell(&[wrong_framebuffer_target(call)]),
-        GlKind::GetFramebufferAttachmentParameteriv => attachment_parameter(call, facts),
-        GlKind::ImageTargetTexture2d => target_texture(call, facts),
-        GlKind::ImageTargetRenderbufferStorage => target_renderbuffer(call, facts),
-        _ => unreachable!(),
     }
 }
 
@@ -161,10 +201,10 @@ pub fn gl_verdict<V: Verdict<GlError>>(call: &Call, facts: &GlFacts) -> V
     match call.kind {
         Kind::Gl(kind) => match context_gl_call(kind) {
             Some(own) => context_state::verdict(own, call),
-            None => object_verdict(kind, call, facts),
+            None => V::judge(&GlCase { call, facts }, gl_rules(kind)),
         },
-        Kind::Own(OwnKind::ReadBuffer) => buffer_part(call, facts),
-        Kind::Egl(_) | Kind::Own(_) => V::tell(&[]),
+        Kind::Own(kind) => V::judge(&GlCase { call, facts }, own_rules(kind)),
+        Kind::Egl(_) => V::tell(&[]),
     }
 }
 

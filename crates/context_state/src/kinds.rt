@@ -22,14 +22,12 @@ pub enum ContextCall {
     GetIntegerv,
 }
 
-/// The call of this kind, if it asks or sets the state of its context alone.
+/// The call of this kind, if it asks or sets the state of its context alone. A call that is neither named here nor given an effect fails to prove in `driver_core`.
 pub fn context_gl_call(kind: GlKind) -> Option<ContextCall>
     ensures { result ≡ context_gl_call kind }
 {
     match kind {
         GlKind::GetError => Some(ContextCall::GetError),
-        GlKind::Flush => None,
-        GlKind::Finish => None,
         GlKind::Enable => Some(ContextCall::Enable),
         GlKind::Disable => Some(ContextCall::Disable),
         GlKind::Scissor => Some(ContextCall::Scissor),
@@ -42,43 +40,7 @@ pub fn context_gl_call(kind: GlKind) -> Option<ContextCall>
         GlKind::TexEnvx => Some(ContextCall::TexEnvx),
         GlKind::PixelStorei => Some(ContextCall::PixelStorei),
         GlKind::GetIntegerv => Some(ContextCall::GetIntegerv),
-        GlKind::Clear => None,
-        GlKind::ReadPixels => None,
-        GlKind::DrawTexi => None,
-        GlKind::DrawTexx => None,
-        GlKind::GenTextures => None,
-        GlKind::GenBuffers => None,
-        GlKind::GenRenderbuffers => None,
-        GlKind::GenFramebuffers => None,
-        GlKind::DeleteTextures => None,
-        GlKind::DeleteBuffers => None,
-        GlKind::DeleteRenderbuffers => None,
-        GlKind::DeleteFramebuffers => None,
-        GlKind::IsTexture => None,
-        GlKind::IsBuffer => None,
-        GlKind::IsRenderbuffer => None,
-        GlKind::IsFramebuffer => None,
-        GlKind::BindTexture => None,
-        GlKind::BindBuffer => None,
-        GlKind::BindRenderbuffer => None,
-        GlKind::BindFramebuffer => None,
-        GlKind::TexParameterx => None,
-        GlKind::TexParameteriv => None,
-        GlKind::TexImage2d => None,
-        GlKind::TexSubImage2d => None,
-        GlKind::CopyTexImage2d => None,
-        GlKind::CopyTexSubImage2d => None,
-        GlKind::BufferData => None,
-        GlKind::BufferSubData => None,
-        GlKind::GetBufferParameteriv => None,
-        GlKind::RenderbufferStorage => None,
-        GlKind::GetRenderbufferParameteriv => None,
-        GlKind::FramebufferTexture2d => None,
-        GlKind::FramebufferRenderbuffer => None,
-        GlKind::CheckFramebufferStatus => None,
-        GlKind::GetFramebufferAttachmentParameteriv => None,
-        GlKind::ImageTargetTexture2d => None,
-        GlKind::ImageTargetRenderbufferStorage => None,
+        _ => None,
     }
 }
 

@@ -13,4 +13,4 @@ mod refusals;
 pub use bindings::Bindings;
 pub use kinds::{ContextCall, context_call, context_gl_call, is_context_call};
 pub use parts::ContextPart;
-pub use refusals::{refusal, verdict};
+pub use refusals::{refusal, verdict, words};

@@ -1,5 +1,6 @@
 //! When a call is refused.
-ghost use Rattle.std.specs.Prelude.{◌≡◌};
+ghost use Rattle.std.specs.Prelude.{◌≡◌, length};
+ghost use Rattle.egl_calls.specs.Calls.{CallValue};
 ghost use Rattle.context_state.specs.Arguments.{may_enable, may_disable, is_environment, is_store, is_box_name, is_parameter, is_index};
 ghost use Rattle.context_state.specs.Parts.{is_alignment};
 ghost use Rattle.context_state.specs.Refusals.{context_rows, refusal};
@@ -117,6 +118,34 @@ pub fn verdict<V: Verdict<GlError>>(kind: ContextCall, call: &Call) -> V
         | ContextCall::ClearDepthx
         | ContextCall::ClearStencil
         | ContextCall::ColorMask => V::tell(&[]),
+    }
+}
+
+/// What each row of a call says, in words, in the order of the tests.
+pub fn words(kind: ContextCall) -> &'static [&'static str]
+    ensures { (c : CallValue) → length result.now ≡ length (context_rows kind c) }
+{
+    match kind {
+        ContextCall::Enable => {
+            &["the capability is none of GL_TEXTURE_2D, GL_SCISSOR_TEST and GL_DITHER"]
+        }
+        ContextCall::Disable => &["there is no such capability"],
+        ContextCall::Scissor | ContextCall::Viewport => &["the width or the height is negative"],
+        ContextCall::TexEnvx => &["there is no such target, parameter or value"],
+        ContextCall::PixelStorei => &[
+            "there is no such parameter",
+            "the alignment is none of 1, 2, 4 and 8",
+        ],
+        ContextCall::GetIntegerv => &[
+            "there is no such parameter",
+            "the parameter has no value at the index",
+        ],
+        ContextCall::GetError
+        | ContextCall::ClearColorx
+        | ContextCall::Color4x
+        | ContextCall::ClearDepthx
+        | ContextCall::ClearStencil
+        | ContextCall::ColorMask => &[],
     }
 }
 

@@ -17,7 +17,7 @@ use Rattle.call_rules.proofs.TestLaws.{not_below}
 use Rattle.rect_pipeline.specs.Signed.{IsDrawNumber}
 use Rattle.driver_objects.specs.Storages.{IsDrawnRect}
 use Rattle.egl_model.specs.Draws.{fixed}
-use Rattle.egl_model.specs.GlFacts.{gl_facts, gl_refusal}
+use Rattle.egl_model.specs.GlCalls.{gl_facts, gl_refusal}
 use Rattle.egl_model.specs.State.{State}
 use Rattle.driver_core.specs.Draws.{is_draw}
 

@@ -10,7 +10,7 @@ use Rattle.pixel_rows.specs.declared.rects.Rect.{Rect}
 use Rattle.rect_pipeline.specs.Samplers.{SamplerValue}
 use Rattle.egl_model.specs.Currents.{current_context, part_of_context}
 use Rattle.egl_model.specs.Draws.{drawn_rect, sampler}
-use Rattle.egl_model.specs.GlFacts.{gl_refusal}
+use Rattle.egl_model.specs.GlCalls.{gl_refusal}
 use Rattle.egl_model.specs.Parts.{at_place, own_of, part_in, part_of}
 use Rattle.egl_model.specs.State.{State}
 use Rattle.egl_model.specs.Step.{Stepped, step}

@@ -9,7 +9,7 @@ use Rattle.std.specs.Prelude.{IfSome, IsSome, is_some}
 use Rattle.std.proofs.Common.{get_or}
 use Rattle.egl_model.specs.Links.{rank_in}
 use Rattle.egl_model.specs.Objects.{change_context, storage_in, with_context}
-use Rattle.egl_model.specs.GlFacts.{gl_refusal, part_facts, stored_facts}
+use Rattle.egl_model.specs.GlCalls.{gl_refusal, part_facts, stored_facts}
 use Rattle.egl_model.specs.Bindings.{named_at}
 use Rattle.egl_model.specs.Textures.{level_of, level_storage}
 use Rattle.std.specs.Option.{option_and_then, option_map_or}

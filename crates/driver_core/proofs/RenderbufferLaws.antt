@@ -17,7 +17,7 @@ use Rattle.driver_objects.specs.Objects.{edges_of}
 use Rattle.driver_objects.specs.Storages.{StorageValue}
 use Rattle.driver_objects.specs.declared.objects.Object.{Object}
 use Rattle.driver_objects.specs.declared.objects.Object.TheVariants.{Renderbuffer, Storage}
-use Rattle.egl_model.specs.GlFacts.{gl_refusal}
+use Rattle.egl_model.specs.GlCalls.{gl_refusal}
 use Rattle.egl_model.specs.Objects.{change_renderbuffer, with_renderbuffer}
 use Rattle.egl_model.specs.Renderbuffers.{with_kind}
 use Rattle.egl_model.specs.State.{State}

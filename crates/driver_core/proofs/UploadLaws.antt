@@ -21,7 +21,7 @@ use Rattle.egl_model.specs.Copies.{copied_from, copied_level, copies_nothing, pi
 use Rattle.egl_model.specs.Currents.{current_context, draw_storage, part_of_context, read_storage}
 use Rattle.egl_model.specs.Effects.{valued}
 use Rattle.egl_model.specs.Framebuffers.{BoundFramebuffer}
-use Rattle.egl_model.specs.GlEffects.{gl_effect}
+use Rattle.egl_model.specs.GlCalls.{gl_effect}
 use Rattle.egl_model.specs.Parts.{Private, are_same, at_place, image_in, part_of}
 use Rattle.egl_model.specs.State.{State, record_of}
 use Rattle.egl_model.specs.Step.{gl_step, step, step_by}

@@ -4,7 +4,7 @@ ghost use Rattle.egl_calls.specs.declared.kinds.Kind.TheVariants.{Gl as GlCall, 
 ghost use Rattle.egl_calls.specs.declared.kinds.GlKind.TheVariants.{BufferSubData};
 ghost use Rattle.egl_calls.specs.declared.kinds.OwnKind.TheVariants.{ReadBuffer};
 ghost use Rattle.egl_model.specs.Buffers.{set_data, set_part_of, target_buffer};
-ghost use Rattle.egl_model.specs.GlFacts.{gl_refusal};
+ghost use Rattle.egl_model.specs.GlCalls.{gl_refusal};
 ghost use Rattle.egl_model.specs.Step.{own_step};
 ghost use Rattle.driver_core.specs.Uploads.{refilled};
 

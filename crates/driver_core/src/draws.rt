@@ -10,7 +10,7 @@ ghost use Rattle.rect_pipeline.specs.Samplers as samplers;
 ghost use Rattle.rect_pipeline.specs.Samplers.{HasSides};
 ghost use Rattle.driver_objects.specs.Storages.{drawn_storage, IsDrawnRect};
 ghost use Rattle.egl_model.specs.Draws.{drawn, drawn_rect, fixed, sampler};
-ghost use Rattle.egl_model.specs.GlFacts.{gl_refusal};
+ghost use Rattle.egl_model.specs.GlCalls.{gl_refusal};
 ghost use Rattle.egl_model.specs.Objects.{change_storage};
 ghost use Rattle.driver_core.specs.Draws.{is_draw};
 

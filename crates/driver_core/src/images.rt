@@ -5,7 +5,7 @@ ghost use Rattle.egl_calls.specs.declared.kinds.Kind.TheVariants.{Gl as GlCall};
 ghost use Rattle.egl_calls.specs.declared.kinds.GlKind.TheVariants.{ImageTargetRenderbufferStorage};
 ghost use Rattle.egl_model.specs.Arguments.{number};
 ghost use Rattle.egl_model.specs.Displays.{is_display};
-ghost use Rattle.egl_model.specs.GlFacts.{gl_refusal};
+ghost use Rattle.egl_model.specs.GlCalls.{gl_refusal};
 ghost use Rattle.egl_model.specs.Images.{add_image, created_image, image_kind, renderbuffer_of_image, source_storage, target_image, texture_of_image};
 ghost use Rattle.egl_model.specs.Objects.{storage_in};
 ghost use Rattle.egl_model.specs.Renderbuffers.{target_renderbuffer};

@@ -5,7 +5,7 @@ ghost use Rattle.driver_objects.specs.Storages.{IsDrawnRect};
 ghost use Rattle.rect_pipeline.specs.Samplers.{HasSides, sampled};
 ghost use Rattle.egl_model.specs.Currents.{current_context, part_of_context};
 ghost use Rattle.egl_model.specs.Draws.{sampler};
-ghost use Rattle.egl_model.specs.GlFacts.{gl_refusal};
+ghost use Rattle.egl_model.specs.GlCalls.{gl_refusal};
 ghost use Rattle.egl_model.specs.Parts.{own_of, part_of};
 ghost use Rattle.egl_model.specs.State.{State};
 ghost use Rattle.egl_model.specs.Step.{step};

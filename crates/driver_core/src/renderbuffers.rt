@@ -7,7 +7,7 @@ ghost use Rattle.framebuffer_objects.specs.InternalFormats.{is_internal};
 ghost use Rattle.pixel_rows.specs.Images.{frozen};
 ghost use Rattle.driver_objects.specs.Storages.{stored};
 ghost use Rattle.egl_model.specs.Arguments.{number};
-ghost use Rattle.egl_model.specs.GlFacts.{gl_refusal};
+ghost use Rattle.egl_model.specs.GlCalls.{gl_refusal};
 ghost use Rattle.egl_model.specs.Renderbuffers.{new_kind, new_pixels, stored_as, target_renderbuffer};
 ghost use Rattle.egl_model.specs.Sweep.{sweep};
 ghost use Rattle.driver_core.specs.Costs.{IsCheap};

@@ -11,10 +11,8 @@ ghost use Rattle.egl_calls.specs.Ranges.{IsNumber};
 ghost use Rattle.attrib_lists.specs.Lists.{bad_place};
 ghost use Rattle.attrib_lists.specs.declared.allowed.Allowed.TheVariants.{Config};
 ghost use Rattle.config_match.specs.Configs.{chosen};
-ghost use Rattle.egl_model.specs.EglFacts.{egl_refusal};
-ghost use Rattle.egl_model.specs.GlFacts.{gl_refusal};
-ghost use Rattle.egl_model.specs.EglEffects.{egl_effect};
-ghost use Rattle.egl_model.specs.GlEffects.{gl_effect, object_effect};
+ghost use Rattle.egl_model.specs.EglCalls.{egl_refusal, egl_effect};
+ghost use Rattle.egl_model.specs.GlCalls.{gl_refusal, gl_effect, object_effect};
 ghost use Rattle.egl_model.specs.Step.{egl_step, gl_step, step, step_by, done};
 ghost use Rattle.egl_model.specs.Currents.{current_context};
 ghost use Rattle.egl_model.specs.State.{State, record_of};
@@ -55,6 +53,7 @@ fn chosen(alloc: Global, call: &Call) -> Result<Numbers, NoMemory>
 
 impl Driver {
     /// Does a call of EGL that no rule refuses and that releases nothing.
+    #[tactic(auto, using(driver_facts::proofs::Allowed::initialize_display, driver_facts::proofs::Allowed::choice_list, driver_facts::proofs::Allowed::window_display, driver_facts::proofs::Allowed::window_numbers, driver_facts::proofs::Allowed::window_range, driver_facts::proofs::Allowed::window_place, driver_facts::proofs::Allowed::pbuffer_display, driver_facts::proofs::Allowed::pbuffer_numbers, driver_facts::proofs::Allowed::pbuffer_range, driver_facts::proofs::Allowed::context_display, driver_facts::proofs::Allowed::context_numbers, driver_facts::proofs::Allowed::context_range, model_laws::proofs::NewSyncLaws::sync_display, model_laws::proofs::NewSyncLaws::sync_current, model_laws::proofs::NewSyncLaws::sync_numbers, driver_facts::proofs::ImageLaws::image_display, driver_facts::proofs::ImageLaws::image_numbers, driver_facts::proofs::ImageLaws::image_source))]
     fn egl_effect_keeping_holds<R: Replies>(
         &mut self,
         alloc: Global,
@@ -122,13 +121,12 @@ impl Driver {
             }
             EglKind::GetSyncAttrib => Ok(valued(alloc, self.tables.sync_value(call).unwrap_or(0))),
             EglKind::CreateImage => Ok(valued(alloc, self.create_image(call)?)),
-            EglKind::Terminate | EglKind::MakeCurrent | EglKind::ReleaseThread => unreachable!(),
-            EglKind::DestroySurface | EglKind::DestroyContext => unreachable!(),
-            EglKind::DestroySync | EglKind::DestroyImage => unreachable!(),
+            _ => unreachable!(),
         }
     }
 
     /// Does a call of EGL that no rule refuses. What nothing reaches any more is gone then.
+    #[tactic(auto, using(driver_facts::proofs::Allowed::terminate_display))]
     fn egl_effect<L: Ledger, R: Replies>(
         &mut self,
         alloc: Global,

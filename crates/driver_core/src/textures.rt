@@ -3,7 +3,7 @@ ghost use Rattle.std.specs.Prelude.{◌≡◌, ◌<◌, length, None, Some, OnEr
 ghost use Rattle.egl_calls.specs.declared.kinds.Kind.TheVariants.{Gl as GlCall};
 ghost use Rattle.egl_calls.specs.declared.kinds.GlKind.TheVariants.{TexImage2d, TexParameteriv, TexSubImage2d};
 ghost use Rattle.egl_model.specs.Arguments.{number};
-ghost use Rattle.egl_model.specs.GlFacts.{gl_refusal};
+ghost use Rattle.egl_model.specs.GlCalls.{gl_refusal};
 ghost use Rattle.egl_model.specs.Sweep.{sweep};
 ghost use Rattle.egl_model.specs.Textures.{level_of, level_storage, new_level, rewritten_part, set_crop, set_parameter, specified, target_texture, unpack_alignment};
 ghost use Rattle.driver_core.specs.Costs.{IsCheap};

@@ -2,7 +2,7 @@
 ghost use Rattle.std.specs.Prelude.{◌≡◌, ◌<◌, true, false, Some, IfOk, IsOk, OnOk, OnErr, slice_index_or};
 ghost use Rattle.egl_calls.specs.declared.kinds.Kind.TheVariants.{Gl as GlCall};
 ghost use Rattle.egl_model.specs.Currents.{current_context};
-ghost use Rattle.egl_model.specs.GlEffects.{gl_effect};
+ghost use Rattle.egl_model.specs.GlCalls.{gl_effect};
 ghost use Rattle.egl_model.specs.Parts.{part_of};
 ghost use Rattle.egl_model.specs.State.{State};
 ghost use Rattle.egl_model.specs.Step.{done, gl_step, step};

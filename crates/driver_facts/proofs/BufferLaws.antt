@@ -10,7 +10,7 @@ use Rattle.call_rules.proofs.GlLaws.{buffer_part_allowed, read_buffer_allowed}
 use Rattle.buffer_objects.specs.Buffers.{BufferValue}
 use Rattle.egl_model.specs.Arguments.{number}
 use Rattle.egl_model.specs.Buffers.{target_buffer}
-use Rattle.egl_model.specs.GlFacts.{bound_facts, buffer_facts, gl_refusal}
+use Rattle.egl_model.specs.GlCalls.{bound_facts, buffer_facts, gl_refusal}
 use Rattle.egl_model.specs.Objects.{buffer_in}
 use Rattle.egl_model.specs.OwnCalls.{buffer_refusal}
 use Rattle.egl_model.specs.State.{State}

@@ -14,7 +14,7 @@ use Rattle.pixel_rows.specs.Rects.{IsInSide, IsInside}
 use Rattle.rect_pipeline.specs.Copying.{moved}
 use Rattle.driver_objects.specs.Storages.{IsCopiedSide, StorageValue}
 use Rattle.egl_model.specs.Copies.{copied_part_rect}
-use Rattle.egl_model.specs.GlFacts.{copy_facts, copy_part_facts, gl_refusal, stored_facts}
+use Rattle.egl_model.specs.GlCalls.{copy_facts, copy_part_facts, gl_refusal, stored_facts}
 use Rattle.egl_model.specs.Objects.{storage_in}
 use Rattle.egl_model.specs.State.{State}
 use Rattle.egl_model.specs.Textures.{level_of, level_storage}

@@ -17,8 +17,8 @@ use Rattle.driver_objects.specs.Storages.{StorageValue}
 use Rattle.driver_objects.specs.declared.objects.Object.{Object}
 use Rattle.driver_objects.specs.declared.objects.Object.TheVariants.{Context, Group, Texture, Buffer, Renderbuffer, Framebuffer, Surface, Storage, Image, Sync}
 use Rattle.egl_model.specs.Displays.{is_display}
-use Rattle.egl_model.specs.EglFacts.{egl_facts, egl_refusal}
-use Rattle.egl_model.specs.GlFacts.{gl_refusal, renderbuffer_image_facts}
+use Rattle.egl_model.specs.EglCalls.{egl_facts, egl_refusal}
+use Rattle.egl_model.specs.GlCalls.{gl_refusal, renderbuffer_image_facts}
 use Rattle.egl_model.specs.Images.{has_pixels, image_storage, is_renderable, level_pixels, source_storage, target_image}
 use Rattle.egl_model.specs.Links.{rank_in}
 use Rattle.egl_model.specs.Objects.{as_egl_image, as_storage, change_renderbuffer, egl_image_in, storage_in, with_renderbuffer}

@@ -24,11 +24,9 @@ use Rattle.share_group.specs.declared.names.NameKind.{NameKind}
 use Rattle.driver_objects.specs.Objects.{filled}
 use Rattle.driver_objects.specs.declared.textures.BackedTexture.{BackedTexture}
 use Rattle.egl_model.specs.Currents.{current_context}
-use Rattle.egl_model.specs.EglEffects.{egl_effect}
-use Rattle.egl_model.specs.EglFacts.{egl_refusal}
+use Rattle.egl_model.specs.EglCalls.{egl_effect, egl_refusal}
 use Rattle.egl_model.specs.Effects.{outcome_of}
-use Rattle.egl_model.specs.GlEffects.{effect_by, gl_effect, object_effect}
-use Rattle.egl_model.specs.GlFacts.{gl_refusal}
+use Rattle.egl_model.specs.GlCalls.{effect_by, gl_effect, object_effect, gl_refusal}
 use Rattle.egl_model.specs.Names.{group_of, object_named}
 use Rattle.egl_model.specs.Objects.{framebuffer_in, texture_in}
 use Rattle.egl_model.specs.OwnCalls.{buffer_effect, buffer_refusal}

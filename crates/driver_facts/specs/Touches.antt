@@ -10,10 +10,13 @@ use Rattle.egl_calls.specs.declared.kinds.Kind.TheVariants.{Egl, Gl, Own}
 use Rattle.egl_calls.specs.declared.kinds.EglKind.{EglKind}
 use Rattle.egl_calls.specs.declared.kinds.EglKind.TheVariants.{SwapBuffers}
 use Rattle.egl_calls.specs.declared.kinds.GlKind.{GlKind}
-use Rattle.egl_calls.specs.declared.kinds.GlKind.TheVariants.{Flush, Finish, Clear, ReadPixels, DrawTexi, DrawTexx, GenTextures, DeleteTextures, IsTexture, BindTexture, TexParameterx, TexParameteriv, TexImage2d, TexSubImage2d, CopyTexImage2d, CopyTexSubImage2d, GenBuffers, DeleteBuffers, IsBuffer, BindBuffer, BufferData, BufferSubData, GetBufferParameteriv, GenRenderbuffers, DeleteRenderbuffers, IsRenderbuffer, BindRenderbuffer, RenderbufferStorage, GetRenderbufferParameteriv, GenFramebuffers, DeleteFramebuffers, IsFramebuffer, BindFramebuffer, FramebufferTexture2d, FramebufferRenderbuffer, CheckFramebufferStatus, GetFramebufferAttachmentParameteriv, ImageTargetTexture2d, ImageTargetRenderbufferStorage}
+use Rattle.egl_calls.specs.declared.kinds.GlKind.TheVariants.{Clear, ReadPixels, DrawTexi, DrawTexx, GenTextures, DeleteTextures, IsTexture, BindTexture, TexParameterx, TexParameteriv, TexImage2d, TexSubImage2d, CopyTexImage2d, CopyTexSubImage2d, GenBuffers, DeleteBuffers, IsBuffer, BindBuffer, BufferData, BufferSubData, GetBufferParameteriv, GenRenderbuffers, DeleteRenderbuffers, IsRenderbuffer, BindRenderbuffer, RenderbufferStorage, GetRenderbufferParameteriv, GenFramebuffers, DeleteFramebuffers, IsFramebuffer, BindFramebuffer, FramebufferTexture2d, FramebufferRenderbuffer, CheckFramebufferStatus, GetFramebufferAttachmentParameteriv, ImageTargetTexture2d, ImageTargetRenderbufferStorage}
 use Rattle.egl_calls.specs.declared.kinds.OwnKind.{OwnKind}
 use Rattle.egl_calls.specs.declared.kinds.OwnKind.TheVariants.{ReadBuffer, ReadFront}
 use Rattle.egl_calls.specs.declared.places.TheConstants.{FRONT}
+use Rattle.call_table.specs.Rows.{gl_role}
+use Rattle.call_table.specs.declared.roles.Role.{Role}
+use Rattle.call_table.specs.declared.roles.Role.TheVariants.{Flushes}
 use Rattle.context_state.specs.Kinds.{context_gl_call}
 use Rattle.context_state.specs.Parts.{PartValue}
 use Rattle.context_state.specs.declared.kinds.ContextCall.{ContextCall}
@@ -43,6 +46,11 @@ nothing = record { reads = []; writes = [] }
 -- what a call touches that the table hasn't: nothing can be proved of it, so no code can be proved to answer it
 pub unlisted : Touches
 unlisted = nothing
+
+-- a flush touches no object, so that it needs no line in the table
+abbrev pub touches_by_role : Role → Touches
+touches_by_role Flushes = nothing
+touches_by_role r = unlisted
 
 abbrev pub reading : List ℤ → Touches
 reading xs = record { reads = xs; writes = [] }
@@ -158,9 +166,7 @@ object_touches s t n DeleteTextures c = deletion_touches s n textures c.list
 object_touches s t n DeleteBuffers c = deletion_touches s n buffers c.list
 object_touches s t n DeleteRenderbuffers c = deletion_touches s n renderbuffers c.list
 object_touches s t n DeleteFramebuffers c = deletion_touches s n framebuffers c.list
--- nothing but names, and what the context has flushed
-object_touches s t n Flush c = nothing
-object_touches s t n Finish c = nothing
+-- nothing but names
 object_touches s t n GenTextures c = nothing
 object_touches s t n IsTexture c = nothing
 object_touches s t n BindTexture c = nothing
@@ -176,7 +182,7 @@ object_touches s t n BindFramebuffer c = nothing
 -- what is asked of a framebuffer isn't counted
 object_touches s t n CheckFramebufferStatus c = nothing
 object_touches s t n GetFramebufferAttachmentParameteriv c = nothing
-object_touches s t n k c = unlisted
+object_touches s t n k c = touches_by_role (gl_role k)
 
 -- a call of its context's own state touches nothing else
 abbrev pub touches_by_class : Option ContextCall → State → ℕ → ℕ → GlKind → CallValue → Touches

@@ -10,8 +10,8 @@ use Rattle.refusal_rows.specs.declared.rows.Holding.{Holding}
 use Rattle.call_rules.specs.EglRules.{egl_rows_by}
 use Rattle.call_rules.specs.GlRules.{gl_rows_by}
 use Rattle.egl_model.specs.Currents.{current_context}
-use Rattle.egl_model.specs.EglFacts.{egl_facts}
-use Rattle.egl_model.specs.GlFacts.{buffer_facts, gl_facts}
+use Rattle.egl_model.specs.EglCalls.{egl_facts}
+use Rattle.egl_model.specs.GlCalls.{buffer_facts, gl_facts}
 use Rattle.egl_model.specs.State.{State, record_of}
 use Rattle.driver_facts.specs.declared.verdicts.Refusals.{Refusals}
 use Rattle.driver_facts.specs.declared.verdicts.Refusals.TheVariants.{Egl as EglRows, Gl as GlRows, Unjudged}

@@ -4,7 +4,7 @@ ghost use Rattle.std.specs.Option.{option_map};
 ghost use Rattle.egl_calls.specs.declared.kinds.Kind.TheVariants.{Gl as GlCall};
 ghost use Rattle.egl_calls.specs.declared.kinds.GlKind.TheVariants.{CopyTexImage2d};
 ghost use Rattle.egl_model.specs.Copies.{copied_bytes, copied_level, read_image};
-ghost use Rattle.egl_model.specs.GlFacts.{copy_facts, copy_part_facts, gl_refusal, has_read_alpha, has_stored_alpha};
+ghost use Rattle.egl_model.specs.GlCalls.{copy_facts, copy_part_facts, gl_refusal, has_read_alpha, has_stored_alpha};
 ghost use Rattle.egl_model.specs.Objects.{storage_in};
 ghost use Rattle.driver_facts.specs.Tables.{state_in};
 

@@ -4,7 +4,7 @@ ghost use Rattle.std.specs.Option.{option_and_then, option_map_or};
 ghost use Rattle.egl_calls.specs.Ranges.{IsNumber, is_client_wait};
 ghost use Rattle.egl_model.specs.Currents.{current_context, part_of_context};
 ghost use Rattle.egl_model.specs.Framebuffers.{attached, attached_as, attached_type, attachment_of, attachment_parameter, bound_framebuffer, called_point, color_part_in, color_storage, framebuffer_name, framebuffer_of, given_attachment, is_complete, object_framebuffer, part_in, status_in, stored_part, target_framebuffer, window_framebuffer, window_status};
-ghost use Rattle.egl_model.specs.GlFacts.{attach_facts, attachment_facts, bound_framebuffer_facts};
+ghost use Rattle.egl_model.specs.GlCalls.{attach_facts, attachment_facts, bound_framebuffer_facts};
 ghost use Rattle.egl_model.specs.Objects.{storage_in};
 ghost use Rattle.egl_model.specs.State.{object_at};
 ghost use Rattle.egl_names.specs.declared.codes.TheConstants.{GL_FRAMEBUFFER_COMPLETE_OES as COMPLETE};

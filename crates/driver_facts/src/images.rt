@@ -4,7 +4,7 @@ ghost use Rattle.std.specs.Option.{option_and_then};
 ghost use Rattle.display_table.specs.declared.handles.HandleKind.TheVariants.{Context as a_context};
 ghost use Rattle.egl_calls.specs.Ranges.{is_client_wait, unsigned};
 ghost use Rattle.egl_model.specs.Arguments.{number};
-ghost use Rattle.egl_model.specs.GlFacts.{renderbuffer_image_facts, target_image_facts};
+ghost use Rattle.egl_model.specs.GlCalls.{renderbuffer_image_facts, target_image_facts};
 ghost use Rattle.egl_model.specs.Handles.{handle_at};
 ghost use Rattle.egl_model.specs.Images.{asked_level, has_pixels, image_facts, image_storage, is_incomplete_in, is_renderable, is_sibling, is_source_in, level_pixels, new_image_facts, source_kind, target_handle, target_image, with_pixels_in};
 ghost use Rattle.egl_model.specs.Names.{group_of, object_named};

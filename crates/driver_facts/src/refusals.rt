@@ -3,8 +3,8 @@ ghost use Rattle.std.specs.Prelude.{◌≡◌, ◌<◌, None};
 ghost use Rattle.context_state.specs.Kinds.{context_gl_call};
 ghost use Rattle.egl_calls.specs.declared.kinds.Kind.TheVariants.{Egl as EglCall, Gl as GlCall};
 ghost use Rattle.egl_model.specs.Framebuffers.{bound_framebuffer, is_complete};
-ghost use Rattle.egl_model.specs.EglFacts.{egl_facts, egl_refusal};
-ghost use Rattle.egl_model.specs.GlFacts.{framebuffer_facts, gl_facts, gl_refusal, image_facts, object_facts, part_facts};
+ghost use Rattle.egl_model.specs.EglCalls.{egl_facts, egl_refusal};
+ghost use Rattle.egl_model.specs.GlCalls.{framebuffer_facts, gl_facts, gl_refusal, image_facts, object_facts, part_facts};
 ghost use Rattle.egl_model.specs.Textures.{image_bytes};
 ghost use Rattle.driver_facts.specs.Tables.{KnowsRoots, state_in};
 
@@ -81,7 +81,7 @@ impl Tables {
     }
 
     /// The error of the first row that holds.
-    #[tactic(auto, unfolding(egl_model::specs::EglFacts::egl_refusal))]
+    #[tactic(auto, unfolding(egl_model::specs::EglCalls::egl_refusal))]
     pub fn egl_refusal(&self, thread: u32, kind: EglKind, call: &Call) -> Option<EglError>
         requires made { thread < self.now.threads.made }
         requires kind { call.now.kind ≡ EglCall kind }
@@ -181,7 +181,7 @@ impl Tables {
     }
 
     /// The error of the first row that holds.
-    #[tactic(auto, unfolding(egl_model::specs::GlFacts::gl_refusal))]
+    #[tactic(auto, unfolding(egl_model::specs::GlCalls::gl_refusal))]
     pub fn gl_refusal(
         &self,
         thread: u32,

@@ -2,7 +2,7 @@
 ghost use Rattle.std.specs.Prelude.{◌≡◌, None, Some, option_copied};
 ghost use Rattle.egl_calls.specs.Ranges.{IsNumber};
 ghost use Rattle.egl_model.specs.Arguments.{number};
-ghost use Rattle.egl_model.specs.GlFacts.{renderbuffer_facts, storage_facts};
+ghost use Rattle.egl_model.specs.GlCalls.{renderbuffer_facts, storage_facts};
 ghost use Rattle.egl_model.specs.Renderbuffers.{renderbuffer_bytes, renderbuffer_of, renderbuffer_parameter, side_of, target_renderbuffer};
 ghost use Rattle.driver_facts.specs.Tables.{state_in};
 

@@ -1,28 +1,41 @@
 -- The first row that holds decides.
-use Rattle.std.proofs.Common.{◌≡◌, ℕ, zero, suc, ◌≤◌, Bool, true, false, cond, List, [], ◌∷◌, length, Option, None, Some, is_some, if◌then◌else◌, refl, ap, arith, ◌∙◌}
+use Rattle.std.proofs.Common.{◌≡◌, ℕ, zero, suc, ◌≤◌, Bool, true, false, cond, List, [], ◌∷◌, length, Option, None, Some, is_some, if◌then◌else◌, refl, ap, arith, ◌∙◌, map, slice_index_or}
+use Rattle.std.specs.Prelude.{nat_lt}
+use Rattle.std.specs.List.{list_all}
 use Rattle.std.specs.Option.{option_map}
+use Rattle.std.proofs.lemmas.Bool.{and_parts, ltb-true}
+use Rattle.std.proofs.lemmas.List.{length-map}
+use denote.Enum.Declared.{tag_of}
 use Rattle.egl_calls.specs.Calls.{CallValue}
 use Rattle.egl_calls.specs.declared.kinds.Kind.{Kind}
 use Rattle.egl_calls.specs.declared.kinds.Kind.TheVariants.{Egl, Gl, Own}
 use Rattle.egl_calls.specs.declared.kinds.EglKind.{EglKind}
-use Rattle.egl_calls.specs.declared.kinds.EglKind.TheVariants.{MakeCurrent}
 use Rattle.egl_calls.specs.declared.kinds.GlKind.{GlKind}
-use Rattle.egl_calls.specs.declared.kinds.GlKind.TheVariants.{Flush}
+use Rattle.egl_calls.specs.declared.kinds.OwnKind.{OwnKind}
 use Rattle.egl_calls.specs.declared.kinds.OwnKind.TheVariants.{Post, Await, Census, ReadFront, ReadBuffer, WaitEnd, Halt}
+use Rattle.egl_calls.specs.contracts.kinds.EglKind as egl_kinds
+use Rattle.egl_calls.specs.contracts.kinds.GlKind as gl_kinds
+use Rattle.egl_calls.specs.contracts.kinds.OwnKind as own_kinds
 use Rattle.egl_calls.specs.declared.errors.EglError.{EglError}
 use Rattle.egl_calls.specs.declared.errors.GlError.{GlError}
 use Rattle.egl_calls.specs.declared.errors.Outcome.TheVariants.{Done, Waiting, Egl as RefusedEgl, Gl as RefusedGl}
-use Rattle.refusal_rows.specs.Rows.{Row, first_error, held}
-use Rattle.call_rules.specs.EglRules.{current_rows, display_row, egl_rows, egl_rows_by, is_release, egl_refusal as egl_first}
-use Rattle.call_rules.specs.GlRules.{gl_rows, gl_rows_by, gl_refusal as gl_first}
+use Rattle.refusal_rows.specs.Rows.{Row, first_error, held, row_of}
+use Rattle.call_table.specs.Rows.{egl_role, egl_rules, gl_rules, own_rules}
+use Rattle.call_table.specs.declared.egl_table.TheConstants.{EGL_CALLS}
+use Rattle.call_table.specs.declared.gl_table.TheConstants.{GL_CALLS}
+use Rattle.call_table.specs.declared.own_table.TheConstants.{OWN_CALLS}
+use Rattle.context_state.specs.Kinds.{context_gl_call}
+use Rattle.context_state.specs.Refusals.{context_rows}
+use Rattle.context_state.specs.declared.kinds.ContextCall.{ContextCall}
+use Rattle.context_state.specs.declared.kinds.ContextCall.TheVariants.{GetError}
+use Rattle.call_rules.specs.EglRules.{display_row, egl_holds, egl_rows, egl_rows_by, is_release_by, egl_refusal as egl_first}
+use Rattle.call_rules.specs.GlRules.{gl_holds, gl_rows_by, rows_by, gl_refusal as gl_first}
 use Rattle.call_rules.specs.declared.egl_facts.EglFacts.{EglFacts}
 use Rattle.call_rules.specs.declared.gl_facts.GlFacts.{GlFacts}
 use Rattle.egl_model.specs.Currents.{current_context}
 use Rattle.egl_model.specs.Effects.{Effect}
-use Rattle.egl_model.specs.EglEffects.{egl_effect}
-use Rattle.egl_model.specs.EglFacts.{egl_facts, egl_refusal}
-use Rattle.egl_model.specs.GlEffects.{gl_effect}
-use Rattle.egl_model.specs.GlFacts.{buffer_facts, gl_facts, gl_refusal}
+use Rattle.egl_model.specs.EglCalls.{egl_effect, egl_facts, egl_refusal}
+use Rattle.egl_model.specs.GlCalls.{gl_effect, buffer_facts, gl_facts, gl_refusal}
 use Rattle.egl_model.specs.OwnCalls.{buffer_effect, buffer_refusal, own_effect}
 use Rattle.egl_model.specs.State.{State, record_of}
 use Rattle.egl_model.specs.Step.{after_egl_rules, after_gl_rules, buffer_step_on, egl_step, gl_step, gl_step_on, step, step_by, step_in, wait_step}
@@ -62,26 +75,51 @@ gl_decided : (s : State) (n : ℕ) (o : Option GlError) (f : Effect) → option_
 gl_decided s n (Some e) f = refl
 gl_decided s n None f = not_refused f.waits
 
--- ---- No table has more than sixteen rows.
-few_current : (release : Bool) (c : CallValue) (f : EglFacts) → length (if release then display_row f ∷ [] else current_rows c f) ≤ 16
-few_current true c f = omega arith
-few_current false c f = omega arith
+-- ---- No call has more than sixteen rows: that is tested of the tables, whatever stands in them.
+abbrev has_few : {A : Type 0} → List A → Bool
+has_few xs = nat_lt (length xs) 17
+
+few_at : {A : Type 0} (xss : List (List A)) (n : ℕ) → list_all has_few xss ≡ true → length (slice_index_or xss n []) ≤ 16
+few_at [] n h = omega arith
+few_at (xs ∷ xss) zero h = omega (arith, ltb-true (length xs) 17 (and_parts _ _ h).0)
+few_at (xs ∷ xss) (suc n) h = few_at xss n (and_parts _ _ h).1
+
+few_egl_rules : (k : EglKind) → length (egl_rules k) ≤ 16
+few_egl_rules k = few_at (map (λ r. r.4.now) EGL_CALLS) (tag_of egl_kinds.the_type k) refl
+
+few_gl_rules : (k : GlKind) → length (gl_rules k) ≤ 16
+few_gl_rules k = few_at (map (λ r. r.4.now) GL_CALLS) (tag_of gl_kinds.the_type k) refl
+
+few_own_rules : (k : OwnKind) → length (own_rules k) ≤ 16
+few_own_rules k = few_at (map (λ r. r.4.now) OWN_CALLS) (tag_of own_kinds.the_type k) refl
+
+-- as many rows as rules
+few_rows : {C E : Type 0} (f : C → Bool) (rules : List (C × E)) → length rules ≤ 16 → length (map (row_of f) rules) ≤ 16
+few_rows f rules h = omega (arith, length-map rules (row_of f), h)
+
+few_asked : (release : Bool) (f : EglFacts) (rows : List (Row EglError)) → length rows ≤ 16 → length (if release then display_row f ∷ [] else rows) ≤ 16
+few_asked true f rows h = omega arith
+few_asked false f rows h = h
 
 few_egl : (k : EglKind) (c : CallValue) (f : EglFacts) → length (egl_rows k c f) ≤ 16
-few_egl MakeCurrent c f = few_current (is_release c) c f
-few_egl k c f = omega arith
+few_egl k c f = few_asked (is_release_by (egl_role k) c) f (map (row_of (λ x. egl_holds x c f)) (egl_rules k)) (few_rows (λ x. egl_holds x c f) (egl_rules k) (few_egl_rules k))
 
-few_gl : (k : GlKind) (c : CallValue) (f : GlFacts) → length (gl_rows k c f) ≤ 16
-few_gl Flush c f = omega arith
-few_gl k c f = omega arith
+-- one call stands apart, so that the others are tried one by one
+few_own_state : (own : ContextCall) (c : CallValue) → length (context_rows own c) ≤ 16
+few_own_state GetError c = omega arith
+few_own_state own c = omega arith
+
+few_gl : (own : Option ContextCall) (k : GlKind) (c : CallValue) (f : GlFacts) → length (rows_by own k c f) ≤ 16
+few_gl (Some own) k c f = few_own_state own c
+few_gl None k c f = few_rows (λ x. gl_holds x c f) (gl_rules k) (few_gl_rules k)
 
 few_egl_by : (k : Kind) (c : CallValue) (f : EglFacts) → length (egl_rows_by k c f) ≤ 16
 few_egl_by (Egl k) c f = few_egl k c f
 few_egl_by k c f = omega arith
 
 few_gl_by : (k : Kind) (c : CallValue) (f : GlFacts) → length (gl_rows_by k c f) ≤ 16
-few_gl_by (Gl k) c f = few_gl k c f
-few_gl_by (Own ReadBuffer) c f = omega arith
+few_gl_by (Gl k) c f = few_gl (context_gl_call k) k c f
+few_gl_by (Own k) c f = few_rows (λ x. gl_holds x c f) (own_rules k) (few_own_rules k)
 few_gl_by k c f = omega arith
 
 -- the first error of each of these tables

@@ -1,110 +1,22 @@
-//! The calls by their names, and the words for their arguments.
+//! The words for the calls and for their arguments.
+use crate::pages::Page;
+use call_table::{EGL_CALLS, Form, GL_CALLS, OWN_CALLS};
+use egl_calls::NoMemory;
 
-/// A call: its name, and a word for each argument. In place of one with a star a variable may stand; lists stand in brackets.
+/// A call: its name, the forms of its arguments, and a word for each.
 #[derive(Clone, Copy, Drop)]
 pub struct CallWords {
     pub name: &'static str,
-    pub arguments: &'static [&'static str],
+    pub forms: &'static [Form],
+    pub words: &'static [&'static str],
 }
 
-/// A line for each call.
-macro_rules! calls {
-    ($($name:literal [$($argument:literal),*];)*) => {
-        [$(CallWords { name: $name, arguments: &[$($argument),*] }),*]
-    };
+/// An argument of a call: its form, and a word for it.
+#[derive(Clone, Copy, Drop)]
+pub struct Argument {
+    pub form: Form,
+    pub word: &'static str,
 }
-
-/// The calls that a trace may make.
-pub static CALLS: [CallWords; 88] = calls![
-    "eglGetDisplay" ["identifier"];
-    "eglInitialize" ["display*"];
-    "eglTerminate" ["display*"];
-    "eglGetError" [];
-    "eglGetConfigs" ["display*"];
-    "eglChooseConfig" ["display*", "[attributes]"];
-    "eglGetConfigAttrib" ["display*", "config", "attribute"];
-    "eglCreateWindowSurface" ["display*", "config", "window", "[attributes]"];
-    "eglCreatePbufferSurface" ["display*", "config", "[attributes]"];
-    "eglDestroySurface" ["display*", "surface*"];
-    "eglQuerySurface" ["display*", "surface*", "attribute"];
-    "eglSurfaceAttrib" ["display*", "surface*", "attribute", "value"];
-    "eglBindAPI" ["api"];
-    "eglQueryAPI" [];
-    "eglCreateContext" ["display*", "config", "share*", "[attributes]"];
-    "eglDestroyContext" ["display*", "context*"];
-    "eglMakeCurrent" ["display*", "draw*", "read*", "context*"];
-    "eglGetCurrentContext" [];
-    "eglGetCurrentSurface" ["which"];
-    "eglGetCurrentDisplay" [];
-    "eglQueryContext" ["display*", "context*", "attribute"];
-    "eglSwapBuffers" ["display*", "surface*"];
-    "eglWaitClient" [];
-    "eglReleaseThread" [];
-    "eglCreateSync" ["display*", "type", "[attributes]"];
-    "eglDestroySync" ["display*", "sync*"];
-    "eglClientWaitSync" ["display*", "sync*", "flags", "timeout"];
-    "eglWaitSync" ["display*", "sync*", "flags"];
-    "eglGetSyncAttrib" ["display*", "sync*", "attribute"];
-    "eglCreateImage" ["display*", "context*", "target", "buffer*", "[attributes]"];
-    "eglDestroyImage" ["display*", "image*"];
-    "glGetError" [];
-    "glFlush" [];
-    "glFinish" [];
-    "glClearColorx" ["red", "green", "blue", "alpha"];
-    "glClear" ["mask"];
-    "glDrawTexiOES" ["x", "y", "z", "width", "height"];
-    "glDrawTexxOES" ["x", "y", "z", "width", "height"];
-    "glReadPixels" ["x", "y", "width", "height", "format", "type"];
-    "glEnable" ["name"];
-    "glDisable" ["name"];
-    "glScissor" ["left", "bottom", "width", "height"];
-    "glViewport" ["left", "bottom", "width", "height"];
-    "glColor4x" ["red", "green", "blue", "alpha"];
-    "glColorMask" ["red", "green", "blue", "alpha"];
-    "glClearDepthx" ["number"];
-    "glClearStencil" ["number"];
-    "glTexEnvx" ["target", "name", "value"];
-    "glPixelStorei" ["name", "alignment"];
-    "glGetIntegerv" ["name", "index"];
-    "glGenTextures" ["count"];
-    "glDeleteTextures" ["[names*]"];
-    "glIsTexture" ["name*"];
-    "glBindTexture" ["target", "name*"];
-    "glTexParameterx" ["target", "parameter", "value"];
-    "glTexParameteriv" ["target", "parameter", "[numbers]"];
-    "glTexImage2D" ["target", "level", "internalformat", "width", "height", "border", "format", "type", "payload"];
-    "glTexSubImage2D" ["target", "level", "x", "y", "width", "height", "format", "type", "payload"];
-    "glCopyTexImage2D" ["target", "level", "internalformat", "x", "y", "width", "height", "border"];
-    "glCopyTexSubImage2D" ["target", "level", "xoffset", "yoffset", "x", "y", "width", "height"];
-    "glGenBuffers" ["count"];
-    "glDeleteBuffers" ["[names*]"];
-    "glIsBuffer" ["name*"];
-    "glBindBuffer" ["target", "name*"];
-    "glBufferData" ["target", "size", "usage", "payload"];
-    "glBufferSubData" ["target", "offset", "size", "payload"];
-    "glGetBufferParameteriv" ["target", "parameter"];
-    "glGenRenderbuffersOES" ["count"];
-    "glDeleteRenderbuffersOES" ["[names*]"];
-    "glIsRenderbufferOES" ["name*"];
-    "glBindRenderbufferOES" ["target", "name*"];
-    "glRenderbufferStorageOES" ["target", "internalformat", "width", "height"];
-    "glGetRenderbufferParameterivOES" ["target", "parameter"];
-    "glGenFramebuffersOES" ["count"];
-    "glDeleteFramebuffersOES" ["[names*]"];
-    "glIsFramebufferOES" ["name*"];
-    "glBindFramebufferOES" ["target", "name*"];
-    "glFramebufferTexture2DOES" ["target", "attachment", "textarget", "texture*", "level"];
-    "glFramebufferRenderbufferOES" ["target", "attachment", "renderbuffertarget", "renderbuffer*"];
-    "glCheckFramebufferStatusOES" ["target"];
-    "glGetFramebufferAttachmentParameterivOES" ["target", "attachment", "parameter"];
-    "glEGLImageTargetTexture2DOES" ["target", "image*"];
-    "glEGLImageTargetRenderbufferStorageOES" ["target", "image*"];
-    "post" ["N"];
-    "await" ["N"];
-    "census" [];
-    "readFront" ["window"];
-    "readBuffer" ["target", "offset", "size"];
-];
 
 /// The words that stand for a number and have no code.
 pub static NUMBER_WORDS: [&str; 25] = [
@@ -135,11 +47,41 @@ pub static NUMBER_WORDS: [&str; 25] = [
     "GL_STENCIL_BUFFER_BIT",
 ];
 
+/// What stands before and behind the word for an argument: in place of one with a star a variable may stand; lists stand in brackets.
+fn marks(form: Form) -> (&'static str, &'static str) {
+    match form {
+        Form::NumberOrVariable => ("", "*"),
+        Form::AttributeList | Form::NumberList => ("[", "]"),
+        Form::NameList => ("[", "*]"),
+        Form::Number | Form::PostNumber | Form::Timeout | Form::Payload => ("", ""),
+    }
+}
+
+impl Argument {
+    /// Puts the word, with the marks of its form.
+    pub fn put(self, page: &mut Page) -> Result<(), NoMemory> {
+        let (before, behind) = marks(self.form);
+        page.put(before)?;
+        page.put(self.word)?;
+        page.put(behind)
+    }
+}
+
 /// The call that a word names.
 pub fn call_of(word: &[u8]) -> Option<CallWords> {
-    'each: for call in CALLS.iter() {
-        if call.name.as_bytes() == word {
-            return Some(*call);
+    'egl: for (name, _, forms, words, _, _) in EGL_CALLS.iter() {
+        if name.as_bytes() == word {
+            return Some(CallWords { name, forms, words });
+        }
+    }
+    'gl: for (name, _, forms, words, _, _) in GL_CALLS.iter() {
+        if name.as_bytes() == word {
+            return Some(CallWords { name, forms, words });
+        }
+    }
+    'own: for (name, _, forms, words, _) in OWN_CALLS.iter() {
+        if name.as_bytes() == word {
+            return Some(CallWords { name, forms, words });
         }
     }
     None

@@ -1,8 +1,8 @@
 //! What is wrong with a line of an input.
-use crate::call_words::{CallWords, call_of};
+use crate::call_words::{Argument, CallWords, call_of};
 use crate::pages::{Ink, Page};
 use crate::source_lines::{line_at, put_bar, put_line};
-use crate::suspects::{Suspect, unknown_in, wanted_line, word_at_fault};
+use crate::suspects::{Suspect, Wanted, unknown_in, wanted_line, word_at_fault};
 use egl_calls::NoMemory;
 use std::alloc::Global;
 use trace_reader::Reason;
@@ -38,12 +38,14 @@ fn put_mark(page: &mut Page, column: usize, width: usize) -> Result<(), NoMemory
     page.end_line()
 }
 
-/// A note behind a line.
-fn put_note(page: &mut Page, text: &str, more: &str) -> Result<(), NoMemory> {
+/// What should stand in the place of a word or a line.
+fn put_wanted(page: &mut Page, wanted: Wanted) -> Result<(), NoMemory> {
     put_bar(page)?;
-    page.put("  ")?;
-    page.put(text)?;
-    page.put(more)?;
+    page.put("  expected here: ")?;
+    match wanted {
+        Wanted::Argument(argument) => argument.put(page)?,
+        Wanted::Other(text) => page.put(text)?,
+    }
     page.end_line()
 }
 
@@ -52,9 +54,9 @@ fn put_call(page: &mut Page, call: CallWords) -> Result<(), NoMemory> {
     put_bar(page)?;
     page.put("  the call is: ")?;
     page.put(call.name)?;
-    'each: for argument in call.arguments.iter() {
+    'each: for (form, word) in call.forms.iter().zip(call.words) {
         page.put(" ")?;
-        page.put(argument)?;
+        Argument { form: *form, word }.put(page)?;
     }
     page.end_line()
 }
@@ -92,7 +94,7 @@ fn put_suspect(
         column_of(line, found.word),
         word_at(words, found.word).len(),
     )?;
-    put_note(page, "expected here: ", found.wanted)?;
+    put_wanted(page, found.wanted)?;
     if let Some(nearest) = found.nearest {
         put_bar(page)?;
         page.put("  ")?;
@@ -149,7 +151,7 @@ fn put_words(
     let before = lines_before(lines, number);
     match word_at_fault(alloc, lines, before, words, reason)? {
         Some(found) => put_suspect(page, line_at(lines, number), words, found)?,
-        None => put_note(page, "expected here: ", wanted_line(reason))?,
+        None => put_wanted(page, Wanted::Other(wanted_line(reason)))?,
     }
     put_called(page, words, reason)
 }

@@ -1,11 +1,11 @@
 //! What came of a call, and why it was refused.
 use crate::pages::{Ink, Page};
+use crate::row_words::row_words;
 use crate::source_lines::put_bar;
 use driver_core::Refusals;
 use egl_calls::{EglKind, Kind, NoMemory, Outcome, OwnKind, Reply};
 use egl_names::name_of;
 use refusal_rows::MOST_ROWS;
-use refusal_words::row_words;
 
 /// The code of the error of each row that holds, at the row's place.
 fn codes_of(refusals: &Refusals) -> [Option<u32>; MOST_ROWS] {
@@ -39,12 +39,7 @@ fn error_name(code: u32) -> &'static str {
 }
 
 /// A row that holds: its error, and its condition in words. The row that decides is marked.
-fn put_row(
-    page: &mut Page,
-    decides: bool,
-    code: u32,
-    words: Option<&&str>,
-) -> Result<(), NoMemory> {
+fn put_row(page: &mut Page, decides: bool, code: u32, words: Option<&str>) -> Result<(), NoMemory> {
     put_bar(page)?;
     if decides {
         page.begin(Ink::Fault)?;
@@ -64,11 +59,10 @@ fn put_row(
 
 /// Each row that holds, of which the first decides.
 fn put_rows(page: &mut Page, kind: Kind, codes: &[Option<u32>]) -> Result<(), NoMemory> {
-    let words = row_words(kind);
     let mut decides = true;
     'rows: for (place, code) in codes.iter().enumerate() {
         if let Some(code) = code {
-            put_row(page, decides, *code, words.get(place))?;
+            put_row(page, decides, *code, row_words(kind, place))?;
             decides = false;
         }
     }

@@ -1,6 +1,6 @@
 //! Tells people about a trace: why its calls are refused, what is left of its objects and what leads to it, what is wrong with a line, and where a recording differs.
 //!
-//! Its tests are in `explain_check`.
+//! Its tests are the texts of `explain_rows`.
 #![tactic(auto)]
 
 mod call_words;
@@ -16,10 +16,10 @@ mod objects;
 mod pages;
 mod process;
 mod references;
+mod row_words;
 mod source_lines;
 mod suspects;
 
-pub use call_words::{CALLS, CallWords};
 pub use explaining::{Ending, Explained, explain};
 pub use judging::{Told, play_told};
 pub use pages::Look;

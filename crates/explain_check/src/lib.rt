@@ -1,7 +1,5 @@
-//! Tests of what tells people about a trace: the words of the tables, and those of the calls. All of it is tests.
+//! Tests of the table of calls: the forms of arguments, held against the reader. All of it is tests.
 #![tactic(auto)]
 
 #[cfg(test)]
-mod call_words;
-#[cfg(test)]
-mod row_words;
+mod call_forms;

@@ -15,7 +15,7 @@ use Rattle.driver_objects.specs.declared.objects.Object.{Object}
 use Rattle.driver_objects.specs.declared.objects.Object.TheVariants.{Buffer, Context, Storage}
 use Rattle.egl_model.specs.Arguments.{number}
 use Rattle.egl_model.specs.Buffers.{buffer_of, set_data, set_part_of, target_buffer, target_slot, with_data, with_part_of}
-use Rattle.egl_model.specs.GlFacts.{data_facts, gl_refusal}
+use Rattle.egl_model.specs.GlCalls.{data_facts, gl_refusal}
 use Rattle.egl_model.specs.Graph.{is_in}
 use Rattle.egl_model.specs.Objects.{as_buffer, buffer_in, change_buffer, with_buffer}
 use Rattle.egl_model.specs.Parts.{put_own, set_image, set_part}

@@ -6,7 +6,7 @@ use Rattle.egl_calls.specs.declared.errors.GlError.TheVariants.{OutOfMemory}
 use Rattle.call_rules.specs.GlAllowed.{DataAsked}
 use Rattle.call_rules.proofs.GlLaws.{data_wants, wanting_data}
 use Rattle.egl_model.specs.Currents.{current_context}
-use Rattle.egl_model.specs.GlFacts.{data_facts, gl_refusal}
+use Rattle.egl_model.specs.GlCalls.{data_facts, gl_refusal}
 use Rattle.egl_model.specs.State.{State}
 use Rattle.model_laws.specs.Laws.{IsGlCall}
 use Rattle.model_laws.specs.Wants.{AnswersGl, WantsData}

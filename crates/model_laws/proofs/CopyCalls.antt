@@ -17,7 +17,7 @@ use Rattle.driver_objects.specs.declared.objects.Object.TheVariants.{Context, St
 use Rattle.egl_model.specs.State.{State}
 use Rattle.egl_model.specs.Copies.{copied, copied_bytes, copied_format, copied_from, copied_level, copied_part, copied_part_from, copied_part_rect, copied_rect, copies_nothing, read_image}
 use Rattle.egl_model.specs.Framebuffers.{BoundFramebuffer, bound_framebuffer, is_complete}
-use Rattle.egl_model.specs.GlFacts.{copy_facts, copy_part_facts, gl_refusal, has_read_alpha, has_stored_alpha, part_facts}
+use Rattle.egl_model.specs.GlCalls.{copy_facts, copy_part_facts, gl_refusal, has_read_alpha, has_stored_alpha, part_facts}
 use Rattle.egl_model.specs.Objects.{as_storage, change_storage, storage_in}
 use Rattle.egl_model.specs.Parts.{put_own}
 use Rattle.egl_model.specs.Textures.{level_of, level_storage, specified, target_texture}

@@ -21,7 +21,7 @@ use Rattle.egl_model.specs.Arguments.{number}
 use Rattle.display_table.specs.Handles.{is_named_on, is_same_kind}
 use Rattle.egl_model.specs.Handles.{handle_at}
 use Rattle.egl_model.specs.MakeCurrent.{bound_anew, bound_by, context_handle, current_facts, draw_handle, made_current, read_handle}
-use Rattle.egl_model.specs.EglFacts.{egl_refusal}
+use Rattle.egl_model.specs.EglCalls.{egl_refusal}
 use Rattle.egl_model.specs.Step.{step}
 use Rattle.model_laws.specs.CurrentCalls.{HasNoneCurrent, IsBoundBy, IsMadeCurrent, IsValid}
 use Rattle.model_laws.proofs.KindSteps.{found, same_kind}

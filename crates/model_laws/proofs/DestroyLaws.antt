@@ -1,5 +1,5 @@
 -- What calls remove of handles, and what they leave.
-use Rattle.std.proofs.Common.{◌≡◌, ℕ, zero, suc, ◌<◌, Bool, true, false, cond, not, ◌==◌, List, [], ◌∷◌, Option, None, Some, length, get_or, set, is_some, refl, sym, ap, ◌∙◌, arith}
+use Rattle.std.proofs.Common.{◌≡◌, ℕ, zero, suc, ◌<◌, Bool, true, false, cond, not, ◌==◌, List, [], ◌∷◌, Option, None, Some, length, get_or, set, is_some, refl, sym, ap, subst, ◌∙◌, arith}
 use Rattle.std.specs.Prelude.{Contains}
 use Rattle.std.specs.List.{filter}
 use Rattle.std.proofs.Math.Seq.{map-set_same}
@@ -8,21 +8,20 @@ use Rattle.std.proofs.lemmas.Bool.{not-false}
 use Rattle.std.proofs.lemmas.List.Elements.{filter_passes}
 use Rattle.egl_calls.specs.Calls.{CallValue}
 use Rattle.egl_calls.specs.declared.kinds.EglKind.{EglKind}
-use Rattle.egl_calls.specs.declared.kinds.EglKind.TheVariants.{DestroySurface, DestroyContext, DestroySync, DestroyImage, ReleaseThread}
+use Rattle.egl_calls.specs.declared.kinds.EglKind.TheVariants.{GetError, ReleaseThread}
 use Rattle.egl_calls.specs.declared.errors.EglError.TheVariants.{Success}
+use Rattle.call_rules.specs.EglRules.{egl_rows}
 use Rattle.call_rules.proofs.EglLaws.{rows_off}
 use Rattle.display_table.specs.Handles.{without, without_found}
 use Rattle.display_table.specs.declared.handles.Handle.{Handle}
 use Rattle.display_table.specs.declared.handles.HandleKind.{HandleKind}
-use Rattle.display_table.specs.declared.handles.HandleKind.TheVariants.{Context as a_context, Surface as a_surface, Image as an_image, Sync as a_sync}
 use Rattle.egl_model.specs.declared.records.ClientApi.{ClientApi}
 use Rattle.egl_model.specs.declared.records.ClientApi.TheVariants.{OpenGlEs}
 use Rattle.egl_model.specs.declared.records.ThreadRecord.{ThreadRecord}
 use Rattle.egl_model.specs.State.{State, initial, record_of, set_error}
 use Rattle.egl_model.specs.Arguments.{number}
 use Rattle.egl_model.specs.Handles.{destroyed, handle_at}
-use Rattle.egl_model.specs.EglFacts.{egl_facts, egl_refusal}
-use Rattle.egl_model.specs.EglEffects.{egl_effect}
+use Rattle.egl_model.specs.EglCalls.{egl_facts, egl_refusal, egl_effect}
 use Rattle.model_laws.specs.Extents.{destroyed_handle}
 use Rattle.model_laws.specs.Laws.{IsAllowedEgl}
 use Rattle.model_laws.specs.DisplayCalls.{IsTerminated}
@@ -31,7 +30,7 @@ use Rattle.egl_model.specs.MakeCurrent.{unbound}
 use Rattle.egl_model.specs.Step.{step}
 use Rattle.model_laws.proofs.CurrentLaws.{found_valid}
 use Rattle.model_laws.proofs.DisplayLaws.{terminated_step}
-use Rattle.model_laws.proofs.RefusalLaws.{allowed_egl_state}
+use Rattle.model_laws.proofs.RefusalLaws.{allowed_egl_state, row_at, row_off}
 
 -- what passes stays
 kept_in : (p : Handle → Bool) (xs : List Handle) (h : Handle) (k : ℕ) → p h ≡ true → k < length xs → get_or xs k h ≡ h → Contains (filter p xs) h
@@ -76,13 +75,30 @@ removed : (s : State) (t : ℕ) (k : EglKind) (c : CallValue) (kind : HandleKind
 removed s t k c kind h e i =
     removes s (step s t c).state (number c 1) (ap (λ (a : State). a.handles) (allowed_egl_state s t k c h) ∙ ap (λ (a : State). a.handles) e ∙ without_named s c kind i)
 
+-- what a property says of the kind that a call destroys, if it destroys any
+abbrev Destroys : (HandleKind → Type 0) → Option HandleKind → Type 0
+Destroys P (Some kind) = P kind
+Destroys P None = true ≡ true
+
+-- Its effect, and its third row, which is off where it is given such a handle.
+-- A first call has a clause of its own, and the last clause goes by the cases that are left.
+destroying : (s : State) (t : ℕ) (k : EglKind) (c : CallValue) → Destroys (λ kind. (egl_effect s t k c).state ≡ destroyed s c kind) (destroyed_handle k)
+destroying s t GetError c = refl
+destroying s t k c = refl
+
+asking : (s : State) (t : ℕ) (k : EglKind) (c : CallValue) → Destroys (λ kind. row_at 2 (egl_rows k c (egl_facts s t k c)) ≡ not (is_some (handle_at s c 1 kind))) (destroyed_handle k)
+asking s t GetError c = refl
+asking s t k c = refl
+
+its_effect : (s : State) (t : ℕ) (k : EglKind) (c : CallValue) (kind : HandleKind) → destroyed_handle k ≡ Some kind → (egl_effect s t k c).state ≡ destroyed s c kind
+its_effect s t k c kind e = subst (Destroys (λ kind. (egl_effect s t k c).state ≡ destroyed s c kind)) e (destroying s t k c)
+
 pub handle_removed : (s : State) (t : ℕ) (k : EglKind) (c : CallValue) (kind : HandleKind) → IsAllowedEgl s t k c → destroyed_handle k ≡ Some kind → IsRemoved s (step s t c).state (number c 1)
 unfolding egl_refusal
-handle_removed s t DestroySurface c kind h e = removed s t DestroySurface c a_surface h refl (not-false _ (rows_off c (egl_facts s t DestroySurface c) DestroySurface h.call.kind h.allowed).1.1.0)
-handle_removed s t DestroyContext c kind h e = removed s t DestroyContext c a_context h refl (not-false _ (rows_off c (egl_facts s t DestroyContext c) DestroyContext h.call.kind h.allowed).1.1.0)
-handle_removed s t DestroySync c kind h e = removed s t DestroySync c a_sync h refl (not-false _ (rows_off c (egl_facts s t DestroySync c) DestroySync h.call.kind h.allowed).1.1.0)
-handle_removed s t DestroyImage c kind h e = removed s t DestroyImage c an_image h refl (not-false _ (rows_off c (egl_facts s t DestroyImage c) DestroyImage h.call.kind h.allowed).1.1.0)
-handle_removed s t k c kind h e = absurd (let f : None ≡ Some kind = e in cc)
+handle_removed s t k c kind h e =
+    let row = subst (Destroys (λ kind. row_at 2 (egl_rows k c (egl_facts s t k c)) ≡ not (is_some (handle_at s c 1 kind)))) e (asking s t k c) in
+    let off = row_off 2 (egl_rows k c (egl_facts s t k c)) (rows_off c (egl_facts s t k c) k h.call.kind h.allowed) in
+    removed s t k c kind h (its_effect s t k c kind e) (not-false _ (sym row ∙ off))
 
 -- a record changes its error alone
 but_error : {A : Type 0} (f : ThreadRecord → A) (ts : List ThreadRecord) (t u : ℕ) → ((r : ThreadRecord) → f (record r { error = Success }) ≡ f r) → f (get_or (set ts t (record (get_or ts t initial) { error = Success })) u initial) ≡ f (get_or ts u initial)
@@ -98,11 +114,9 @@ currents_stay s a t e = record {
   read = λ u. ap (λ ts. (get_or ts u initial).read) e ∙ but_error (λ r. r.read) s.threads t u (λ r. refl);
 }
 
-pub surface_currents : (s : State) (t : ℕ) (c : CallValue) → IsAllowedEgl s t DestroySurface c → KeepsCurrents s (step s t c).state
-surface_currents s t c h = currents_stay s (step s t c).state t (ap (λ (a : State). a.threads) (allowed_egl_state s t DestroySurface c h))
-
-pub context_currents : (s : State) (t : ℕ) (c : CallValue) → IsAllowedEgl s t DestroyContext c → KeepsCurrents s (step s t c).state
-context_currents s t c h = currents_stay s (step s t c).state t (ap (λ (a : State). a.threads) (allowed_egl_state s t DestroyContext c h))
+pub currents_kept : (s : State) (t : ℕ) (k : EglKind) (c : CallValue) (kind : HandleKind) → IsAllowedEgl s t k c → destroyed_handle k ≡ Some kind → KeepsCurrents s (step s t c).state
+currents_kept s t k c kind h e =
+    currents_stay s (step s t c).state t (ap (λ (a : State). a.threads) (allowed_egl_state s t k c h) ∙ ap (λ (a : State). (set_error a t Success).threads) (its_effect s t k c kind e))
 
 -- ---- A thread is released.
 one_api : (a : ClientApi) → a ≡ OpenGlEs

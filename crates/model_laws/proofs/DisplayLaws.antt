@@ -13,7 +13,7 @@ use Rattle.egl_model.specs.declared.records.ThreadRecord.{ThreadRecord}
 use Rattle.egl_model.specs.State.{State, initial, record_of, set_error}
 use Rattle.egl_model.specs.Arguments.{number}
 use Rattle.egl_model.specs.Displays.{is_display, is_initialized, set_initialized, terminated}
-use Rattle.egl_model.specs.EglFacts.{egl_facts, egl_refusal}
+use Rattle.egl_model.specs.EglCalls.{egl_facts, egl_refusal}
 use Rattle.egl_model.specs.Sweep.{sweep}
 use Rattle.egl_model.specs.Step.{Stepped, step}
 use Rattle.model_laws.specs.DisplayCalls.{IsInitialized, IsTerminated}

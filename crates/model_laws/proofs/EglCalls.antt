@@ -26,7 +26,7 @@ use Rattle.egl_model.specs.Arguments.{number}
 use Rattle.egl_model.specs.Contexts.{add_context, context_facts, context_objects, created_context, share_handle, shared_group}
 use Rattle.egl_model.specs.Displays.{is_display, set_initialized, terminated}
 use Rattle.egl_model.specs.Currents.{current_context}
-use Rattle.egl_model.specs.EglFacts.{egl_refusal}
+use Rattle.egl_model.specs.EglCalls.{egl_refusal}
 use Rattle.egl_model.specs.Flushes.{flushed}
 use Rattle.display_table.specs.Handles.{is_named_on, without_found}
 use Rattle.egl_model.specs.Handles.{destroyed, handle_at, valid, with_handle}

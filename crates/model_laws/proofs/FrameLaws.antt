@@ -7,7 +7,7 @@ use Rattle.egl_calls.specs.declared.kinds.EglKind.{EglKind}
 use Rattle.egl_calls.specs.declared.kinds.EglKind.TheVariants.{Initialize, Terminate, ClientWaitSync}
 use Rattle.model_laws.specs.Extents.{extent_of_kind, egl_extent}
 use Rattle.egl_model.specs.State.{State}
-use Rattle.egl_model.specs.EglEffects.{egl_effect}
+use Rattle.egl_model.specs.EglCalls.{egl_effect}
 
 pub turns_no_flag : (k : Kind) → k ≢ Egl Initialize → k ≢ Egl Terminate → (extent_of_kind k).flags ≡ false
 turns_no_flag (Egl Initialize) i e = absurd (i refl)

@@ -20,7 +20,7 @@ use Rattle.texture_objects.specs.Levels.{is_complete}
 use Rattle.texture_objects.specs.declared.levels.Shape.{Shape as LevelShape}
 use Rattle.egl_model.specs.Arguments.{number}
 use Rattle.egl_model.specs.Draws.{level_shapes}
-use Rattle.egl_model.specs.GlFacts.{renderbuffer_image_facts, target_image_facts}
+use Rattle.egl_model.specs.GlCalls.{renderbuffer_image_facts, target_image_facts}
 use Rattle.egl_model.specs.Graph.{is_in}
 use Rattle.egl_model.specs.Handles.{handle_at, valid, with_handle}
 use Rattle.egl_model.specs.Images.{above_base, add_image, asked_level, created_image, has_pixels, image_kind, image_storage, is_incomplete_in, is_renderable, is_sibling, is_source_in, level_pixels, levels_dropped, new_image_facts, renderbuffer_of_image, source_kind, source_object, source_storage, target_handle, target_image, texture_of_image, with_pixels_in}

@@ -14,7 +14,7 @@ use Rattle.driver_objects.specs.declared.textures.BackedTexture.{BackedTexture}
 use Rattle.egl_image.specs.declared.images.EglImage.{EglImage}
 use Rattle.framebuffer_objects.specs.Renderbuffers.{RenderbufferValue, of_kind}
 use Rattle.framebuffer_objects.specs.declared.points.Point.TheVariants.{Color}
-use Rattle.egl_model.specs.GlEffects.{gl_effect}
+use Rattle.egl_model.specs.GlCalls.{gl_effect}
 use Rattle.egl_model.specs.Images.{image_kind, levels_dropped, renderbuffer_of_image, target_image, texture_of_image}
 use Rattle.egl_model.specs.Objects.{as_renderbuffer, as_texture, change_renderbuffer, renderbuffer_in, storage_in, texture_in, with_renderbuffer}
 use Rattle.egl_model.specs.Renderbuffers.{target_renderbuffer, with_kind}

@@ -7,22 +7,11 @@ use Rattle.context_state.specs.Kinds.{context_call}
 use Rattle.context_state.specs.Parts.{PartValue}
 use Rattle.context_state.specs.Refusals.{refusal}
 use Rattle.context_state.specs.declared.kinds.ContextCall.{ContextCall}
-use Rattle.context_state.specs.declared.kinds.ContextCall.TheVariants.{GetError, Enable, Disable, Scissor, Viewport, ClearColorx, Color4x, ClearDepthx, ClearStencil, ColorMask, TexEnvx, PixelStorei, GetIntegerv}
+use Rattle.context_state.specs.declared.kinds.ContextCall.TheVariants.{GetError}
 
 changed_names : (k : ContextCall) (c : CallValue) (p : PartValue) → (changed k c p).bound ≡ p.bound
 changed_names GetError c p = refl
-changed_names Enable c p = refl
-changed_names Disable c p = refl
-changed_names Scissor c p = refl
-changed_names Viewport c p = refl
-changed_names ClearColorx c p = refl
-changed_names Color4x c p = refl
-changed_names ClearDepthx c p = refl
-changed_names ClearStencil c p = refl
-changed_names ColorMask c p = refl
-changed_names TexEnvx c p = refl
-changed_names PixelStorei c p = refl
-changed_names GetIntegerv c p = refl
+changed_names k c p = refl
 
 ruled_names : (e : Option GlError) (k : ContextCall) (c : CallValue) (p : PartValue) → (after_rules e k c p).part.bound ≡ p.bound
 ruled_names None k c p = changed_names k c p

@@ -20,7 +20,7 @@ use Rattle.egl_model.specs.Currents.{current_context, draw_storage, part_of_cont
 use Rattle.egl_model.specs.Draws.{draw_into, drawn, drawn_rect, sampler}
 use Rattle.egl_model.specs.Effects.{valued}
 use Rattle.egl_model.specs.Framebuffers.{BoundFramebuffer, bound_framebuffer, is_complete}
-use Rattle.egl_model.specs.GlFacts.{framebuffer_facts, gl_refusal}
+use Rattle.egl_model.specs.GlCalls.{framebuffer_facts, gl_refusal}
 use Rattle.egl_model.specs.Parts.{Kept, Own, Private, at_place, kept_of, own_of, part_in, part_of, own_objects, put_at, put_own}
 use Rattle.egl_model.specs.State.{State, record_of}
 use Rattle.egl_model.specs.Step.{Stepped, after_gl_rules, bare, gl_step, gl_step_on, note_error, step, step_by, step_in}

@@ -9,7 +9,7 @@ pub mod FrameLaws
 pub mod RefusalLaws
 pub mod WantLaws
 pub mod WindowUses
-pub mod WantedHandles
+pub mod WantedWindows
 pub mod WaitWords
 pub mod WaitOutcomes
 pub mod TextureLaws
@@ -30,6 +30,7 @@ pub mod DisplayLaws
 pub mod DestroyLaws
 pub mod KindSteps
 pub mod CurrentLaws
+pub mod NewSyncLaws
 pub mod NewHandleLaws
 pub mod Moves
 pub mod KeptNames

@@ -8,9 +8,9 @@ use Rattle.egl_calls.specs.Calls.{CallValue}
 use Rattle.egl_calls.specs.declared.kinds.Kind.{Kind}
 use Rattle.egl_calls.specs.declared.kinds.Kind.TheVariants.{Egl, Gl, Own as OwnCall}
 use Rattle.egl_calls.specs.declared.kinds.EglKind.{EglKind}
-use Rattle.egl_calls.specs.declared.kinds.EglKind.TheVariants.{GetError as EglGetError, GetDisplay, GetCurrentContext, BindApi, QueryApi, GetCurrentSurface, GetCurrentDisplay}
+use Rattle.egl_calls.specs.declared.kinds.EglKind.TheVariants.{GetError as EglGetError}
 use Rattle.egl_calls.specs.declared.kinds.GlKind.{GlKind}
-use Rattle.egl_calls.specs.declared.kinds.GlKind.TheVariants.{Clear, ReadPixels, DrawTexi, DrawTexx, TexImage2d, TexSubImage2d, CopyTexImage2d, CopyTexSubImage2d, BufferData, BufferSubData, GetBufferParameteriv, RenderbufferStorage, GetRenderbufferParameteriv, FramebufferTexture2d, FramebufferRenderbuffer, GetFramebufferAttachmentParameteriv, ImageTargetTexture2d, ImageTargetRenderbufferStorage}
+use Rattle.egl_calls.specs.declared.kinds.GlKind.TheVariants.{Clear, ReadPixels}
 use Rattle.egl_calls.specs.declared.errors.EglError.{EglError}
 use Rattle.egl_calls.specs.declared.errors.EglError.TheVariants.{Success}
 use Rattle.egl_calls.specs.declared.errors.GlError.{GlError}
@@ -34,11 +34,9 @@ use Rattle.egl_names.specs.declared.codes.TheConstants.{GL_FRAMEBUFFER_COMPLETE_
 use Rattle.egl_model.specs.Drawing.{clear_storage, clears_colour, read_form, read_pixels, read_rect, rows_of}
 use Rattle.egl_model.specs.Sweep.{is_reached, roots, swept, sweep}
 use Rattle.model_laws.specs.Laws.{HasNoLitter}
-use Rattle.egl_model.specs.EglFacts.{egl_facts, egl_refusal}
-use Rattle.egl_model.specs.GlFacts.{gl_refusal, framebuffer_facts}
+use Rattle.egl_model.specs.EglCalls.{egl_facts, egl_refusal, egl_effect}
+use Rattle.egl_model.specs.GlCalls.{gl_facts, gl_refusal, framebuffer_facts, effect_by, gl_effect, local_value, object_effect}
 use Rattle.egl_model.specs.Effects.{Effect, valued}
-use Rattle.egl_model.specs.EglEffects.{egl_effect}
-use Rattle.egl_model.specs.GlEffects.{effect_by, gl_effect, local_value, object_effect}
 use Rattle.egl_calls.specs.declared.errors.Outcome.TheVariants.{InWait}
 use Rattle.egl_model.specs.Waits.{is_signalled, is_wait_end}
 use Rattle.egl_model.specs.Step.{after_egl_rules, after_gl_rules, bare, wait_step, egl_step, gl_step, gl_step_on, step, step_by, step_in}
@@ -136,26 +134,14 @@ as_effect s t f = record { waits = false; value = f.value; list = f.list; bytes 
 not_local : {A : Type 0} → false ≡ true → A
 not_local h = absurd (let e : false ≡ true = h in cc)
 
--- a case for each local call of EGL
+-- a local call of EGL, and no other one
 local_facts : (s : State) (t : ℕ) (c : CallValue) (k : EglKind) → is_local_egl k ≡ true → egl_facts s t k c ≡ no_facts
 local_facts s t c EglGetError h = refl
-local_facts s t c GetDisplay h = refl
-local_facts s t c GetCurrentContext h = refl
-local_facts s t c BindApi h = refl
-local_facts s t c QueryApi h = refl
-local_facts s t c GetCurrentSurface h = refl
-local_facts s t c GetCurrentDisplay h = refl
-local_facts s t c k h = not_local h
+local_facts s t c k h = cc
 
 egl_effect-local : (s : State) (t : ℕ) (c : CallValue) (k : EglKind) → is_local_egl k ≡ true → egl_effect s t k c ≡ valued (egl_value (part_of s t) k c) s
 egl_effect-local s t c EglGetError h = refl
-egl_effect-local s t c GetDisplay h = refl
-egl_effect-local s t c GetCurrentContext h = refl
-egl_effect-local s t c BindApi h = refl
-egl_effect-local s t c QueryApi h = refl
-egl_effect-local s t c GetCurrentSurface h = refl
-egl_effect-local s t c GetCurrentDisplay h = refl
-egl_effect-local s t c k h = not_local h
+egl_effect-local s t c k h = cc
 
 by_egl_refusal : (s : State) (t : ℕ) (v : ℤ) (o : Option EglError) → IsSound s → after_egl_rules s t o (valued v s) ≡ as_step s t (egl_locally (part_of s t) o v)
 by_egl_refusal s t v (Some e) l = answered _ _ _ (error_as_put s t e)
@@ -262,28 +248,15 @@ pub record HasOwn (s : State) (t : ℕ) : Type 0 where
 pub complete-local : (s : State) (t n : ℕ) (q : PartValue) → HasOwn s t → current_context s t ≡ Some n → part_of_context s n ≡ Some q → is_unbound (Some q) ≡ true → is_complete (bound_framebuffer s t) ≡ is_some (own_of s t).draw
 complete-local s t n q o h e u = ap is_complete (bound-local s t n q h e u) ∙ window_complete (draw_storage s t) ∙ sym o.image
 
--- a call whose facts look at objects isn't local
+-- a call whose facts look at more than what is bound isn't local
+local_gl_facts : (s : State) (t n : ℕ) (q : PartValue) (c : CallValue) (k : GlKind) → HasOwn s t → current_context s t ≡ Some n → part_of_context s n ≡ Some q → (is_local_gl k || (is_local_unbound k && is_unbound (Some q))) ≡ true → gl_facts s t n k c ≡ facts_locally (part_of s t) k
+local_gl_facts s t n q c Clear o h e m = ap framebuffer_facts (complete-local s t n q o h e m)
+local_gl_facts s t n q c ReadPixels o h e m = ap framebuffer_facts (complete-local s t n q o h e m)
+local_gl_facts s t n q c k o h e m = cc
+
 local_gl_refusal : (s : State) (t n : ℕ) (q : PartValue) (c : CallValue) (k : GlKind) → HasOwn s t → current_context s t ≡ Some n → part_of_context s n ≡ Some q → (is_local_gl k || (is_local_unbound k && is_unbound (Some q))) ≡ true → gl_refusal s t n k c ≡ gl_rules.gl_refusal c (facts_locally (part_of s t) k)
 unfolding gl_refusal
-local_gl_refusal s t n q c Clear o h e m = ap (λ z. gl_rules.gl_refusal c (framebuffer_facts z)) (complete-local s t n q o h e m)
-local_gl_refusal s t n q c ReadPixels o h e m = ap (λ z. gl_rules.gl_refusal c (framebuffer_facts z)) (complete-local s t n q o h e m)
-local_gl_refusal s t n q c DrawTexi o h e m = not_local m
-local_gl_refusal s t n q c DrawTexx o h e m = not_local m
-local_gl_refusal s t n q c TexImage2d o h e m = not_local m
-local_gl_refusal s t n q c TexSubImage2d o h e m = not_local m
-local_gl_refusal s t n q c CopyTexImage2d o h e m = not_local m
-local_gl_refusal s t n q c CopyTexSubImage2d o h e m = not_local m
-local_gl_refusal s t n q c BufferData o h e m = not_local m
-local_gl_refusal s t n q c BufferSubData o h e m = not_local m
-local_gl_refusal s t n q c GetBufferParameteriv o h e m = not_local m
-local_gl_refusal s t n q c RenderbufferStorage o h e m = not_local m
-local_gl_refusal s t n q c GetRenderbufferParameteriv o h e m = not_local m
-local_gl_refusal s t n q c FramebufferTexture2d o h e m = not_local m
-local_gl_refusal s t n q c FramebufferRenderbuffer o h e m = not_local m
-local_gl_refusal s t n q c GetFramebufferAttachmentParameteriv o h e m = not_local m
-local_gl_refusal s t n q c ImageTargetTexture2d o h e m = not_local m
-local_gl_refusal s t n q c ImageTargetRenderbufferStorage o h e m = not_local m
-local_gl_refusal s t n q c k o h e m = refl
+local_gl_refusal s t n q c k o h e m = ap (gl_rules.gl_refusal c) (local_gl_facts s t n q c k o h e m)
 
 by_part : (s : State) (t n : ℕ) (c : CallValue) (k : GlKind) (x : Option PartValue) → IsSound s → HasOwn s t → current_context s t ≡ Some n → part_of_context s n ≡ x → is_some x ≡ true → (is_local_gl k || (is_local_unbound k && is_unbound x)) ≡ true →
     gl_step_on s t (Some n) k c ≡ as_step s t (gl_with (part_of s t) x k c)

@@ -1,5 +1,5 @@
 -- A new handle names a new object of its kind.
-use Rattle.std.proofs.Common.{◌≡◌, ◌≢◌, ℕ, true, List, [], ◌∷◌, ◌++◌, refl, sym, ap, ◌∙◌, subst, arith, inl, inr, length, Bool, false, cond, ◌==◌, is_some, Option, None, Some, get_or, map}
+use Rattle.std.proofs.Common.{◌≡◌, ◌≢◌, ◌⊎◌, ℕ, true, List, [], ◌∷◌, ◌++◌, refl, sym, ap, ◌∙◌, subst, arith, inl, inr, length, Bool, false, cond, is_some, Option, None, Some, get_or, map}
 use Rattle.std.specs.Prelude.{pos}
 use Rattle.std.specs.Option.{option_map, option_map_or}
 use Rattle.std.proofs.lemmas.List.{map-append}
@@ -7,7 +7,7 @@ use Rattle.egl_calls.specs.Calls.{CallValue}
 use Rattle.egl_calls.specs.declared.kinds.Kind.{Kind}
 use Rattle.egl_calls.specs.declared.kinds.Kind.TheVariants.{Egl, Gl, Own}
 use Rattle.egl_calls.specs.declared.kinds.EglKind.{EglKind}
-use Rattle.egl_calls.specs.declared.kinds.EglKind.TheVariants.{CreateWindowSurface, CreatePbufferSurface, CreateContext, CreateSync, CreateImage}
+use Rattle.egl_calls.specs.declared.kinds.EglKind.TheVariants.{GetError, CreateWindowSurface, CreatePbufferSurface, CreateContext, CreateImage}
 use Rattle.egl_calls.specs.declared.errors.EglError.{EglError}
 use Rattle.egl_calls.specs.declared.errors.EglError.TheVariants.{Success}
 use Rattle.egl_calls.specs.declared.errors.Outcome.TheVariants.{Done, Waiting}
@@ -28,18 +28,17 @@ use Rattle.egl_model.specs.Windows.{asks_for_single, named_place, named_spec, wi
 use Rattle.egl_model.specs.Contexts.{context_objects, shared_group}
 use Rattle.egl_model.specs.Sweep.{edges_at, is_reached, roots, sweep}
 use Rattle.egl_model.specs.Effects.{Effect}
-use Rattle.egl_model.specs.EglEffects.{egl_effect}
-use Rattle.egl_model.specs.EglFacts.{egl_facts, egl_refusal}
-use Rattle.egl_model.specs.Currents.{current_context, display_at}
+use Rattle.egl_model.specs.EglCalls.{egl_effect, egl_refusal}
+use Rattle.egl_model.specs.Currents.{current_context}
 use Rattle.egl_model.specs.Images.{add_image, new_image_facts, source_storage}
 use Rattle.egl_model.specs.Syncs.{add_sync, fence_objects}
-use Rattle.call_rules.proofs.EglLaws.{image_allowed, rows_off}
-use Rattle.std.proofs.lemmas.Bool.{and_parts, not-false}
+use Rattle.call_rules.proofs.EglLaws.{image_allowed}
 use Rattle.egl_model.specs.Step.{Stepped, after_egl_rules, egl_step, step, step_by, step_in, wait_step}
 use Rattle.model_laws.specs.Kinds.{IsA, named_kind}
 use Rattle.model_laws.specs.Laws.{IsAllowedEgl}
 use Rattle.model_laws.specs.NewHandles.{HasNewHandle, HasNewImage}
 use Rattle.model_laws.proofs.LinkLaws.{root_marked, same_object}
+use Rattle.model_laws.proofs.NewSyncLaws.{current_of_sync, made_sync}
 use Rattle.model_laws.proofs.Places.{new_at}
 use Rattle.model_laws.proofs.LinkedSteps.{at_head, from_handle, in_right, named_by}
 use Rattle.model_laws.proofs.RefusalLaws.{allowed_egl, allowed_egl_state}
@@ -106,12 +105,10 @@ unfolding made
 sync_made s t d None i = absurd (let e : false ≡ true = i in cc)
 sync_made s t d (Some context) i = has_new s t d a_sync (fence_objects context) refl
 
-sync_gets_handle : (s : State) (t : ℕ) (c : CallValue) → IsAllowedEgl s t CreateSync c → HasNewHandle s (step s t c).state (number c 0) a_sync
-unfolding egl_refusal
-sync_gets_handle s t c h =
-    let off = rows_off c (egl_facts s t CreateSync c) CreateSync h.call.kind h.allowed in
-    let here = and_parts (is_some (current_context s t)) (display_at s (current_context s t) == number c 0) (not-false _ off.1.1.1.1.0) in
-    subst (λ (a : State). HasNewHandle s a (number c 0) a_sync) (sym (allowed_egl_state s t CreateSync c h)) (sync_made s t (number c 0) (current_context s t) here.0)
+sync_gets_handle : (s : State) (t : ℕ) (k : EglKind) (c : CallValue) → IsAllowedEgl s t k c → made_handle k ≡ Some a_sync → HasNewHandle s (step s t c).state (number c 0) a_sync
+sync_gets_handle s t k c h e =
+    subst (λ (a : State). HasNewHandle s a (number c 0) a_sync) (sym (allowed_egl_state s t k c h ∙ ap (λ (a : State). sweep (set_error a t Success)) (made_sync s t k c e)))
+    (sync_made s t (number c 0) (current_context s t) (current_of_sync s t k c e h))
 
 image_made : (s : State) (t d : ℕ) (o : Option ℕ) → is_some o ≡ true → HasNewHandle s (sweep (set_error (option_map_or (add_image s d) o s) t Success)) d an_image
 unfolding made
@@ -141,22 +138,32 @@ image_made_of s t d k (Some j) e =
 pub image_gets_storage : (s : State) (t : ℕ) (c : CallValue) (k : ℕ) → IsAllowedEgl s t CreateImage c → source_storage s c ≡ Some k → HasNewImage s (step s t c).state (number c 0) k
 image_gets_storage s t c k h e = subst (λ (a : State). HasNewImage s a (number c 0) k) (sym (allowed_egl_state s t CreateImage c h)) (image_made_of s t (number c 0) k (source_storage s c) e)
 
--- ---- Each call that makes a handle.
+-- ---- Each call that makes a handle: two make a surface, and one a handle of each other kind.
+of_surface : (k : EglKind) → made_handle k ≡ Some a_surface → (k ≡ CreateWindowSurface) ⊎ (k ≡ CreatePbufferSurface)
+of_surface CreateWindowSurface e = inl refl
+of_surface CreatePbufferSurface e = inr refl
+of_surface k e = absurd (cc e)
+
+of_context : (k : EglKind) → made_handle k ≡ Some a_context → k ≡ CreateContext
+of_context CreateContext e = refl
+of_context k e = cc
+
+of_image : (k : EglKind) → made_handle k ≡ Some an_image → k ≡ CreateImage
+of_image CreateImage e = refl
+of_image k e = cc
+
 pub gets_handle : (s : State) (t : ℕ) (k : EglKind) (c : CallValue) (kind : HandleKind) → IsAllowedEgl s t k c → made_handle k ≡ Some kind → HasNewHandle s (step s t c).state (number c 0) kind
-gets_handle s t CreateWindowSurface c kind h e = subst (HasNewHandle s (step s t c).state (number c 0)) (let f : Some a_surface ≡ Some kind = e in cc) (window_gets_handle s t c h)
-gets_handle s t CreatePbufferSurface c kind h e = subst (HasNewHandle s (step s t c).state (number c 0)) (let f : Some a_surface ≡ Some kind = e in cc) (pbuffer_gets_handle s t c h)
-gets_handle s t CreateContext c kind h e = subst (HasNewHandle s (step s t c).state (number c 0)) (let f : Some a_context ≡ Some kind = e in cc) (context_gets_handle s t c h)
-gets_handle s t CreateSync c kind h e = subst (HasNewHandle s (step s t c).state (number c 0)) (let f : Some a_sync ≡ Some kind = e in cc) (sync_gets_handle s t c h)
-gets_handle s t CreateImage c kind h e = subst (HasNewHandle s (step s t c).state (number c 0)) (let f : Some an_image ≡ Some kind = e in cc) (image_gets_handle s t c h)
-gets_handle s t k c kind h e = absurd (let f : None ≡ Some kind = e in cc)
+gets_handle s t k c a_context h e = context_gets_handle s t c (subst (λ (j : EglKind). IsAllowedEgl s t j c) (of_context k e) h)
+gets_handle s t k c a_surface h e = elim (of_surface k e) [
+  | inl i ↦ window_gets_handle s t c (subst (λ (j : EglKind). IsAllowedEgl s t j c) i h)
+  | inr i ↦ pbuffer_gets_handle s t c (subst (λ (j : EglKind). IsAllowedEgl s t j c) i h)
+]
+gets_handle s t k c an_image h e = image_gets_handle s t c (subst (λ (j : EglKind). IsAllowedEgl s t j c) (of_image k e) h)
+gets_handle s t k c a_sync h e = sync_gets_handle s t k c h e
 
 made_value : (s : State) (t : ℕ) (k : EglKind) (c : CallValue) (kind : HandleKind) → made_handle k ≡ Some kind → (egl_effect s t k c).value ≡ pos s.next_handle
-made_value s t CreateWindowSurface c kind e = refl
-made_value s t CreatePbufferSurface c kind e = refl
-made_value s t CreateContext c kind e = refl
-made_value s t CreateSync c kind e = refl
-made_value s t CreateImage c kind e = refl
-made_value s t k c kind e = absurd (let f : None ≡ Some kind = e in cc)
+made_value s t GetError c kind e = cc
+made_value s t k c kind e = cc
 
 pub answers_number : (s : State) (t : ℕ) (k : EglKind) (c : CallValue) (kind : HandleKind) → IsAllowedEgl s t k c → made_handle k ≡ Some kind → (step s t c).reply.value ≡ pos s.next_handle
 answers_number s t k c kind h e = ap (λ (x : Stepped). x.reply.value) (allowed_egl s t k c h) ∙ made_value s t k c kind e

@@ -1,5 +1,5 @@
 -- What a refusal, a wait and a missing context change.
-use Rattle.std.proofs.Common.{◌≡◌, ◌≢◌, ℕ, ◌<◌, refl, sym, ap, ◌∙◌, Option, None, Some, List, true, false}
+use Rattle.std.proofs.Common.{◌≡◌, ◌≢◌, ℕ, zero, suc, ◌<◌, refl, sym, ap, ◌∙◌, Option, None, Some, List, [], ◌∷◌, Bool, true, false}
 use Rattle.std.specs.Option.{option_and_then}
 use Rattle.std.proofs.lemmas.List.{get_or-set_other, get_or-set_same, get_or_past, set-get_or}
 use Rattle.std.proofs.lemmas.Bool.{cases_lt}
@@ -16,6 +16,7 @@ use Rattle.egl_calls.specs.declared.errors.EglError.TheVariants.{Success}
 use Rattle.egl_calls.specs.declared.errors.GlError.{GlError}
 use Rattle.egl_calls.specs.declared.errors.GlError.TheVariants.{NoError, InvalidEnum, InvalidValue, InvalidOperation, OutOfMemory, InvalidFramebufferOperation}
 use Rattle.egl_calls.specs.declared.errors.Outcome.TheVariants.{Done, Egl as RefusedEgl, Gl as RefusedGl, InWait, NoWait, Waiting}
+use Rattle.refusal_rows.specs.Rows.{AllOff, Row}
 use Rattle.context_state.specs.Parts.{PartValue, kept, noted}
 use Rattle.driver_objects.specs.declared.contexts.Context.{Context as ContextObject}
 use Rattle.driver_objects.specs.declared.objects.Object.{Object}
@@ -26,7 +27,7 @@ use Rattle.egl_model.specs.Currents.{current_context, part_of_context}
 use Rattle.egl_model.specs.Sweep.{sweep}
 use Rattle.egl_model.specs.Waits.{ended, is_signalled, is_wait_end}
 use Rattle.egl_model.specs.Step.{Stepped, bare, done, egl_step, gl_step, note_error, own_step, step, step_by, step_in, wait_step}
-use Rattle.egl_model.specs.EglEffects.{egl_effect}
+use Rattle.egl_model.specs.EglCalls.{egl_effect}
 use Rattle.model_laws.specs.Laws.{IsAllowedEgl, IsEglCall, IsGlCall, IsRefusedEgl, IsRefusedGl}
 use Rattle.model_laws.proofs.StepLaws.{egl_done, egl_refused, gl_refused, gl_without_context, step_goes, step_waits}
 
@@ -43,6 +44,17 @@ allowed_egl s t k c h = egl_call s t k c h.call ∙ egl_done s t k c h.allowed
 
 pub allowed_egl_state : (s : State) (t : ℕ) (k : EglKind) (c : CallValue) → IsAllowedEgl s t k c → (step s t c).state ≡ sweep (set_error (egl_effect s t k c).state t Success)
 allowed_egl_state s t k c h = ap (λ (x : Stepped). x.state) (allowed_egl s t k c h)
+
+-- the condition of the row at a place
+abbrev pub row_at : {E : Type 0} → ℕ → List (Row E) → Bool
+row_at n [] = false
+row_at zero (r ∷ rs) = r.0
+row_at (suc n) (r ∷ rs) = row_at n rs
+
+pub row_off : {E : Type 0} (n : ℕ) (rows : List (Row E)) → AllOff rows → row_at n rows ≡ false
+row_off n [] a = refl
+row_off zero (r ∷ rs) a = a.0
+row_off (suc n) (r ∷ rs) a = row_off n rs a.1
 
 -- ---- Refused calls of EGL.
 pub refused_egl : (s : State) (t : ℕ) (k : EglKind) (c : CallValue) (e : EglError) → IsRefusedEgl s t k c e →

@@ -20,7 +20,7 @@ use Rattle.driver_objects.specs.Storages.{stored}
 use Rattle.driver_objects.specs.declared.objects.Object.{Object}
 use Rattle.driver_objects.specs.declared.objects.Object.TheVariants.{Context, Renderbuffer, Storage}
 use Rattle.egl_model.specs.Arguments.{number}
-use Rattle.egl_model.specs.GlFacts.{gl_refusal, storage_facts}
+use Rattle.egl_model.specs.GlCalls.{gl_refusal, storage_facts}
 use Rattle.egl_model.specs.Graph.{is_in}
 use Rattle.egl_model.specs.Objects.{as_renderbuffer, change_renderbuffer, renderbuffer_in, with_renderbuffer}
 use Rattle.egl_model.specs.Parts.{put_own, set_image, set_part}

@@ -6,7 +6,7 @@ use Rattle.egl_calls.specs.declared.errors.GlError.TheVariants.{OutOfMemory}
 use Rattle.call_rules.specs.GlAllowed.{StorageAsked}
 use Rattle.call_rules.proofs.GlLaws.{storage_wants, wanting_storage}
 use Rattle.egl_model.specs.Currents.{current_context}
-use Rattle.egl_model.specs.GlFacts.{gl_refusal, storage_facts}
+use Rattle.egl_model.specs.GlCalls.{gl_refusal, storage_facts}
 use Rattle.egl_model.specs.State.{State}
 use Rattle.model_laws.specs.Laws.{IsGlCall}
 use Rattle.model_laws.specs.Wants.{AnswersGl, WantsStorage}

@@ -17,8 +17,8 @@ use Rattle.framebuffer_objects.specs.Renderbuffers.{RenderbufferValue}
 use Rattle.pixel_rows.specs.Images.{ImageValue}
 use Rattle.egl_model.specs.Copies.{copied, copied_from, copied_level, copies_nothing, read_image}
 use Rattle.egl_model.specs.Arguments.{number}
-use Rattle.egl_model.specs.EglEffects.{egl_effect}
-use Rattle.egl_model.specs.GlEffects.{gl_effect}
+use Rattle.egl_model.specs.EglCalls.{egl_effect}
+use Rattle.egl_model.specs.GlCalls.{gl_effect}
 use Rattle.egl_model.specs.Images.{add_image, image_kind, levels_dropped, renderbuffer_of_image, source_storage, target_image, texture_of_image}
 use Rattle.egl_model.specs.Objects.{as_storage, change_renderbuffer, storage_in, with_renderbuffer}
 use Rattle.egl_model.specs.Renderbuffers.{new_kind, new_pixels, stored_as, target_renderbuffer, with_kind}

@@ -36,10 +36,8 @@ use Rattle.egl_model.specs.Waits.{waiting}
 use Rattle.model_laws.specs.Slots.{held_slots}
 use Rattle.egl_model.specs.Arguments.{number}
 use Rattle.egl_model.specs.Currents.{current_context, has_context, has_surface}
-use Rattle.egl_model.specs.EglEffects.{egl_effect}
-use Rattle.egl_model.specs.EglFacts.{egl_refusal}
-use Rattle.egl_model.specs.GlEffects.{effect_by, gl_effect, object_effect}
-use Rattle.egl_model.specs.GlFacts.{gl_refusal}
+use Rattle.egl_model.specs.EglCalls.{egl_effect, egl_refusal}
+use Rattle.egl_model.specs.GlCalls.{effect_by, gl_effect, object_effect, gl_refusal}
 use Rattle.egl_model.specs.History.{replay_from}
 use Rattle.egl_model.specs.Step.{note_error, step}
 use Rattle.model_laws.proofs.EglCalls.{acts-context, acts-error, acts-initialize, acts-make_current, acts-pbuffer, acts-terminate, acts-wait_end, acts-attribute, acts-destroyed, acts-released}

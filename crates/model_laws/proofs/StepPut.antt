@@ -1,23 +1,21 @@
 -- The first law of frame: a step of a thread, and what is put for another one, may come in either order.
-use Rattle.std.proofs.Common.{◌≡◌, ◌≢◌, ℕ, pos, Bool, true, false, List, [], ◌∷◌, refl, sym, ap, ◌∙◌, Option, None, Some, ◌==◌, is_some, map}
+use Rattle.std.proofs.Common.{◌≡◌, ◌≢◌, ℕ, pos, Bool, true, false, List, [], ◌∷◌, refl, sym, ap, ◌∙◌, Option, None, Some, is_some, map}
 use Rattle.model_laws.proofs.Writes.{census-written}
-use Rattle.egl_model.specs.Contexts.{context_call_facts, context_value, context_value_at, draws_with, is_drawn_with, value_of_context}
+use Rattle.egl_model.specs.Contexts.{context_value, context_value_at, draws_with, is_drawn_with, value_of_context}
 use Rattle.egl_model.specs.Handles.{handle_at}
 use Rattle.egl_model.specs.Arguments.{number}
 use Rattle.display_table.specs.declared.handles.HandleKind.TheVariants.{Context as a_context, Surface as a_surface}
 use Rattle.egl_calls.specs.Arguments.{signed}
-use Rattle.egl_names.specs.declared.codes.TheConstants.{EGL_DRAW}
 use Rattle.egl_calls.specs.declared.errors.Outcome.TheVariants.{Done}
-use Rattle.std.specs.Prelude.{unwrap_or, if◌then◌else◌}
 use Rattle.std.specs.Option.{option_and_then, option_map_or}
 use Rattle.egl_calls.specs.Calls.{CallValue, ReplyValue}
 use Rattle.egl_calls.specs.Errors.{egl_code}
 use Rattle.egl_calls.specs.declared.kinds.Kind.{Kind}
 use Rattle.egl_calls.specs.declared.kinds.Kind.TheVariants.{Egl, Gl, Own as OwnCall}
 use Rattle.egl_calls.specs.declared.kinds.EglKind.{EglKind}
-use Rattle.egl_calls.specs.declared.kinds.EglKind.TheVariants.{CreateWindowSurface, SwapBuffers, GetError as EglGetError, CreatePbufferSurface, MakeCurrent, GetCurrentContext, GetCurrentSurface, GetCurrentDisplay, QueryApi, QuerySurface, QueryContext, CreateSync, ClientWaitSync, WaitSync, GetSyncAttrib, CreateImage}
+use Rattle.egl_calls.specs.declared.kinds.EglKind.TheVariants.{GetError as EglGetError}
 use Rattle.egl_calls.specs.declared.kinds.GlKind.{GlKind}
-use Rattle.egl_calls.specs.declared.kinds.GlKind.TheVariants.{Clear, ReadPixels, DrawTexi, DrawTexx, GenTextures, IsTexture, TexImage2d, TexSubImage2d, CopyTexImage2d, CopyTexSubImage2d, GenBuffers, IsBuffer, BufferData, BufferSubData, GetBufferParameteriv, GenRenderbuffers, IsRenderbuffer, RenderbufferStorage, GetRenderbufferParameteriv, GenFramebuffers, IsFramebuffer, FramebufferTexture2d, FramebufferRenderbuffer, CheckFramebufferStatus, GetFramebufferAttachmentParameteriv, ImageTargetTexture2d, ImageTargetRenderbufferStorage}
+use Rattle.egl_calls.specs.declared.kinds.GlKind.TheVariants.{GetError as GlGetError}
 use Rattle.call_rules.specs.GlRules as gl_rules
 use Rattle.context_state.specs.Kinds.{context_gl_call}
 use Rattle.context_state.specs.declared.kinds.ContextCall.{ContextCall}
@@ -25,10 +23,9 @@ use Rattle.context_state.specs.Parts.{PartValue}
 use Rattle.share_group.specs.Names.{given}
 use Rattle.share_group.specs.declared.names.NameKind.{NameKind}
 use Rattle.share_group.specs.declared.names.NameKind.TheVariants.{Texture as textures, Buffer as buffers, Renderbuffer as renderbuffers, Framebuffer as framebuffers}
-use Rattle.egl_model.specs.Buffers.{buffer_parameter, part_read}
+use Rattle.egl_model.specs.Buffers.{part_read}
 use Rattle.call_rules.specs.GlRules.{no_gl_facts}
-use Rattle.egl_model.specs.GlFacts.{attach_facts, attachment_facts, bound_facts, buffer_facts, image_facts, framebuffer_facts, renderbuffer_facts}
-use Rattle.egl_model.specs.Renderbuffers.{renderbuffer_bytes, renderbuffer_parameter}
+use Rattle.egl_model.specs.GlCalls.{facts_by, object_facts, attach_facts, attachment_facts, bound_facts, buffer_facts, renderbuffer_facts, effect_by, gl_effect, local_value, object_effect, gl_refusal}
 use Rattle.egl_model.specs.Names.{generated, group_of, name_value, object_named}
 use Rattle.model_laws.proofs.CopyCalls.{blind-copy_facts, blind-copy_part_facts}
 use Rattle.model_laws.proofs.TextureCalls.{blind-part_facts}
@@ -41,16 +38,12 @@ use Rattle.context_state.specs.Parts.{noted}
 use Rattle.call_rules.specs.EglRules as rules
 use Rattle.display_table.specs.declared.handles.Handle.{Handle}
 use Rattle.egl_model.specs.declared.records.ThreadRecord.{ThreadRecord}
-use Rattle.egl_model.specs.State.{State, record_of, api_code}
-use Rattle.egl_model.specs.Currents.{current_context, display_at, handle_of}
-use Rattle.egl_model.specs.Framebuffers.{BoundFramebuffer, attachment_of, attachment_parameter, bound_framebuffer, is_complete, target_framebuffer}
+use Rattle.egl_model.specs.State.{State, record_of}
+use Rattle.egl_model.specs.Currents.{current_context, display_at}
+use Rattle.egl_model.specs.Framebuffers.{attachment_of, bound_framebuffer, target_framebuffer}
 use Rattle.egl_model.specs.Drawing.{pack_alignment, read_pixels, rows_of}
-use Rattle.egl_model.specs.EglEffects.{egl_effect}
-use Rattle.egl_model.specs.EglFacts.{egl_facts, egl_refusal}
+use Rattle.egl_model.specs.EglCalls.{egl_effect, egl_facts, egl_refusal}
 use Rattle.model_laws.specs.Frame.{IsNone, moved_step}
-use Rattle.egl_model.specs.GlEffects.{effect_by, gl_effect, local_value, object_effect}
-use Rattle.egl_model.specs.GlFacts.{gl_refusal}
-use Rattle.egl_model.specs.Sweep.{live_bytes}
 use Rattle.model_laws.specs.Hidden.{hide, nothing}
 use Rattle.egl_model.specs.MakeCurrent.{config_of_context, config_of_surface, context_handle, current_facts, draw_handle, is_context_taken, is_surface_taken, read_handle}
 use Rattle.egl_model.specs.Objects.{context_in, storage_in}
@@ -58,13 +51,12 @@ use Rattle.egl_model.specs.Parts.{Own, OwnObjects, own_objects, put_at, put_own}
 use Rattle.model_laws.specs.Shapes.{shapes}
 use Rattle.model_laws.specs.Sound.{IsWhole}
 use Rattle.egl_model.specs.Step.{Stepped, after_egl_rules, after_gl_rules, done, egl_step, gl_step, gl_step_on, step, step_by, step_in, buffer_step_on, own_step, wait_step}
-use Rattle.egl_model.specs.Surfaces.{pbuffer_facts, surface_facts, surface_value, value_of_surface}
+use Rattle.egl_model.specs.Surfaces.{surface_value, value_of_surface}
 use Rattle.egl_model.specs.OwnCalls.{buffer_effect, buffer_refusal}
 use Rattle.egl_model.specs.Waits.{is_signalled, is_wait_end}
 use Rattle.egl_model.specs.Effects.{valued}
 use Rattle.egl_calls.specs.declared.kinds.OwnKind.{OwnKind}
 use Rattle.egl_calls.specs.declared.kinds.OwnKind.TheVariants.{ReadBuffer, Census}
-use Rattle.egl_model.specs.Syncs.{sync_facts}
 use Rattle.model_laws.proofs.ImageCalls.{blind-new_image, blind-renderbuffer_target_facts, blind-target_facts}
 use Rattle.model_laws.proofs.SyncCalls.{blind-client_wait, blind-new_sync, blind-server, blind-sync_value}
 use Rattle.model_laws.proofs.WindowCalls.{blind-swap_facts, blind-window_facts}
@@ -78,7 +70,7 @@ use Rattle.model_laws.proofs.PutMoves.{own_objects-stand}
 use Rattle.model_laws.proofs.PutWhole.{whole-put}
 use Rattle.model_laws.proofs.StepKeeps.{acts-egl_done, acts-gl_done, keeps-step, acts-swept_self, acts-wait_done}
 
--- ---- Facts: a line for each call whose facts look at objects or at threads.
+-- ---- Facts: what those of any call read is the same. A first call has a clause of its own, and the last clause goes by the cases that are left.
 blind-config_of_context : (t : ℕ) (h : Option Handle) (s : State) → Blind t s (λ a. config_of_context a h)
 blind-config_of_context t h s = blind-context_of (λ o. option_map_or (λ x. pos x.config) o (pos 0)) (λ c x. refl) t h s
 
@@ -114,17 +106,12 @@ blind-context_value : (t : ℕ) (c : CallValue) (s : State) → Blind t s (λ a.
 blind-context_value t c s w v x ne = blind-value_of_context t (number c 2) (handle_at s c 1 a_context) s w v x ne
 
 blind-facts : (t : ℕ) (c : CallValue) (s : State) (k : EglKind) → Blind t s (λ a. egl_facts a t k c)
-blind-facts t c s CreateWindowSurface w v x ne = blind-window_facts t c s w v x ne
-blind-facts t c s SwapBuffers w v x ne = blind-swap_facts t c s w v x ne
-blind-facts t c s CreatePbufferSurface w v x ne = ap (λ n. record (pbuffer_facts s c) { live_bytes = n }) (blind-live_bytes t s w v x ne)
-blind-facts t c s MakeCurrent w v x ne = blind-current_facts t c s w v x ne
-blind-facts t c s QuerySurface w v x ne = ap (λ y. record (surface_facts s c) { is_attribute = is_some y }) (blind-surface_value t c s w v x ne)
-blind-facts t c s QueryContext w v x ne = ap (λ y. record (context_call_facts s c) { is_attribute = is_some y }) (blind-context_value t c s w v x ne)
-blind-facts t c s CreateSync w v x ne = blind-new_sync t c s w v x ne
-blind-facts t c s WaitSync w v x ne = blind-server t c s w v x ne
-blind-facts t c s GetSyncAttrib w v x ne = ap (λ y. record (sync_facts s c) { is_attribute = is_some y }) (blind-sync_value t c s w v x ne)
-blind-facts t c s CreateImage w v x ne = blind-new_image t c s w v x ne
-blind-facts t c s k w v x ne = refl
+blind-facts t c s EglGetError w v x ne = refl
+blind-facts t c s k w v x ne =
+    let window = blind-window_facts t c s w v x ne in let swap = blind-swap_facts t c s w v x ne in let bytes = blind-live_bytes t s w v x ne in
+    let current = blind-current_facts t c s w v x ne in let surface = blind-surface_value t c s w v x ne in let context = blind-context_value t c s w v x ne in
+    let new_sync = blind-new_sync t c s w v x ne in let server = blind-server t c s w v x ne in let sync = blind-sync_value t c s w v x ne in let image = blind-new_image t c s w v x ne in
+    cc
 
 blind-refusal : (t : ℕ) (c : CallValue) (s : State) (k : EglKind) → Blind t s (λ a. egl_refusal a t k c)
 unfolding egl_refusal
@@ -132,9 +119,6 @@ blind-refusal t c s k w v x ne = ap (rules.egl_refusal c) (blind-facts t c s k w
 
 blind-buffer_facts : (t n : ℕ) (c : CallValue) (s : State) → Blind t s (λ a. buffer_facts a n c)
 blind-buffer_facts t n c s w v x ne = ap bound_facts (blind-buffer_of t n c s w v x ne)
-
-blind-framebuffer_refusal : (t : ℕ) (c : CallValue) (s : State) → Blind t s (λ a. gl_rules.gl_refusal c (framebuffer_facts (is_complete (bound_framebuffer a t))))
-blind-framebuffer_refusal t c s w v x ne = ap (λ b. gl_rules.gl_refusal c (framebuffer_facts b)) (blind-complete t s w v x ne)
 
 blind-renderbuffer_facts : (t n : ℕ) (s : State) → Blind t s (λ a. renderbuffer_facts a n)
 blind-renderbuffer_facts t n s w v x ne = ap (λ o. record no_gl_facts { is_bound = is_some o }) (blind-target_renderbuffer t n s w v x ne)
@@ -150,48 +134,37 @@ blind-attachment_facts t n c s w v x ne =
     ap (λ o. record no_gl_facts { is_bound = is_some o; is_attached = is_some (attachment_of (put_own s v x) n c) }) (blind-target_framebuffer t n s w v x ne)
     ∙ ap (λ o. record no_gl_facts { is_bound = is_some (target_framebuffer s n); is_attached = is_some o }) (blind-attachment_of t n c s w v x ne)
 
+blind-object_facts : (t n : ℕ) (c : CallValue) (s : State) (k : GlKind) → Blind t s (λ a. object_facts a t n k c)
+blind-object_facts t n c s GlGetError w v x ne = refl
+blind-object_facts t n c s k w v x ne =
+    let complete = blind-complete t s w v x ne in let bytes = blind-live_bytes t s w v x ne in let part = blind-part_facts t n c s w v x ne in
+    let copy = blind-copy_facts t c s w v x ne in let copy_part = blind-copy_part_facts t n c s w v x ne in let buffer = blind-buffer_facts t n c s w v x ne in
+    let renderbuffer = blind-renderbuffer_facts t n s w v x ne in let texture_given = blind-attach_facts t n textures c s w v x ne in let renderbuffer_given = blind-attach_facts t n renderbuffers c s w v x ne in
+    let attachment = blind-attachment_facts t n c s w v x ne in let texture_image = blind-target_facts t n c s w v x ne in let renderbuffer_image = blind-renderbuffer_target_facts t n c s w v x ne in
+    cc
+
+blind-facts_by : (o : Option ContextCall) (t n : ℕ) (c : CallValue) (s : State) (k : GlKind) → Blind t s (λ a. facts_by o a t n k c)
+blind-facts_by (Some own) t n c s k w v x ne = refl
+blind-facts_by None t n c s k w v x ne = blind-object_facts t n c s k w v x ne
+
 blind-gl_refusal : (t n : ℕ) (c : CallValue) (s : State) (k : GlKind) → Blind t s (λ a. gl_refusal a t n k c)
 unfolding gl_refusal
-blind-gl_refusal t n c s Clear w v x ne = blind-framebuffer_refusal t c s w v x ne
-blind-gl_refusal t n c s ReadPixels w v x ne = blind-framebuffer_refusal t c s w v x ne
-blind-gl_refusal t n c s DrawTexi w v x ne = blind-framebuffer_refusal t c s w v x ne
-blind-gl_refusal t n c s DrawTexx w v x ne = blind-framebuffer_refusal t c s w v x ne
-blind-gl_refusal t n c s TexImage2d w v x ne = ap (λ b. gl_rules.gl_refusal c (record (image_facts s c) { live_bytes = b })) (blind-live_bytes t s w v x ne)
-blind-gl_refusal t n c s TexSubImage2d w v x ne = ap (gl_rules.gl_refusal c) (blind-part_facts t n c s w v x ne)
-blind-gl_refusal t n c s CopyTexImage2d w v x ne = ap (gl_rules.gl_refusal c) (blind-copy_facts t c s w v x ne)
-blind-gl_refusal t n c s CopyTexSubImage2d w v x ne = ap (gl_rules.gl_refusal c) (blind-copy_part_facts t n c s w v x ne)
-blind-gl_refusal t n c s BufferData w v x ne =
-    ap (λ b. gl_rules.gl_refusal c (record (buffer_facts (put_own s v x) n c) { live_bytes = b; new_bytes = number c 1; video_limit = s.video })) (blind-live_bytes t s w v x ne)
-    ∙ ap (λ f. gl_rules.gl_refusal c (record f { live_bytes = live_bytes s.objects; new_bytes = number c 1; video_limit = s.video })) (blind-buffer_facts t n c s w v x ne)
-blind-gl_refusal t n c s BufferSubData w v x ne = ap (gl_rules.gl_refusal c) (blind-buffer_facts t n c s w v x ne)
-blind-gl_refusal t n c s GetBufferParameteriv w v x ne = ap (gl_rules.gl_refusal c) (blind-buffer_facts t n c s w v x ne)
-blind-gl_refusal t n c s RenderbufferStorage w v x ne =
-    ap (λ b. gl_rules.gl_refusal c (record (renderbuffer_facts (put_own s v x) n) { live_bytes = b; new_bytes = renderbuffer_bytes c; video_limit = s.video })) (blind-live_bytes t s w v x ne)
-    ∙ ap (λ f. gl_rules.gl_refusal c (record f { live_bytes = live_bytes s.objects; new_bytes = renderbuffer_bytes c; video_limit = s.video })) (blind-renderbuffer_facts t n s w v x ne)
-blind-gl_refusal t n c s GetRenderbufferParameteriv w v x ne = ap (gl_rules.gl_refusal c) (blind-renderbuffer_facts t n s w v x ne)
-blind-gl_refusal t n c s FramebufferTexture2d w v x ne = ap (gl_rules.gl_refusal c) (blind-attach_facts t n textures c s w v x ne)
-blind-gl_refusal t n c s FramebufferRenderbuffer w v x ne = ap (gl_rules.gl_refusal c) (blind-attach_facts t n renderbuffers c s w v x ne)
-blind-gl_refusal t n c s GetFramebufferAttachmentParameteriv w v x ne = ap (gl_rules.gl_refusal c) (blind-attachment_facts t n c s w v x ne)
-blind-gl_refusal t n c s ImageTargetTexture2d w v x ne = ap (gl_rules.gl_refusal c) (blind-target_facts t n c s w v x ne)
-blind-gl_refusal t n c s ImageTargetRenderbufferStorage w v x ne = ap (gl_rules.gl_refusal c) (blind-renderbuffer_target_facts t n c s w v x ne)
-blind-gl_refusal t n c s k w v x ne = refl
+blind-gl_refusal t n c s k w v x ne = ap (gl_rules.gl_refusal c) (blind-facts_by (context_gl_call k) t n c s k w v x ne)
 
 blind-buffer_refusal : (t n : ℕ) (c : CallValue) (s : State) → Blind t s (λ a. buffer_refusal a t n c)
 unfolding buffer_refusal
 blind-buffer_refusal t n c s w v x ne = ap (gl_rules.gl_refusal c) (blind-buffer_facts t n c s w v x ne)
 
--- ---- Replies: a line for each call that answers what it reads.
+-- ---- Replies: what those of any call read is the same.
+blind-current_display : (t : ℕ) (s : State) → Blind t s (λ a. display_at a (current_context a t))
+blind-current_display t s w v x ne = ap (λ o. display_at (put_own s v x) o) (blind-current t s w v x ne) ∙ blind-display t (current_context s t) s w v x ne
+
 blind-egl_reply : (t : ℕ) (c : CallValue) (s : State) (k : EglKind) → Blind t s (λ a. done (egl_effect a t k c))
 blind-egl_reply t c s EglGetError w v x ne = ap (λ (r : ThreadRecord). done (valued (pos (egl_code r.error)) s)) (blind-record t s w v x ne)
-blind-egl_reply t c s GetCurrentContext w v x ne = ap (λ (r : ThreadRecord). done (valued (pos (handle_of r.context)) s)) (blind-record t s w v x ne)
-blind-egl_reply t c s GetCurrentSurface w v x ne = ap (λ (r : ThreadRecord). done (valued (pos (if number c 0 == EGL_DRAW then handle_of r.draw else handle_of r.read)) s)) (blind-record t s w v x ne)
-blind-egl_reply t c s GetCurrentDisplay w v x ne = ap (λ o. done (valued (pos (display_at (put_own s v x) o)) s)) (blind-current t s w v x ne) ∙ ap (λ d. done (valued (pos d) s)) (blind-display t (current_context s t) s w v x ne)
-blind-egl_reply t c s QueryApi w v x ne = ap (λ (r : ThreadRecord). done (valued (pos (api_code r.api)) s)) (blind-record t s w v x ne)
-blind-egl_reply t c s QuerySurface w v x ne = ap (λ y. done (valued (unwrap_or y (pos 0)) s)) (blind-surface_value t c s w v x ne)
-blind-egl_reply t c s QueryContext w v x ne = ap (λ y. done (valued (unwrap_or y (pos 0)) s)) (blind-context_value t c s w v x ne)
-blind-egl_reply t c s ClientWaitSync w v x ne = blind-client_wait t c s w v x ne
-blind-egl_reply t c s GetSyncAttrib w v x ne = ap (λ y. done (valued (unwrap_or y (pos 0)) s)) (blind-sync_value t c s w v x ne)
-blind-egl_reply t c s k w v x ne = refl
+blind-egl_reply t c s k w v x ne =
+    let own = blind-record t s w v x ne in let display = blind-current_display t s w v x ne in let surface = blind-surface_value t c s w v x ne in
+    let context = blind-context_value t c s w v x ne in let sync = blind-sync_value t c s w v x ne in let wait = blind-client_wait t c s w v x ne in
+    cc
 
 blind-read_pixels : (t n : ℕ) (c : CallValue) (s : State) → current_context s t ≡ Some n → Blind t s (λ a. read_pixels a t n c)
 blind-read_pixels t n c s e w v x ne =
@@ -212,20 +185,15 @@ blind-buffer_reply : (t n : ℕ) (c : CallValue) (s : State) → Blind t s (λ a
 blind-buffer_reply t n c s w v x ne = ap (λ o. done (record { waits = false; value = pos 0; list = []; bytes = part_read c o; state = s })) (blind-buffer_of t n c s w v x ne)
 
 blind-object_reply : (t n : ℕ) (c : CallValue) (s : State) (k : GlKind) → current_context s t ≡ Some n → Blind t s (λ a. done (object_effect a t n k c))
-blind-object_reply t n c s ReadPixels e w v x ne = ap (λ b. done (record { waits = false; value = pos 0; list = []; bytes = b; state = s })) (blind-read_pixels t n c s e w v x ne)
-blind-object_reply t n c s GenTextures e w v x ne = blind-generated t n textures (number c 0) s w v x ne
-blind-object_reply t n c s IsTexture e w v x ne = blind-is_name t n textures (number c 0) s w v x ne
-blind-object_reply t n c s GenBuffers e w v x ne = blind-generated t n buffers (number c 0) s w v x ne
-blind-object_reply t n c s IsBuffer e w v x ne = blind-is_name t n buffers (number c 0) s w v x ne
-blind-object_reply t n c s GetBufferParameteriv e w v x ne = ap (λ o. done (valued (unwrap_or (buffer_parameter c o) (pos 0)) s)) (blind-buffer_of t n c s w v x ne)
-blind-object_reply t n c s GenRenderbuffers e w v x ne = blind-generated t n renderbuffers (number c 0) s w v x ne
-blind-object_reply t n c s IsRenderbuffer e w v x ne = blind-is_name t n renderbuffers (number c 0) s w v x ne
-blind-object_reply t n c s GetRenderbufferParameteriv e w v x ne = ap (λ o. done (valued (renderbuffer_parameter c o) s)) (blind-renderbuffer_of t n s w v x ne)
-blind-object_reply t n c s GenFramebuffers e w v x ne = blind-generated t n framebuffers (number c 0) s w v x ne
-blind-object_reply t n c s IsFramebuffer e w v x ne = blind-is_name t n framebuffers (number c 0) s w v x ne
-blind-object_reply t n c s CheckFramebufferStatus e w v x ne = ap (λ (b : BoundFramebuffer). done (valued (pos b.status) s)) (blind-bound_framebuffer t s w v x ne)
-blind-object_reply t n c s GetFramebufferAttachmentParameteriv e w v x ne = ap (λ o. done (valued (attachment_parameter c o) s)) (blind-attachment_of t n c s w v x ne)
-blind-object_reply t n c s k e w v x ne = refl
+blind-object_reply t n c s GlGetError e w v x ne = refl
+blind-object_reply t n c s k e w v x ne =
+    let pixels = blind-read_pixels t n c s e w v x ne in let buffer = blind-buffer_of t n c s w v x ne in let renderbuffer = blind-renderbuffer_of t n s w v x ne in
+    let framebuffer = blind-bound_framebuffer t s w v x ne in let attachment = blind-attachment_of t n c s w v x ne in
+    let new_textures = blind-generated t n textures (number c 0) s w v x ne in let new_buffers = blind-generated t n buffers (number c 0) s w v x ne in
+    let new_renderbuffers = blind-generated t n renderbuffers (number c 0) s w v x ne in let new_framebuffers = blind-generated t n framebuffers (number c 0) s w v x ne in
+    let texture = blind-is_name t n textures (number c 0) s w v x ne in let a_buffer = blind-is_name t n buffers (number c 0) s w v x ne in
+    let a_renderbuffer = blind-is_name t n renderbuffers (number c 0) s w v x ne in let a_framebuffer = blind-is_name t n framebuffers (number c 0) s w v x ne in
+    cc
 
 blind-reply_by : (o : Option ContextCall) (t n : ℕ) (c : CallValue) (s : State) (k : GlKind) → current_context s t ≡ Some n → Blind t s (λ a. done (effect_by o a t n k c))
 blind-reply_by (Some own) t n c s k e w v x ne = ap (λ p. done (valued (local_value p c) s)) (blind-own_part t n s e w v x ne)

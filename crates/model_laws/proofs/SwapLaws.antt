@@ -30,7 +30,7 @@ use Rattle.display_table.specs.declared.handles.HandleKind.TheVariants.{Surface 
 use Rattle.egl_model.specs.declared.records.Bound.{Bound}
 use Rattle.egl_model.specs.declared.records.ThreadRecord.{ThreadRecord}
 use Rattle.egl_model.specs.Currents.{bound_surface, current_context, is_bound}
-use Rattle.egl_model.specs.EglFacts.{egl_refusal}
+use Rattle.egl_model.specs.EglCalls.{egl_refusal}
 use Rattle.egl_model.specs.Flushes.{flush, flushed_to}
 use Rattle.egl_model.specs.Handles.{handle_at}
 use Rattle.egl_model.specs.Objects.{as_storage, as_surface, change_storage, surface_in, surface_of, with_context, with_storage}

@@ -24,7 +24,7 @@ use Rattle.driver_objects.specs.declared.objects.Object.TheVariants.{Context, St
 use Rattle.egl_model.specs.Currents.{current_context}
 use Rattle.model_laws.specs.Extents.{quiet}
 use Rattle.model_laws.specs.Full.{Full}
-use Rattle.egl_model.specs.GlFacts.{gl_refusal, image_facts, part_facts, stored_facts}
+use Rattle.egl_model.specs.GlCalls.{gl_refusal, image_facts, part_facts, stored_facts}
 use Rattle.egl_model.specs.Graph.{is_in}
 use Rattle.egl_model.specs.Objects.{as_storage, as_texture, change_storage, change_texture, storage_in, texture_in, with_texture}
 use Rattle.egl_model.specs.Parts.{put_own}

@@ -16,8 +16,7 @@ use Rattle.driver_objects.specs.declared.textures.BackedTexture.{BackedTexture}
 use Rattle.egl_model.specs.Copies.{copied, copied_from, copied_level, copies_nothing, read_image}
 use Rattle.pixel_rows.specs.Images.{ImageValue}
 use Rattle.egl_model.specs.Currents.{current_context}
-use Rattle.egl_model.specs.GlEffects.{gl_effect}
-use Rattle.egl_model.specs.GlFacts.{copy_facts, gl_refusal, image_facts}
+use Rattle.egl_model.specs.GlCalls.{gl_effect, copy_facts, gl_refusal, image_facts}
 use Rattle.model_laws.specs.Laws.{IsAllowedGl, IsGlCall}
 use Rattle.egl_model.specs.Objects.{as_storage, as_texture, storage_in, texture_in}
 use Rattle.egl_model.specs.State.{State, object_at}

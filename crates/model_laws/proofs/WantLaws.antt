@@ -1,5 +1,5 @@
 -- What a reply tells of refusals, and where EGL_BAD_ALLOC comes.
-use Rattle.std.proofs.Common.{◌≡◌, ◌≢◌, ℕ, ◌⊎◌, inl, inr, refl, sym, ap, ◌∙◌, Bool, true, false, cond, Option, None, Some}
+use Rattle.std.proofs.Common.{◌≡◌, ◌≢◌, ℕ, ◌⊎◌, inl, inr, refl, sym, ap, ◌∙◌, Bool, true, false, not, cond, Option, None, Some}
 use Rattle.std.proofs.lemmas.Bool.{leb-true, le-leb}
 use Rattle.egl_calls.specs.Calls.{CallValue, ReplyValue}
 use Rattle.egl_calls.specs.declared.kinds.EglKind.{EglKind}
@@ -15,10 +15,8 @@ use Rattle.call_rules.specs.EglAllowed.{PbufferWants, makes_handle}
 use Rattle.call_rules.proofs.EglLaws.{pbuffer_wants, wanting_pbuffer, context_wants, wanting_context, image_wants, wanting_image, creations_want}
 use Rattle.egl_model.specs.State.{State}
 use Rattle.egl_model.specs.Effects.{Effect}
-use Rattle.egl_model.specs.EglEffects.{egl_effect}
-use Rattle.egl_model.specs.EglFacts.{egl_facts, egl_refusal}
-use Rattle.egl_model.specs.GlEffects.{gl_effect}
-use Rattle.egl_model.specs.GlFacts.{gl_refusal}
+use Rattle.egl_model.specs.EglCalls.{egl_effect, egl_facts, egl_refusal}
+use Rattle.egl_model.specs.GlCalls.{gl_effect, gl_refusal}
 use Rattle.egl_model.specs.Currents.{current_context}
 use Rattle.egl_model.specs.Surfaces.{pbuffer_facts}
 use Rattle.egl_model.specs.Contexts.{context_facts}
@@ -84,6 +82,14 @@ pub gl_is_done : (s : State) (t n : ℕ) (k : GlKind) (c : CallValue) → IsGlCa
 gl_is_done s t n k c h i r = ap (λ (x : Stepped). x.reply.outcome) (gl_call s t k c h ∙ gl_done s t n k c i r) ∙ ap (λ b. cond b Waiting Done) (gl_done_as s t n c k)
 
 -- ---- EGL_BAD_ALLOC.
+abbrev pub is_bad_alloc : EglError → Bool
+is_bad_alloc BadAlloc = true
+is_bad_alloc e = false
+
+-- a row that asks for what is given is off
+pub off : (b : Bool) → b ≡ true → not b ≡ false
+off b h = ap not h
+
 pub creations_answer : (s : State) (t : ℕ) (k : EglKind) (c : CallValue) → IsEglCall s t k c → Answers s t c BadAlloc → makes_handle k ≡ true
 unfolding egl_refusal
 creations_answer s t k c h a = creations_want c (egl_facts s t k c) k h.kind (refusal_of_reply s t k c BadAlloc h a)

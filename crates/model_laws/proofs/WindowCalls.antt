@@ -28,7 +28,7 @@ use Rattle.egl_model.specs.declared.records.Bound.{Bound}
 use Rattle.egl_model.specs.declared.records.ThreadRecord.{ThreadRecord}
 use Rattle.egl_model.specs.Arguments.{number}
 use Rattle.egl_model.specs.Currents.{bound_surface, draw_storage, is_bound}
-use Rattle.egl_model.specs.EglFacts.{egl_refusal}
+use Rattle.egl_model.specs.EglCalls.{egl_refusal}
 use Rattle.model_laws.specs.Extents.{making, quiet}
 use Rattle.model_laws.specs.Full.{IsFull, IsWindow}
 use Rattle.egl_model.specs.Handles.{handle_at, with_handle}

@@ -1,12 +1,13 @@
 -- How far a call goes: whether it may turn the displays' flags, how many handles it may make, and whether it may remove some.
-use Rattle.std.specs.Prelude.{◌≡◌, ℕ, Bool, true, false, ◌||◌, Option, None, Some, is_some}
+use Rattle.std.specs.Prelude.{◌≡◌, ℕ, Bool, true, false, ◌||◌, Option, is_some}
 use Rattle.std.specs.Option.{option_map_or}
 use Rattle.display_table.specs.declared.handles.HandleKind.{HandleKind}
-use Rattle.display_table.specs.declared.handles.HandleKind.TheVariants.{Context, Surface, Image, Sync}
+use Rattle.call_table.specs.Roles.{created, destroyed}
+use Rattle.call_table.specs.Rows.{egl_role}
 use Rattle.egl_calls.specs.declared.kinds.Kind.{Kind}
 use Rattle.egl_calls.specs.declared.kinds.Kind.TheVariants.{Egl}
 use Rattle.egl_calls.specs.declared.kinds.EglKind.{EglKind}
-use Rattle.egl_calls.specs.declared.kinds.EglKind.TheVariants.{Initialize, Terminate, CreateWindowSurface, CreatePbufferSurface, CreateContext, DestroySurface, DestroyContext, CreateSync, DestroySync, CreateImage, DestroyImage}
+use Rattle.egl_calls.specs.declared.kinds.EglKind.TheVariants.{Initialize, Terminate}
 use Rattle.egl_model.specs.State.{State}
 
 pub record Extent : Type 0 where
@@ -35,20 +36,11 @@ SameFlags s a = (a.first ≡ s.first) × (a.second ≡ s.second)
 
 -- the kind of the handle that a call makes
 abbrev pub made_handle : EglKind → Option HandleKind
-made_handle CreateWindowSurface = Some Surface
-made_handle CreatePbufferSurface = Some Surface
-made_handle CreateContext = Some Context
-made_handle CreateSync = Some Sync
-made_handle CreateImage = Some Image
-made_handle k = None
+made_handle k = created (egl_role k)
 
 -- the kind of the handle that a call destroys
 abbrev pub destroyed_handle : EglKind → Option HandleKind
-destroyed_handle DestroySurface = Some Surface
-destroyed_handle DestroyContext = Some Context
-destroyed_handle DestroySync = Some Sync
-destroyed_handle DestroyImage = Some Image
-destroyed_handle k = None
+destroyed_handle k = destroyed (egl_role k)
 
 -- whether a call turns a display's flag
 abbrev pub turns_flag : EglKind → Bool

@@ -15,7 +15,7 @@ use Rattle.pixel_rows.specs.declared.rects.Rect.{Rect}
 use Rattle.rect_pipeline.specs.Samplers.{SamplerValue}
 use Rattle.egl_model.specs.Currents.{current_context}
 use Rattle.egl_model.specs.Draws.{drawn_rect, sampler}
-use Rattle.egl_model.specs.GlFacts.{framebuffer_facts}
+use Rattle.egl_model.specs.GlCalls.{framebuffer_facts}
 use Rattle.egl_model.specs.Parts.{Own, Private, own_of, put_own}
 use Rattle.egl_model.specs.State.{State}
 use Rattle.egl_model.specs.Step.{Stepped, bare}

@@ -12,8 +12,8 @@ use Rattle.display_table.specs.declared.handles.Handle.{Handle}
 use Rattle.egl_model.specs.State.{State, has_object, object_at, record_of}
 use Rattle.egl_model.specs.Currents.{current_context}
 use Rattle.egl_model.specs.Sweep.{is_reached}
-use Rattle.egl_model.specs.EglFacts.{egl_refusal}
-use Rattle.egl_model.specs.GlFacts.{gl_refusal}
+use Rattle.egl_model.specs.EglCalls.{egl_refusal}
+use Rattle.egl_model.specs.GlCalls.{gl_refusal}
 
 -- each object that exists is reached by a chain of references
 pub record HasNoLitter (s : State) : Type 0 where

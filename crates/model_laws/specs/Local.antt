@@ -29,7 +29,7 @@ use Rattle.egl_model.specs.Arguments.{number}
 use Rattle.egl_model.specs.State.{api_code}
 use Rattle.egl_model.specs.Displays as displays
 use Rattle.egl_model.specs.Drawing.{clears_colour, read_form, read_rect}
-use Rattle.egl_model.specs.GlFacts.{framebuffer_facts}
+use Rattle.egl_model.specs.GlCalls.{framebuffer_facts}
 use Rattle.call_rules.specs.GlRules as gl_rules
 use Rattle.call_rules.specs.GlRules.{no_gl_facts}
 use Rattle.call_rules.specs.declared.gl_facts.GlFacts.{GlFacts}

@@ -13,7 +13,7 @@ ghost use Rattle.egl_calls.specs.Calls.{CallValue};
 ghost use Rattle.egl_calls.specs.declared.entries.Entry.{Entry};
 ghost use Rattle.egl_calls.specs.declared.kinds.Kind.TheVariants.{Egl, Own};
 ghost use Rattle.egl_calls.specs.declared.kinds.EglKind.{EglKind};
-ghost use Rattle.egl_calls.specs.declared.kinds.EglKind.TheVariants.{Initialize, Terminate, CreatePbufferSurface, CreateContext, DestroySurface, DestroyContext, ReleaseThread, CreateWindowSurface, CreateSync, ClientWaitSync, CreateImage, DestroyImage};
+ghost use Rattle.egl_calls.specs.declared.kinds.EglKind.TheVariants.{Initialize, Terminate, CreatePbufferSurface, CreateContext, ReleaseThread, CreateWindowSurface, CreateSync, ClientWaitSync, CreateImage, DestroyImage};
 ghost use Rattle.egl_calls.specs.declared.kinds.GlKind.{GlKind};
 ghost use Rattle.egl_calls.specs.declared.kinds.GlKind.TheVariants.{CopyTexImage2d, DeleteTextures, TexImage2d, BufferData, DeleteBuffers, DeleteRenderbuffers, DeleteFramebuffers, RenderbufferStorage, ImageTargetTexture2d, ImageTargetRenderbufferStorage};
 ghost use Rattle.egl_calls.specs.Ranges.{unsigned};
@@ -57,8 +57,8 @@ ghost use Rattle.share_group.specs.declared.names.NameKind.TheVariants.{Texture 
 ghost use Rattle.model_laws.specs.Shapes.{shapes};
 ghost use Rattle.driver_objects.specs.declared.fences.Fence.{Fence as AFence};
 ghost use Rattle.driver_objects.specs.declared.kinds.ObjectKind.TheVariants.{Context as ContextKind};
-ghost use Rattle.egl_model.specs.EglFacts.{egl_refusal};
-ghost use Rattle.egl_model.specs.GlFacts.{copy_facts, gl_refusal, data_facts, storage_facts};
+ghost use Rattle.egl_model.specs.EglCalls.{egl_refusal};
+ghost use Rattle.egl_model.specs.GlCalls.{copy_facts, gl_refusal, data_facts, storage_facts};
 ghost use Rattle.egl_model.specs.Step.{bare, done, note_error, step};
 ghost use Rattle.egl_model.specs.Waits.{ended, is_signalled};
 ghost use Rattle.egl_model.specs.Windows.{back_of, created_window, front_of};
@@ -207,10 +207,9 @@ pub fn handles_stay_valid()
     ensures destroyed { (s : State) (t : ℕ) (k : EglKind) (c : CallValue) (kind : AHandleKind) → IsAllowedEgl s t k c → destroyed_handle k ≡ Some kind → IsRemoved s (step s t c).state (number c 1) }
 {}
 
-/// What is destroyed stays current to each thread to which it is (sections 3.5.5 and 3.7.2).
+/// What a call destroys (`destroyed_handle`) stays current to each thread to which it is (sections 3.5.5 and 3.7.2).
 pub fn what_is_destroyed_stays_current()
-    ensures surface { (s : State) (t : ℕ) (c : CallValue) → IsAllowedEgl s t DestroySurface c → KeepsCurrents s (step s t c).state }
-    ensures context { (s : State) (t : ℕ) (c : CallValue) → IsAllowedEgl s t DestroyContext c → KeepsCurrents s (step s t c).state }
+    ensures { (s : State) (t : ℕ) (k : EglKind) (c : CallValue) (kind : AHandleKind) → IsAllowedEgl s t k c → destroyed_handle k ≡ Some kind → KeepsCurrents s (step s t c).state }
 {}
 
 /// A thread that is released is as it was before its first call (section 3.12).

@@ -15,12 +15,11 @@ use Rattle.egl_calls.specs.declared.errors.Outcome.TheVariants.{Done, Waiting}
 use Rattle.egl_calls.specs.declared.kinds.Kind.{Kind}
 use Rattle.egl_calls.specs.declared.kinds.Kind.TheVariants.{Egl, Gl, Own}
 use Rattle.egl_calls.specs.declared.kinds.EglKind.{EglKind}
-use Rattle.egl_calls.specs.declared.kinds.EglKind.TheVariants.{ClientWaitSync, CreateContext, CreateImage, CreatePbufferSurface, CreateSync, CreateWindowSurface, MakeCurrent, ReleaseThread, SurfaceAttrib, SwapBuffers, WaitClient, WaitSync}
+use Rattle.egl_calls.specs.declared.kinds.EglKind.TheVariants.{SwapBuffers}
 use Rattle.egl_calls.specs.declared.kinds.GlKind.{GlKind}
-use Rattle.egl_calls.specs.declared.kinds.GlKind.TheVariants.{BindTexture, Clear, CopyTexImage2d, CopyTexSubImage2d, DeleteTextures, DrawTexi, DrawTexx, Finish, Flush, GenTextures, TexImage2d, TexParameterx, TexParameteriv, TexSubImage2d, GenBuffers, DeleteBuffers, BindBuffer, BufferData, BufferSubData, GenRenderbuffers, DeleteRenderbuffers, BindRenderbuffer, RenderbufferStorage, GenFramebuffers, DeleteFramebuffers, BindFramebuffer, FramebufferTexture2d, FramebufferRenderbuffer, ImageTargetTexture2d, ImageTargetRenderbufferStorage}
+use Rattle.egl_calls.specs.declared.kinds.GlKind.TheVariants.{Clear}
 use Rattle.egl_calls.specs.declared.kinds.OwnKind.{OwnKind}
-use Rattle.egl_calls.specs.declared.kinds.OwnKind.TheVariants.{ReadBuffer, WaitEnd}
-use Rattle.call_rules.specs.EglRules.{is_release}
+use Rattle.egl_calls.specs.declared.kinds.OwnKind.TheVariants.{ReadBuffer}
 use Rattle.context_state.specs.Calls.{apply}
 use Rattle.context_state.specs.Kinds.{context_gl_call}
 use Rattle.context_state.specs.declared.kinds.ContextCall.{ContextCall}
@@ -44,7 +43,7 @@ use Rattle.framebuffer_objects.specs.declared.framebuffers.Attached.{Attached}
 use Rattle.framebuffer_objects.specs.declared.points.Point.{Point}
 use Rattle.egl_image.specs.declared.images.EglImage.{EglImage}
 use Rattle.driver_objects.specs.declared.renderbuffers.BackedRenderbuffer.{BackedRenderbuffer}
-use Rattle.egl_model.specs.Renderbuffers.{new_kind, new_pixels, stored_as, target_renderbuffer}
+use Rattle.egl_model.specs.Renderbuffers.{stored_as}
 use Rattle.driver_objects.specs.Targets.{buffer_target, name_kind}
 use Rattle.driver_objects.specs.declared.targets.BindTarget.{BindTarget}
 use Rattle.driver_objects.specs.declared.targets.BindTarget.TheVariants.{Texture as TextureTarget, Renderbuffer as RenderbufferTarget, Framebuffer as FramebufferTarget}
@@ -53,23 +52,20 @@ use Rattle.display_table.specs.declared.handles.Handle.{Handle}
 use Rattle.pixel_rows.specs.Images.{ImageValue}
 use Rattle.pixel_rows.specs.declared.rects.Rect.{Rect}
 use Rattle.rect_pipeline.specs.Samplers.{SamplerValue}
-use Rattle.egl_model.specs.Copies.{copied_from, copied_level, copied_part_from, copies_nothing, read_image}
-use Rattle.egl_model.specs.Draws.{draw_into, drawn_rect, sampler}
-use Rattle.egl_model.specs.Arguments.{number}
-use Rattle.egl_model.specs.Currents.{bound_surface, current_context, part_of_context}
-use Rattle.egl_model.specs.Drawing.{clear_storage, clears_colour}
-use Rattle.egl_model.specs.EglEffects.{egl_effect}
-use Rattle.egl_model.specs.EglFacts.{egl_refusal}
+use Rattle.egl_model.specs.Copies.{copied_from, copied_level, copied_part_from}
+use Rattle.egl_model.specs.Draws.{draw_into}
+use Rattle.egl_model.specs.Currents.{bound_surface, current_context}
+use Rattle.egl_model.specs.Drawing.{clear_storage}
+use Rattle.egl_model.specs.EglCalls.{egl_effect, egl_refusal}
 use Rattle.egl_model.specs.Effects.{outcome_of}
 use Rattle.egl_model.specs.Flushes.{flush_in}
-use Rattle.egl_model.specs.GlEffects.{effect_by, gl_effect, object_effect}
-use Rattle.egl_model.specs.GlFacts.{gl_refusal}
+use Rattle.egl_model.specs.GlCalls.{effect_by, gl_effect, object_effect, gl_refusal}
 use Rattle.egl_model.specs.Graph.{reached}
-use Rattle.egl_model.specs.MakeCurrent.{bind, bound_anew, bound_by, context_handle, draw_handle, first_use, read_handle, unbound}
-use Rattle.egl_model.specs.Bindings.{bound_framebuffer_in, bound_named, bound_object, deleted_in, deleted_name, detached_from, detached_on, freed, unbound_in}
-use Rattle.egl_model.specs.Buffers.{set_data, set_part_of, target_buffer}
-use Rattle.egl_model.specs.Framebuffers.{attached, bound_framebuffer, called_point, given_attachment, target_framebuffer}
-use Rattle.egl_model.specs.Images.{add_image, levels_dropped, renderbuffer_of_image, source_storage, target_image, texture_of_image}
+use Rattle.egl_model.specs.MakeCurrent.{first_use}
+use Rattle.egl_model.specs.Bindings.{bound_framebuffer_in, bound_name, bound_named, bound_object, deleted_in, deleted_name, deleted_names, detached_from, detached_on, freed, unbound_in}
+use Rattle.egl_model.specs.Buffers.{set_data, set_part_of}
+use Rattle.egl_model.specs.Framebuffers.{attached}
+use Rattle.egl_model.specs.Images.{add_image, levels_dropped, renderbuffer_of_image, texture_of_image}
 use Rattle.egl_model.specs.Names.{group_of, object_named}
 use Rattle.egl_model.specs.Objects.{as_buffer, as_framebuffer, as_renderbuffer, as_storage, as_texture, change_buffer, change_framebuffer, change_renderbuffer, change_context, change_fence, change_group, change_part, change_storage, change_surface, change_texture, framebuffer_in, with_context, with_fence, with_framebuffer, with_group, with_part, with_surface}
 use Rattle.egl_model.specs.OwnCalls.{buffer_effect, buffer_refusal}
@@ -77,14 +73,14 @@ use Rattle.egl_model.specs.State.{State, record_of}
 use Rattle.egl_model.specs.Step.{Stepped, after_egl_rules, after_gl_rules, buffer_step_on, egl_step, gl_step, gl_step_on, own_step, step, step_by, step_in, wait_step}
 use Rattle.egl_model.specs.Surfaces.{with_behavior}
 use Rattle.egl_model.specs.Sweep.{edges_at, sweep, swept}
-use Rattle.egl_model.specs.Syncs.{add_sync, asks_for_flush, client_waited, flush_for, has_to_wait, serve, sync_handle}
+use Rattle.egl_model.specs.Syncs.{add_sync, asks_for_flush, client_waited, flush_for, has_to_wait, serve}
 use Rattle.egl_model.specs.Textures as calls
 use Rattle.egl_model.specs.Textures.{change_pixels}
 use Rattle.egl_model.specs.Waits.{is_signalled, is_wait_end, waiting}
 use Rattle.egl_model.specs.Windows.{swapped_surface, swapped_with}
 use Rattle.model_laws.proofs.SweepLaws.{length-swept, object_at-swept}
 use Rattle.driver_facts.proofs.TouchLaws.{gl_never_waits}
-use Rattle.driver_facts.specs.Touches.{buffer_touches_on, drawing, egl_touches, front, gl_touches, gl_touches_on, is_attached, nothing, object, object_touches, own_touches, swap_of, swap_with, target_objects, touches_by, touches_by_class, touches_of}
+use Rattle.driver_facts.specs.Touches.{buffer_touches_on, deletion_touches, drawing, egl_touches, front, gl_touches, gl_touches_on, is_attached, nothing, object, object_touches, own_touches, swap_of, swap_with, touches_by, touches_by_class, touches_of}
 use Rattle.race_report.specs.Writes.{IsAsItWas, IsWrittenBy, Shows, Spares, StaysOrGoes}
 use Rattle.driver_facts.specs.declared.touches.Touches.{Touches}
 use Rattle.race_report.proofs.DetachLaws.{CountsDetached, counts_all, counts_later, unattached}
@@ -308,39 +304,31 @@ kept-first_use : (o draw : Option Handle) (os : List (Option Object)) → Kept [
 kept-first_use None draw os = kept_self [] os
 kept-first_use (Some h) draw os = kept-part [] _ h.object os
 
-told-bound : (s : State) (t : ℕ) (c : CallValue) (b : Bool) → Told [] s (if b then unbound s t else bind (record s { objects = first_use (context_handle s c) (draw_handle s c) s.objects }) t (bound_by (context_handle s c)) (bound_by (draw_handle s c)) (bound_by (read_handle s c)))
-told-bound s t c true = tells_self [] s.objects s.windows
-told-bound s t c false = with_objects [] s.objects _ s.windows (kept-first_use (context_handle s c) (draw_handle s c) s.objects)
-
 kept-flush_if : (b : Bool) (o : Option ℕ) (os : List (Option Object)) → Kept [] os (if b then flush_in o os else os)
 kept-flush_if true o os = kept-flush [] o os
 kept-flush_if false o os = kept_self [] os
 
-told-waits : (os : List (Option Object)) (vs : List WindowValue) (a b : State) (w : Bool) → Tells [] os vs a.objects a.windows → Tells [] os vs b.objects b.windows → Tells [] os vs (if w then a else b).objects (if w then a else b).windows
-told-waits os vs a b true f g = f
-told-waits os vs a b false f g = g
+told-either : (ws : List ℤ) (os : List (Option Object)) (vs : List WindowValue) (b : Bool) (a d : State) → Tells ws os vs a.objects a.windows → Tells ws os vs d.objects d.windows → Tells ws os vs (if b then a else d).objects (if b then a else d).windows
+told-either ws os vs true a d f g = f
+told-either ws os vs false a d f g = g
 
 told-client : (s : State) (c : CallValue) (t : ℕ) (o : Option Handle) → Told [] s (client_waited c t o s).state
 told-client s c t None = tells_self [] s.objects s.windows
 told-client s c t (Some h) =
     let b = flush_for c t h.object s in
     let k : Told [] s b = with_objects [] s.objects b.objects s.windows (kept-flush_if (asks_for_flush c && not (is_signalled s h.object)) (current_context s t) s.objects) in
-    told-waits s.objects s.windows (waiting b t (Some h.object)) b (has_to_wait c h.object b) k k
+    told-either [] s.objects s.windows (has_to_wait c h.object b) (waiting b t (Some h.object)) b k k
+
+-- what an effect leaves, with a context flushed
+told-flushed : (ws : List ℤ) (os ps : List (Option Object)) (vs us : List WindowValue) (o : Option ℕ) → Tells ws os vs ps us → Tells ws os vs (flush_in o ps) us
+told-flushed ws os ps vs us o f = tells_then ws os ps (flush_in o ps) vs us f (kept-flush ws o ps)
+
+-- what calls of EGL do to objects but for a swap: each of these moves spares what others may write
+ruleset egl_moves = (tells_self, with_objects, kept_more, kept-flush, kept-first_use, told-flushed, told-either, told-behavior, told-sync, told-serve, told-image, told-client)
 
 told-egl : (s : State) (t : ℕ) (c : CallValue) (k : EglKind) → Told (egl_touches s t k).writes s (egl_effect s t k c).state
-told-egl s t c CreateWindowSurface = with_objects [] s.objects _ s.windows (kept_more [] s.objects _)
-told-egl s t c CreatePbufferSurface = with_objects [] s.objects _ s.windows (kept_more [] s.objects _)
-told-egl s t c CreateContext = with_objects [] s.objects _ s.windows (kept_more [] s.objects _)
-told-egl s t c SurfaceAttrib = told-behavior s c _
-told-egl s t c MakeCurrent = tells_then [] s.objects (bound_anew s t c).objects _ s.windows _ (told-bound s t c (is_release c)) (kept-flush [] (current_context s t) (bound_anew s t c).objects)
-told-egl s t c SwapBuffers = let o = bound_surface s (record_of s t).draw in tells_then (swap_of o).writes s.objects (swapped_surface o s).objects _ s.windows _ (told-swap s o) (kept-flush (swap_of o).writes _ (swapped_surface o s).objects)
-told-egl s t c WaitClient = with_objects [] s.objects _ s.windows (kept-flush [] (current_context s t) s.objects)
-told-egl s t c CreateSync = told-sync s (number c 0) (current_context s t)
-told-egl s t c ClientWaitSync = told-client s c t (sync_handle s c)
-told-egl s t c WaitSync = told-serve s (sync_handle s c)
-told-egl s t c CreateImage = told-image s (number c 0) (source_storage s c)
-told-egl s t c ReleaseThread = with_objects [] s.objects _ s.windows (kept-flush [] (current_context s t) s.objects)
-told-egl s t c k = tells_self [] s.objects s.windows
+told-egl s t c SwapBuffers = let o = bound_surface s (record_of s t).draw in let a = swapped_surface o s in told-flushed (swap_of o).writes s.objects a.objects s.windows a.windows (current_context a t) (told-swap s o)
+told-egl s t c k = search egl_moves
 
 -- ---- Calls of OpenGL ES.
 has_object : (n : ℕ) → Contains (object (Some n)) (pos n)
@@ -449,38 +437,49 @@ told-copied_part s c from (Some n) = with_objects (object (Some n)) s.objects _ 
 told-part : (ws : List ℤ) (s : State) (n : ℕ) (f : PartValue → PartValue) → Told ws s (record s { objects = change_part f n s.objects })
 told-part ws s n f = with_objects ws s.objects _ s.windows (kept-part ws f n s.objects)
 
+-- a binding, and further down a deletion, for each kind of object: of an effect that is worked out the search can't read the kind
+told-bound_texture : (s : State) (n name : ℕ) → Told [] s (bound_name TextureTarget s n name)
+told-bound_texture s n name = told-bind s TextureTarget n name (name == 0)
+
+told-bound_buffer : (s : State) (n name target : ℕ) → Told [] s (bound_name (buffer_target target) s n name)
+told-bound_buffer s n name target = told-bind s (buffer_target target) n name (name == 0)
+
+told-bound_renderbuffer : (s : State) (n name : ℕ) → Told [] s (bound_name RenderbufferTarget s n name)
+told-bound_renderbuffer s n name = told-bind s RenderbufferTarget n name (name == 0)
+
+told-bound_framebuffer : (s : State) (n name : ℕ) → Told [] s (bound_name FramebufferTarget s n name)
+told-bound_framebuffer s n name = told-bind s FramebufferTarget n name (name == 0)
+
+told-deletion : (k : NameKind) (s : State) (n : ℕ) (xs : List ℤ) → Told (deletion_touches s n k xs).writes s (deleted_names k s n xs)
+told-deletion k s n xs = told-deleted _ k (group_of s n) n xs s (counts_all k s n xs)
+
+told-deleted_textures : (s : State) (n : ℕ) (xs : List ℤ) → Told (deletion_touches s n textures xs).writes s (deleted_names textures s n xs)
+told-deleted_textures s n xs = told-deletion textures s n xs
+
+told-deleted_buffers : (s : State) (n : ℕ) (xs : List ℤ) → Told (deletion_touches s n buffers xs).writes s (deleted_names buffers s n xs)
+told-deleted_buffers s n xs = told-deletion buffers s n xs
+
+told-deleted_renderbuffers : (s : State) (n : ℕ) (xs : List ℤ) → Told (deletion_touches s n renderbuffers xs).writes s (deleted_names renderbuffers s n xs)
+told-deleted_renderbuffers s n xs = told-deletion renderbuffers s n xs
+
+told-deleted_framebuffers : (s : State) (n : ℕ) (xs : List ℤ) → Told (deletion_touches s n framebuffers xs).writes s (deleted_names framebuffers s n xs)
+told-deleted_framebuffers s n xs = told-deletion framebuffers s n xs
+
+-- what calls on objects do is made of these
+ruleset bindings = (told-bound_texture, told-bound_buffer, told-bound_renderbuffer, told-bound_framebuffer)
+
+ruleset deletions = (told-deleted_textures, told-deleted_buffers, told-deleted_renderbuffers, told-deleted_framebuffers)
+
+ruleset pixels = (told-clear, told-draw, told-specified, told-rewritten, told-copied, told-copied_part, told-texture_image, told-stored, told-renderbuffer_image)
+
+ruleset settings = (told-parameter, told-crop, told-data, told-part_of, told-attached)
+
+ruleset object_moves = (tells_self, with_objects, kept-group, kept-flush, bindings, deletions, pixels, settings)
+
 told-object : (s : State) (t n : ℕ) (c : CallValue) (k : GlKind) → Told (object_touches s t n k c).writes s (object_effect s t n k c).state
-told-object s t n c Flush = with_objects [] s.objects _ s.windows (kept-flush [] (Some n) s.objects)
-told-object s t n c Finish = with_objects [] s.objects _ s.windows (kept-flush [] (Some n) s.objects)
-told-object s t n c Clear = told-clear s (part_of_context s n) (target_objects s n) (bound_framebuffer s t).draw (clears_colour c)
-told-object s t n c GenTextures = with_objects [] s.objects _ s.windows (kept-group [] _ (group_of s n) s.objects)
-told-object s t n c DeleteTextures = told-deleted _ textures (group_of s n) n c.list s (counts_all textures s n c.list)
-told-object s t n c BindTexture = told-bind s TextureTarget n (number c 1) (number c 1 == 0)
-told-object s t n c TexParameterx = told-parameter s (number c 1) (number c 2) (calls.target_texture s n)
-told-object s t n c TexParameteriv = told-crop s c.list (calls.target_texture s n)
-told-object s t n c TexImage2d = told-specified s (calls.level_of c) (calls.new_level c (calls.unpack_alignment s n)) (calls.target_texture s n)
-told-object s t n c TexSubImage2d = told-rewritten s c (calls.unpack_alignment s n) (calls.level_storage s n (calls.level_of c))
-told-object s t n c DrawTexi = told-draw s (part_of_context s n) (bound_framebuffer s t).draw (sampler s n (drawn_rect DrawTexi c)) (drawn_rect DrawTexi c)
-told-object s t n c DrawTexx = told-draw s (part_of_context s n) (bound_framebuffer s t).draw (sampler s n (drawn_rect DrawTexx c)) (drawn_rect DrawTexx c)
-told-object s t n c CopyTexImage2d = told-copied s c (copies_nothing c) (read_image s t) (calls.target_texture s n)
-told-object s t n c CopyTexSubImage2d = told-copied_part s c (read_image s t) (calls.level_storage s n (calls.level_of c))
-told-object s t n c GenBuffers = with_objects [] s.objects _ s.windows (kept-group [] _ (group_of s n) s.objects)
-told-object s t n c DeleteBuffers = told-deleted _ buffers (group_of s n) n c.list s (counts_all buffers s n c.list)
-told-object s t n c BindBuffer = told-bind s (buffer_target (number c 0)) n (number c 1) (number c 1 == 0)
-told-object s t n c BufferData = told-data s c (target_buffer s n c)
-told-object s t n c BufferSubData = told-part_of s c (target_buffer s n c)
-told-object s t n c GenRenderbuffers = with_objects [] s.objects _ s.windows (kept-group [] _ (group_of s n) s.objects)
-told-object s t n c DeleteRenderbuffers = told-deleted _ renderbuffers (group_of s n) n c.list s (counts_all renderbuffers s n c.list)
-told-object s t n c BindRenderbuffer = told-bind s RenderbufferTarget n (number c 1) (number c 1 == 0)
-told-object s t n c RenderbufferStorage = told-stored s (new_kind c) (new_pixels c) (target_renderbuffer s n)
-told-object s t n c GenFramebuffers = with_objects [] s.objects _ s.windows (kept-group [] _ (group_of s n) s.objects)
-told-object s t n c DeleteFramebuffers = told-deleted _ framebuffers (group_of s n) n c.list s (counts_all framebuffers s n c.list)
-told-object s t n c BindFramebuffer = told-bind s FramebufferTarget n (number c 1) (number c 1 == 0)
-told-object s t n c FramebufferTexture2d = told-attached s (called_point c) (given_attachment textures s n c) (target_framebuffer s n)
-told-object s t n c FramebufferRenderbuffer = told-attached s (called_point c) (given_attachment renderbuffers s n c) (target_framebuffer s n)
-told-object s t n c ImageTargetTexture2d = told-texture_image s (target_image s n c) (calls.target_texture s n)
-told-object s t n c ImageTargetRenderbufferStorage = told-renderbuffer_image s (target_image s n c) (target_renderbuffer s n)
-told-object s t n c k = tells_self _ s.objects s.windows
+-- one call is named, so that each other is a case of its own
+told-object s t n c Clear = search object_moves
+told-object s t n c k = search object_moves
 
 told_by-gl : (o : Option ContextCall) (s : State) (t n : ℕ) (c : CallValue) (k : GlKind) → Told (touches_by_class o s t n k c).writes s (effect_by o s t n k c).state
 told_by-gl (Some own) s t n c k = told-part [] s n (λ p. (apply c p).part)
@@ -528,8 +527,7 @@ buffer_on s t c (Some n) = buffer_ruled s t n c (buffer_refusal s t n c)
 
 own_told : (s : State) (t : ℕ) (c : CallValue) (k : OwnKind) → ToldBy (own_touches s t k c) s (own_step s t k c)
 own_told s t c ReadBuffer = buffer_on s t c (current_context s t)
-own_told s t c WaitEnd = tells_self [] s.objects s.windows
-own_told s t c k = tells_self (own_touches s t k c).writes s.objects s.windows
+own_told s t c k = tells_self _ s.objects s.windows
 
 kind_told : (s : State) (t : ℕ) (c : CallValue) (k : Kind) → ToldBy (touches_by s t k c) s (step_by s t k c)
 unfolding egl_step gl_step

@@ -7,8 +7,11 @@ use Rattle.egl_calls.specs.Calls.{CallValue, ReplyValue}
 use Rattle.egl_calls.specs.declared.entries.Entry.{Entry}
 use Rattle.egl_calls.specs.declared.kinds.Kind.{Kind}
 use Rattle.egl_calls.specs.declared.kinds.Kind.TheVariants.{Egl, Own}
-use Rattle.egl_calls.specs.declared.kinds.EglKind.TheVariants.{CreateSync, ClientWaitSync, WaitSync}
 use Rattle.egl_calls.specs.declared.kinds.OwnKind.TheVariants.{WaitEnd}
+use Rattle.call_table.specs.Rows.{egl_role}
+use Rattle.call_table.specs.declared.roles.Role.{Role}
+use Rattle.call_table.specs.declared.roles.Role.TheVariants.{Creates, ClientWaits, ServerWaits}
+use Rattle.display_table.specs.declared.handles.HandleKind.TheVariants.{Sync}
 use Rattle.egl_names.specs.declared.codes.TheConstants.{EGL_CONDITION_SATISFIED}
 use Rattle.egl_calls.specs.declared.places.TheConstants.{NAMED, POSTED}
 use Rattle.egl_model.specs.Arguments.{number}
@@ -53,14 +56,18 @@ used_places lines journal uses = filter_map (λ r. variable_place lines journal 
 abbrev pub awaited_place : List Entry → CallValue → Option ℕ
 awaited_place journal c = if is_await c.kind then position_from (posts (number c POSTED)) 0 journal else None
 
--- ---- Syncs.
-abbrev pub is_create_sync : Kind → Bool
-is_create_sync (Egl CreateSync) = true
-is_create_sync k = false
+-- ---- Syncs. What a call has to do with one is said by its role.
+abbrev pub is_sync_creation : Role → Bool
+is_sync_creation (Creates Sync) = true
+is_sync_creation r = false
+
+unfoldable pub creates_sync : Kind → Bool
+creates_sync (Egl k) = is_sync_creation (egl_role k)
+creates_sync k = false
 
 -- an entry made the sync with this handle, which no other has
 abbrev pub makes : ℤ → Entry → Bool
-makes handle e = is_create_sync e.call.kind && is_done e.reply.outcome && int_eq e.reply.value handle
+makes handle e = creates_sync e.call.kind && is_done e.reply.outcome && int_eq e.reply.value handle
 
 -- an entry began the wait that another ends
 abbrev pub begins : Entry → Entry → Bool
@@ -77,10 +84,15 @@ abbrev pub named_by : Option Entry → Option ℤ
 named_by None = None
 named_by (Some b) = Some (named b.call)
 
--- the sync behind whose signal an entry stands: a client wait that was answered so, the end of one, or a wait of the server
-abbrev pub waited_by : List Entry → Entry → Kind → Option ℤ
-waited_by journal e (Egl ClientWaitSync) = if is_satisfied e.reply then Some (named e.call) else None
-waited_by journal e (Egl WaitSync) = if is_done e.reply.outcome then Some (named e.call) else None
+-- the sync behind whose signal a call of a role stands: a client wait that was answered so, or a wait of the server
+abbrev pub waited_as : Role → Entry → Option ℤ
+waited_as ClientWaits e = if is_satisfied e.reply then Some (named e.call) else None
+waited_as ServerWaits e = if is_done e.reply.outcome then Some (named e.call) else None
+waited_as r e = None
+
+-- the same of any entry; the end of a client wait stands behind the signal of the sync that its begin names
+unfoldable pub waited_by : List Entry → Entry → Kind → Option ℤ
+waited_by journal e (Egl k) = waited_as (egl_role k) e
 waited_by journal e (Own WaitEnd) = if is_done e.reply.outcome then named_by (find (begins e) journal) else None
 waited_by journal e k = None
 

@@ -6,12 +6,12 @@ ghost use Rattle.egl_model.specs.Arguments.{number};
 ghost use Rattle.trace_model.specs.Resolve.{answers, assigns};
 ghost use Rattle.trace_model.specs.Turns.{posts};
 ghost use Rattle.egl_calls.specs.Errors.{is_done, is_waiting};
-ghost use Rattle.race_report.specs.Leading.{last_from, variable_place, ArePlaces, is_played_by, uses_of, used_places, awaited_place, makes, begins, is_satisfied, named_by, waited_by, maker_place, behind_of};
+ghost use Rattle.race_report.specs.Leading.{last_from, variable_place, ArePlaces, is_played_by, uses_of, used_places, awaited_place, is_sync_creation, creates_sync, makes, begins, is_satisfied, named_by, waited_as, waited_by, maker_place, behind_of};
 
+use call_table::{Role, egl_role};
+use display_table::HandleKind;
 use egl_calls::places::{NAMED, POSTED};
-use egl_calls::{
-    Call, EglKind, Entry, Kind, List, NoMemory, OwnKind, Reply, is_done, is_waiting, unsigned,
-};
+use egl_calls::{Call, Entry, Kind, List, NoMemory, OwnKind, Reply, is_done, is_waiting, unsigned};
 use egl_names::codes::EGL_CONDITION_SATISFIED;
 use std::alloc::Global;
 use trace_reader::{Line, Reference};
@@ -188,12 +188,26 @@ fn awaited_place(entries: &[Entry], call: &Call) -> Option<u64>
     None
 }
 
+fn is_sync_creation(role: Role) -> bool
+    ensures { result ≡ is_sync_creation role }
+{
+    matches!(role, Role::Creates(HandleKind::Sync))
+}
+
+#[tactic(auto, unfolding(crate::specs::Leading::creates_sync))]
+fn creates_sync(kind: Kind) -> bool
+    ensures { result ≡ creates_sync kind }
+{
+    match kind {
+        Kind::Egl(kind) => is_sync_creation(egl_role(kind)),
+        _ => false,
+    }
+}
+
 fn makes(handle: i64, entry: &Entry) -> bool
     ensures { result ≡ makes handle entry.now }
 {
-    matches!(entry.call.kind, Kind::Egl(EglKind::CreateSync))
-        && is_done(entry.reply.outcome)
-        && entry.reply.value == handle
+    creates_sync(entry.call.kind) && is_done(entry.reply.outcome) && entry.reply.value == handle
 }
 
 /// The place of the entry that made a sync.
@@ -235,25 +249,29 @@ fn is_satisfied(reply: &Reply) -> bool
     is_done(reply.outcome) && reply.value == EGL_CONDITION_SATISFIED as i64
 }
 
+/// The sync behind whose signal a call of a role stands.
+fn waited_as(role: Role, entry: &Entry) -> Option<i64>
+    ensures { result ≡ waited_as role entry.now }
+{
+    let has_waited = match role {
+        Role::ClientWaits => is_satisfied(&entry.reply),
+        Role::ServerWaits => is_done(entry.reply.outcome),
+        _ => false,
+    };
+    if has_waited {
+        Some(entry.call.args[NAMED])
+    } else {
+        None
+    }
+}
+
 /// The sync behind whose signal an entry stands.
+#[tactic(auto, unfolding(crate::specs::Leading::waited_by))]
 fn waited_by(entries: &[Entry], entry: &Entry) -> Option<i64>
     ensures { result ≡ waited_by entries.now entry.now entry.now.call.kind }
 {
     match entry.call.kind {
-        Kind::Egl(EglKind::ClientWaitSync) => {
-            if is_satisfied(&entry.reply) {
-                Some(entry.call.args[NAMED])
-            } else {
-                None
-            }
-        }
-        Kind::Egl(EglKind::WaitSync) => {
-            if is_done(entry.reply.outcome) {
-                Some(entry.call.args[NAMED])
-            } else {
-                None
-            }
-        }
+        Kind::Egl(kind) => waited_as(egl_role(kind), entry),
         Kind::Own(OwnKind::WaitEnd) => {
             if is_done(entry.reply.outcome) {
                 begun_with(entries, entry)

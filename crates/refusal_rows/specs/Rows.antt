@@ -12,6 +12,10 @@ infix 6 ◌⇒◌
 abbrev pub ◌⇒◌ : {E : Type 0} → Bool → E → Row E
 b ⇒ e = (b, e)
 
+-- the row of a rule: its condition is tested
+abbrev pub row_of : {C E : Type 0} → (C → Bool) → C × E → Row E
+row_of holds r = (holds r.0, r.1)
+
 -- the error of the first row that holds
 abbrev pub first_error : {E : Type 0} → List (Row E) → Option E
 first_error [] = None

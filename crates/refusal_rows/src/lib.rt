@@ -5,4 +5,4 @@
 
 mod rows;
 
-pub use rows::{Holding, MOST_ROWS, Verdict};
+pub use rows::{Holding, Judge, MOST_ROWS, Verdict};

@@ -18,8 +18,8 @@ use Rattle.trace_reader.specs.NumberWords.{argument_number}
 use Rattle.trace_reader.specs.Payloads.{are_byte_digits, hex_bytes, payload}
 use Rattle.trace_reader.specs.References.{is_reference, used_in}
 use Rattle.trace_reader.specs.Words.{is_word}
-use Rattle.trace_reader.specs.declared.call_names.Form.{Form}
-use Rattle.trace_reader.specs.declared.call_names.Form.TheVariants.{Number, NumberOrVariable, AttributeList, NumberList, Payload}
+use Rattle.call_table.specs.declared.forms.Form.{Form}
+use Rattle.call_table.specs.declared.forms.Form.TheVariants.{Number, NumberOrVariable, AttributeList, NumberList, Payload}
 use Rattle.journal_text.proofs.WordLaws.{From, bracketed, from_less, hex_long, hex_written, items_written, list_written, no_first, number_written, within}
 use Rattle.journal_text.specs.Written.{IsByte, IsLong}
 use Rattle.scene_trace.specs.Lines.{payload_text}

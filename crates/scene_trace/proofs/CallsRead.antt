@@ -17,7 +17,7 @@ use Rattle.trace_reader.specs.Numerals.{numeral}
 use Rattle.trace_reader.specs.Payloads.{most_line_payload, payload_bytes}
 use Rattle.trace_reader.specs.Reasons.{provided}
 use Rattle.trace_reader.specs.Words.{begins_with, is_word, word_at}
-use Rattle.trace_reader.specs.declared.call_names.Form.{Form}
+use Rattle.call_table.specs.declared.forms.Form.{Form}
 use Rattle.trace_reader.specs.declared.traces.Line.{Line}
 use Rattle.trace_reader.specs.declared.traces.Reason.{Reason}
 use Rattle.trace_reader.specs.declared.traces.Reason.TheVariants.{Limit, Variable}

@@ -1,7 +1,7 @@
 -- Calls that use a place take no memory, and begin no wait.
 use Rattle.std.proofs.Common.{◌≡◌, ℕ, true, false, cond, refl, ap}
 use Rattle.egl_calls.specs.Errors.{is_waiting}
-use Rattle.std.specs.Prelude.{Option, None, Some}
+use Rattle.std.specs.Prelude.{not, ◌||◌, Bool, Option, None, Some}
 use Rattle.egl_calls.specs.Calls.{CallValue}
 use Rattle.egl_calls.specs.declared.errors.EglError.{EglError}
 use Rattle.egl_calls.specs.declared.errors.GlError.{GlError}
@@ -9,20 +9,21 @@ use Rattle.egl_calls.specs.declared.errors.Outcome.TheVariants.{Done, Waiting}
 use Rattle.egl_calls.specs.declared.kinds.Kind.{Kind}
 use Rattle.egl_calls.specs.declared.kinds.Kind.TheVariants.{Egl, Gl, Own}
 use Rattle.egl_calls.specs.declared.kinds.EglKind.{EglKind}
-use Rattle.egl_calls.specs.declared.kinds.EglKind.TheVariants.{Terminate, DestroySurface, DestroyContext, DestroySync, DestroyImage, ReleaseThread, WaitClient}
+use Rattle.egl_calls.specs.declared.kinds.EglKind.TheVariants.{ClientWaitSync}
 use Rattle.egl_calls.specs.declared.kinds.GlKind.{GlKind}
-use Rattle.egl_calls.specs.declared.kinds.GlKind.TheVariants.{Flush, Finish, DeleteTextures, DeleteBuffers, DeleteRenderbuffers, DeleteFramebuffers}
+use Rattle.egl_calls.specs.declared.kinds.GlKind.TheVariants.{ReadPixels}
 use Rattle.egl_calls.specs.declared.kinds.OwnKind.TheVariants.{Halt}
+use Rattle.call_table.specs.Roles.{lets_go}
+use Rattle.call_table.specs.Rows.{egl_role, gl_role}
 use Rattle.egl_model.specs.Currents.{current_context}
 use Rattle.egl_model.specs.Effects.{Effect}
-use Rattle.egl_model.specs.EglEffects.{egl_effect}
-use Rattle.egl_model.specs.EglFacts.{egl_refusal}
-use Rattle.egl_model.specs.GlEffects.{gl_effect}
-use Rattle.egl_model.specs.GlFacts.{gl_refusal}
+use Rattle.egl_model.specs.EglCalls.{egl_effect, egl_refusal}
+use Rattle.egl_model.specs.GlCalls.{gl_effect, gl_refusal}
 use Rattle.egl_model.specs.State.{State, record_of}
 use Rattle.egl_model.specs.Step.{after_egl_rules, after_gl_rules, egl_step, gl_step, gl_step_on, step, step_by, step_in, wait_step}
 use Rattle.egl_model.specs.Waits.{is_signalled, is_wait_end}
-use Rattle.driver_facts.specs.Memory.{takes_no_memory}
+use Rattle.driver_facts.proofs.TouchLaws.{gl_never_waits}
+use Rattle.driver_facts.specs.Memory.{egl_takes_no_memory, gl_takes_no_memory, takes_no_memory}
 use Rattle.shared_driver.specs.Cores.{takes_place}
 
 egl_waits : (s : State) (t : ℕ) (o : Option EglError) (f : Effect) → f.waits ≡ false → is_waiting (after_egl_rules s t o f).reply.outcome ≡ false
@@ -45,22 +46,13 @@ of_gl : (s : State) (t : ℕ) (k : GlKind) (c : CallValue) → ((n : ℕ) → (g
 unfolding gl_step
 of_gl s t k c h = gl_on s t (current_context s t) k c h
 
+-- of EGL one call alone may wait, and it uses no place
 by_kind : (s : State) (t : ℕ) (k : Kind) (c : CallValue) → takes_place k ≡ true → is_waiting (step_by s t k c).reply.outcome ≡ false
-by_kind s t (Egl Terminate) c h = of_egl s t Terminate c refl
-by_kind s t (Egl DestroySurface) c h = of_egl s t DestroySurface c refl
-by_kind s t (Egl DestroyContext) c h = of_egl s t DestroyContext c refl
-by_kind s t (Egl DestroySync) c h = of_egl s t DestroySync c refl
-by_kind s t (Egl DestroyImage) c h = of_egl s t DestroyImage c refl
-by_kind s t (Egl ReleaseThread) c h = of_egl s t ReleaseThread c refl
-by_kind s t (Egl WaitClient) c h = of_egl s t WaitClient c refl
-by_kind s t (Gl Flush) c h = of_gl s t Flush c (λ n. refl)
-by_kind s t (Gl Finish) c h = of_gl s t Finish c (λ n. refl)
-by_kind s t (Gl DeleteTextures) c h = of_gl s t DeleteTextures c (λ n. refl)
-by_kind s t (Gl DeleteBuffers) c h = of_gl s t DeleteBuffers c (λ n. refl)
-by_kind s t (Gl DeleteRenderbuffers) c h = of_gl s t DeleteRenderbuffers c (λ n. refl)
-by_kind s t (Gl DeleteFramebuffers) c h = of_gl s t DeleteFramebuffers c (λ n. refl)
+by_kind s t (Egl ClientWaitSync) c h = absurd (let e : false ≡ true = h in cc)
+by_kind s t (Egl k) c h = of_egl s t k c refl
+by_kind s t (Gl k) c h = of_gl s t k c (λ n. gl_never_waits s t n c k)
 by_kind s t (Own Halt) c h = refl
-by_kind s t k c h = absurd (let e : false ≡ true = h in cc)
+by_kind s t (Own k) c h = absurd (let e : false ≡ true = h in cc)
 
 not_end : (k : Kind) → takes_place k ≡ true → is_wait_end k ≡ false
 not_end (Egl k) h = refl
@@ -76,19 +68,21 @@ pub never_waits : (s : State) (t : ℕ) (c : CallValue) → takes_place c.kind �
 unfolding step
 never_waits s t c h = in_wait (record_of s t).wait s t c h
 
+-- ---- Where a role lets go, no memory is taken.
+implied : (a b : Bool) → (not a || b) ≡ true → a ≡ true → b ≡ true
+implied true b e h = e
+implied false b e h = absurd (let f : false ≡ true = h in cc)
+
+egl_memory : (k : EglKind) → (not (lets_go (egl_role k)) || egl_takes_no_memory k) ≡ true
+egl_memory ClientWaitSync = refl
+egl_memory k = refl
+
+gl_memory : (k : GlKind) → (not (lets_go (gl_role k)) || gl_takes_no_memory k) ≡ true
+gl_memory ReadPixels = refl
+gl_memory k = refl
+
 pub place_memory : (k : Kind) → takes_place k ≡ true → takes_no_memory k ≡ true
-place_memory (Egl Terminate) h = refl
-place_memory (Egl DestroySurface) h = refl
-place_memory (Egl DestroyContext) h = refl
-place_memory (Egl DestroySync) h = refl
-place_memory (Egl DestroyImage) h = refl
-place_memory (Egl ReleaseThread) h = refl
-place_memory (Egl WaitClient) h = refl
-place_memory (Gl Flush) h = refl
-place_memory (Gl Finish) h = refl
-place_memory (Gl DeleteTextures) h = refl
-place_memory (Gl DeleteBuffers) h = refl
-place_memory (Gl DeleteRenderbuffers) h = refl
-place_memory (Gl DeleteFramebuffers) h = refl
+place_memory (Egl k) h = implied (lets_go (egl_role k)) (egl_takes_no_memory k) (egl_memory k) h
+place_memory (Gl k) h = implied (lets_go (gl_role k)) (gl_takes_no_memory k) (gl_memory k) h
 place_memory (Own Halt) h = refl
-place_memory k h = absurd (let e : false ≡ true = h in cc)
+place_memory (Own k) h = absurd (let e : false ≡ true = h in cc)

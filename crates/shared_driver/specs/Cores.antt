@@ -4,15 +4,15 @@ use Rattle.std.specs.Prelude as std
 use Rattle.std.specs.List.{sum_by, filter}
 use Rattle.std.specs.declared.snapshot.Snapshot.{Snapshot}
 use Rattle.egl_calls.specs.Calls.{CallValue, ReplyValue}
-use Rattle.egl_calls.specs.Journals.{are_halted}
+use Rattle.egl_calls.specs.Journals.{are_halted, is_halt_kind}
 use Rattle.egl_calls.specs.declared.entries.Entry.{Entry}
 use Rattle.egl_calls.specs.declared.errors.Outcome.TheVariants.{Done}
 use Rattle.egl_calls.specs.declared.kinds.Kind.{Kind}
 use Rattle.egl_calls.specs.declared.kinds.Kind.TheVariants.{Egl, Gl, Own}
-use Rattle.egl_calls.specs.declared.kinds.EglKind.TheVariants.{Terminate, DestroySurface, DestroyContext, DestroySync, DestroyImage, ReleaseThread, WaitClient}
-use Rattle.egl_calls.specs.declared.kinds.GlKind.TheVariants.{Flush, Finish, DeleteTextures, DeleteBuffers, DeleteRenderbuffers, DeleteFramebuffers}
 use Rattle.egl_calls.specs.declared.kinds.OwnKind.{OwnKind}
 use Rattle.egl_calls.specs.declared.kinds.OwnKind.TheVariants.{Halt, WaitEnd}
+use Rattle.call_table.specs.Roles.{lets_go}
+use Rattle.call_table.specs.Rows.{egl_role, gl_role}
 use Rattle.egl_names.specs.declared.codes.TheConstants.{EGL_CONDITION_SATISFIED}
 use Rattle.model_laws.specs.Hidden.{hide}
 use Rattle.egl_model.specs.History.{replay_from}
@@ -130,23 +130,11 @@ are_local s t (e ∷ es) = (e.thread == t) && (is_local (part_of s t) e.call && 
 abbrev pub part_after : State → ℕ → List Entry → Private
 part_after s t es = part_of (replay_from s es) t
 
--- the calls that use one of the token's places, where one is free: none of them takes memory
+-- the calls that use one of the token's places, where one is free: those that let go or flush, and a thread's giving up. None of them takes memory
 abbrev pub takes_place : Kind → Bool
-takes_place (Egl Terminate) = true
-takes_place (Egl DestroySurface) = true
-takes_place (Egl DestroyContext) = true
-takes_place (Egl DestroySync) = true
-takes_place (Egl DestroyImage) = true
-takes_place (Egl ReleaseThread) = true
-takes_place (Egl WaitClient) = true
-takes_place (Gl Flush) = true
-takes_place (Gl Finish) = true
-takes_place (Gl DeleteTextures) = true
-takes_place (Gl DeleteBuffers) = true
-takes_place (Gl DeleteRenderbuffers) = true
-takes_place (Gl DeleteFramebuffers) = true
-takes_place (Own Halt) = true
-takes_place k = false
+takes_place (Egl k) = lets_go (egl_role k)
+takes_place (Gl k) = lets_go (gl_role k)
+takes_place (Own k) = is_halt_kind (Own k)
 
 -- it says that it is full exactly where as many tokens were made as may be
 abbrev pub IsFull : ℕ → ℕ → AttachError → Type 0

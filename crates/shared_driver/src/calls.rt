@@ -19,7 +19,8 @@ use crate::news::News;
 use crate::picks::{Picked, PickedCall, Picker, has_stopped, is_halt};
 use crate::tokens::{Closed, Holding, Opened, Shared, Thread};
 use crate::uploads::upload_of;
-use egl_calls::{Call, EglKind, GlKind, Kind, NoMemory, OwnKind, Reply, is_waiting};
+use call_table::{egl_role, gl_role};
+use egl_calls::{Call, Kind, NoMemory, Reply, is_waiting};
 use std::alloc::Global;
 use std::sync::Wait;
 use surface_store::WindowSpec;
@@ -31,29 +32,15 @@ fn either(a: bool, b: bool) -> bool
     a || b
 }
 
-/// Whether a call of this kind uses one of the token's places, where one is free.
+/// Whether a call of this kind uses one of the token's places, where one is free: those that let go or flush, and a thread's giving up.
 fn takes_place(kind: Kind) -> bool
     ensures { result ≡ takes_place kind }
 {
-    matches!(
-        kind,
-        Kind::Egl(
-            EglKind::Terminate
-                | EglKind::DestroySurface
-                | EglKind::DestroyContext
-                | EglKind::DestroySync
-                | EglKind::DestroyImage
-                | EglKind::ReleaseThread
-                | EglKind::WaitClient
-        ) | Kind::Gl(
-            GlKind::Flush
-                | GlKind::Finish
-                | GlKind::DeleteTextures
-                | GlKind::DeleteBuffers
-                | GlKind::DeleteRenderbuffers
-                | GlKind::DeleteFramebuffers
-        ) | Kind::Own(OwnKind::Halt)
-    )
+    match kind {
+        Kind::Egl(kind) => egl_role(kind).lets_go(),
+        Kind::Gl(kind) => gl_role(kind).lets_go(),
+        Kind::Own(_) => is_halt(kind),
+    }
 }
 
 impl Shared {

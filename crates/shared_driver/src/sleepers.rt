@@ -1,9 +1,10 @@
 //! Which threads sleep, and what each waits for.
 ghost use Rattle.std.specs.Prelude.{◌<◌};
 
+use call_table::{Role, gl_role};
 use driver_core::Driver;
 use egl_calls::places::POSTED;
-use egl_calls::{Entry, GlKind, Journal, Kind, OwnKind, is_waiting, unsigned};
+use egl_calls::{Entry, Journal, Kind, OwnKind, is_waiting, unsigned};
 
 /// How many tokens have a bed each. Of more, those whose numbers leave the same remainder share one.
 pub(crate) const BEDS: usize = 32;
@@ -79,11 +80,11 @@ fn answers(entry: &Entry, mark: u64) -> bool {
     entry.mark == mark && !is_waiting(entry.reply.outcome)
 }
 
-/// Whether a call of this kind can signal a sync: one that flushes, ends a context, or waits in the server. Of those of EGL no list is kept, so that a call to come isn't forgotten here.
+/// Whether a call of this kind can signal a sync: one that flushes, ends a context, or waits in the server. Of OpenGL ES only flushes do, which their role tells. All of EGL are taken to, so that a call to come isn't forgotten here.
 fn may_signal(kind: Kind) -> bool {
     match kind {
         Kind::Egl(_) => true,
-        Kind::Gl(kind) => matches!(kind, GlKind::Flush | GlKind::Finish),
+        Kind::Gl(kind) => matches!(gl_role(kind), Role::Flushes),
         Kind::Own(_) => false,
     }
 }

@@ -10,7 +10,7 @@ use Rattle.pixel_formats.specs.declared.pixels.Pixel.{Pixel}
 use Rattle.pixel_rows.specs.Images.{blank, no_pixel}
 use Rattle.pixel_rows.proofs.Stored.{quantize-eight}
 use Rattle.egl_model.specs.Effects.{valued}
-use Rattle.egl_model.specs.EglEffects.{egl_effect}
+use Rattle.egl_model.specs.EglCalls.{egl_effect}
 use Rattle.egl_model.specs.State.{State}
 use Rattle.egl_model.specs.Step.{done}
 use Rattle.egl_calls.specs.declared.kinds.EglKind.TheVariants.{GetDisplay, Initialize}

@@ -27,8 +27,7 @@ use Rattle.egl_model.specs.declared.records.ThreadRecord.{ThreadRecord}
 use Rattle.egl_model.specs.State.{State}
 use Rattle.egl_model.specs.Effects.{Effect, outcome_of, valued}
 use Rattle.egl_model.specs.Currents.{current_context, part_of_context}
-use Rattle.egl_model.specs.GlFacts.{gl_facts, gl_refusal}
-use Rattle.egl_model.specs.GlEffects.{gl_effect, applied, local_value}
+use Rattle.egl_model.specs.GlCalls.{gl_facts, gl_refusal, gl_effect, applied, local_value}
 use Rattle.egl_model.specs.Objects.{as_context, change_part, with_part}
 use Rattle.egl_model.specs.Step.{Stepped, done, step}
 use Rattle.egl_model.specs.Sweep.{bytes_in, live_bytes, sweep}

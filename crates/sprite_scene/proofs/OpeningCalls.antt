@@ -16,8 +16,7 @@ use Rattle.egl_calls.specs.declared.kinds.GlKind.{GlKind}
 use Rattle.egl_calls.specs.declared.kinds.GlKind.TheVariants.{Enable, TexEnvx}
 use Rattle.egl_names.specs.declared.codes.TheConstants.{GL_SCISSOR_TEST, GL_TEXTURE_2D}
 use Rattle.egl_model.specs.Flushes.{flushed}
-use Rattle.egl_model.specs.GlEffects.{applied, gl_effect, local_value}
-use Rattle.egl_model.specs.GlFacts.{gl_facts, gl_refusal}
+use Rattle.egl_model.specs.GlCalls.{applied, gl_effect, local_value, gl_facts, gl_refusal}
 use Rattle.egl_model.specs.Objects.{change_part}
 use Rattle.model_laws.proofs.PixelLaws.{live_bytes-swept}
 use Rattle.sprite_scene.proofs.LineCalls.{Goes, bytes_part, gl_call, goes, shows_part}
@@ -46,8 +45,7 @@ use Rattle.display_table.specs.declared.handles.HandleKind.TheVariants.{Context 
 use Rattle.display_table.specs.declared.handles.Handle.{Handle}
 use Rattle.driver_objects.specs.declared.objects.Object.{Object}
 use Rattle.egl_model.specs.Effects.{Effect, valued}
-use Rattle.egl_model.specs.EglEffects.{egl_effect}
-use Rattle.egl_model.specs.EglFacts.{egl_facts, egl_refusal}
+use Rattle.egl_model.specs.EglCalls.{egl_effect, egl_facts, egl_refusal}
 use Rattle.egl_model.specs.State.{State, capacity, initial, set_error}
 use Rattle.egl_model.specs.Step.{Stepped, done, step, step_by}
 use Rattle.egl_model.specs.Sweep.{held_by, live_bytes, roots, roots_of, sweep, swept}

@@ -34,8 +34,7 @@ use Rattle.egl_model.specs.Drawing.{rows_of}
 use Rattle.egl_model.specs.Draws.{draw_into, drawn_rect, sampler, sampler_by, sampler_in, sampler_over, shape_in, shape_of}
 use Rattle.egl_model.specs.Effects.{valued}
 use Rattle.egl_model.specs.Framebuffers.{BoundFramebuffer, bound_framebuffer, current_framebuffer_name, framebuffer_name, is_complete as is_framebuffer_complete, window_framebuffer, window_status}
-use Rattle.egl_model.specs.GlFacts.{gl_facts, gl_refusal}
-use Rattle.egl_model.specs.GlEffects.{gl_effect}
+use Rattle.egl_model.specs.GlCalls.{gl_facts, gl_refusal, gl_effect}
 use Rattle.egl_model.specs.Objects.{as_storage, as_surface, as_texture, change_storage, storage_in, surface_in, texture_in, with_storage}
 use Rattle.egl_model.specs.declared.records.ThreadRecord.{ThreadRecord}
 use Rattle.egl_model.specs.State.{State}

@@ -26,8 +26,7 @@ use Rattle.driver_objects.specs.declared.targets.BindTarget.TheVariants.{Texture
 use Rattle.egl_model.specs.Bindings.{bound_at, bound_named, bound_object, named_at}
 use Rattle.egl_model.specs.Contexts.{new_texture}
 use Rattle.egl_model.specs.Effects.{valued}
-use Rattle.egl_model.specs.GlFacts.{gl_facts, gl_refusal}
-use Rattle.egl_model.specs.GlEffects.{gl_effect}
+use Rattle.egl_model.specs.GlCalls.{gl_facts, gl_refusal, gl_effect}
 use Rattle.egl_model.specs.Names.{group_of, object_named, with_name_of}
 use Rattle.egl_model.specs.Objects.{as_context, as_group, change_context, change_group, change_texture, with_context, with_group, with_texture}
 use Rattle.egl_model.specs.State.{State}

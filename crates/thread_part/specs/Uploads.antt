@@ -15,7 +15,7 @@ use Rattle.context_state.specs.Parts.{PartValue}
 use Rattle.driver_objects.specs.Storages.{StorageValue}
 use Rattle.egl_model.specs.Buffers.{with_data}
 use Rattle.egl_model.specs.Copies.{copied_level, copies_nothing}
-use Rattle.egl_model.specs.GlFacts.{framebuffer_facts}
+use Rattle.egl_model.specs.GlCalls.{framebuffer_facts}
 use Rattle.egl_model.specs.Parts.{Private}
 use Rattle.egl_model.specs.Textures.{new_level}
 use Rattle.model_laws.specs.Local.{has_framebuffer, read_image}

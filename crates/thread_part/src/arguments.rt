@@ -7,7 +7,7 @@ ghost use Rattle.egl_calls.specs.Arguments.{signed};
 ghost use Rattle.egl_model.specs.Arguments.{number};
 ghost use Rattle.egl_model.specs.Displays.{display_of};
 ghost use Rattle.egl_model.specs.Drawing.{clears_colour, read_form, read_rect};
-ghost use Rattle.egl_model.specs.GlFacts.{framebuffer_facts};
+ghost use Rattle.egl_model.specs.GlCalls.{framebuffer_facts};
 ghost use Rattle.model_laws.specs.Local.{local_refusal};
 
 use call_rules::{EglFacts, GlFacts};

@@ -8,8 +8,8 @@ use Rattle.std.specs.List.{list_any, list_all}
 use Rattle.std.specs.Option.{option_map}
 use Rattle.egl_calls.specs.Calls.{CallValue}
 use Rattle.egl_calls.specs.declared.kinds.Kind.{Kind}
-use Rattle.trace_reader.specs.declared.call_names.Form.{Form}
-use Rattle.trace_reader.specs.declared.call_names.Form.TheVariants.{Number, NumberOrVariable, PostNumber, Timeout, AttributeList, NumberList, NameList, Payload}
+use Rattle.call_table.specs.declared.forms.Form.{Form}
+use Rattle.call_table.specs.declared.forms.Form.TheVariants.{Number, NumberOrVariable, PostNumber, Timeout, AttributeList, NumberList, NameList, Payload}
 use Rattle.trace_reader.specs.declared.arguments.Argument.{Argument}
 use Rattle.trace_reader.specs.declared.arguments.Argument.TheVariants.{Value, Listed, Given}
 use Rattle.trace_reader.specs.declared.references.Used.{Used}

@@ -5,12 +5,12 @@ ghost use Rattle.trace_reader.specs.Arguments.{argument_references, are_known, i
 ghost use Rattle.trace_reader.specs.Lists.{items};
 ghost use Rattle.trace_reader.specs.Order.{LeadsToOne};
 
-use crate::call_names::Form;
 use crate::line_uses::LineUses;
 use crate::lists::{inside, is_bracketed};
 use crate::references::{is_reference, used_in};
 use crate::traces::{Reference, Uses};
 use crate::variables::Variables;
+use call_table::Form;
 use egl_calls::NoMemory;
 use std::alloc::Global;
 

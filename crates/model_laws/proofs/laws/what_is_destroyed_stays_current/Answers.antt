@@ -1,8 +1,5 @@
-use Rattle.model_laws.proofs.DestroyLaws.{context_currents, surface_currents}
+use Rattle.model_laws.proofs.DestroyLaws.{currents_kept}
 use Rattle.model_laws.proofs.laws.what_is_destroyed_stays_current.Goals as goal
 
-pub returns-clause-surface : goal.returns-clause-surface
-returns-clause-surface c = surface_currents
-
-pub returns-clause-context : goal.returns-clause-context
-returns-clause-context c = context_currents
+pub returns : goal.returns
+returns c = currents_kept

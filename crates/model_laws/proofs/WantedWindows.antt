@@ -1,39 +1,29 @@
--- Where EGL_BAD_ALLOC comes of an eglCreateWindowSurface and of an eglCreateSync.
-use Rattle.std.proofs.Common.{◌≡◌, ◌⊎◌, ℕ, ◌+◌, inl, inr, refl, ap, ◌∙◌, Bool, true, false, not, ◌==◌, List, [], ◌∷◌, ◌++◌, Some, is_some}
+-- Where EGL_BAD_ALLOC comes of an eglCreateWindowSurface.
+use Rattle.std.proofs.Common.{◌≡◌, ◌⊎◌, ℕ, ◌+◌, inl, inr, refl, ◌∙◌, Bool, true, false, not, List, [], ◌∷◌, ◌++◌, Some}
 use Rattle.std.specs.Prelude.{nat_lt}
-use Rattle.std.proofs.lemmas.Bool.{and_from, and_parts, not-false}
+use Rattle.std.proofs.lemmas.Bool.{not-false}
 use Rattle.egl_calls.specs.Calls.{CallValue}
-use Rattle.egl_calls.specs.declared.kinds.EglKind.TheVariants.{CreateSync, CreateWindowSurface}
+use Rattle.egl_calls.specs.declared.kinds.EglKind.TheVariants.{CreateWindowSurface}
 use Rattle.egl_calls.specs.declared.errors.EglError.{EglError}
-use Rattle.egl_calls.specs.declared.errors.EglError.TheVariants.{BadAlloc, BadAttribute, BadConfig, BadMatch, BadNativeWindow}
-use Rattle.egl_names.specs.declared.codes.TheConstants.{EGL_SYNC_FENCE}
+use Rattle.egl_calls.specs.declared.errors.EglError.TheVariants.{BadAlloc, BadAttribute, BadDisplay, NotInitialized, BadConfig, BadMatch, BadNativeWindow}
 use Rattle.refusal_rows.specs.Rows.{AllOff, Row, ◌⇒◌, first_error}
 use Rattle.refusal_rows.proofs.RowLaws.{first_is, first_of, from_others, past_off}
 use Rattle.call_rules.specs.declared.egl_facts.EglFacts.{EglFacts}
-use Rattle.call_rules.specs.EglRules.{display_rows, has_attributes, has_code}
 use Rattle.call_rules.proofs.EglLaws.{first_refused, refused_first}
 use Rattle.call_rules.proofs.TestLaws.{is_past, past}
 use Rattle.egl_model.specs.State.{State}
-use Rattle.egl_model.specs.Arguments.{number}
-use Rattle.egl_model.specs.Currents.{current_context, display_at}
-use Rattle.egl_model.specs.EglFacts.{egl_refusal}
-use Rattle.egl_model.specs.Syncs.{new_sync_facts}
+use Rattle.egl_model.specs.EglCalls.{egl_refusal}
 use Rattle.egl_model.specs.Windows.{window_facts}
 use Rattle.model_laws.specs.Laws.{IsEglCall}
-use Rattle.model_laws.specs.Wants.{Answers, IsFaultlessSync, IsFaultlessWindow, IsWindowUsed, WantsNumber, WantsWindowPixels}
+use Rattle.model_laws.specs.Wants.{Answers, IsFaultlessWindow, IsWindowUsed, WantsNumber, WantsWindowPixels}
 use Rattle.model_laws.proofs.WindowUses.{used_window, window_is_used}
-use Rattle.model_laws.proofs.WantLaws.{from_number, refusal_of_reply, reply_of_refusal, to_number}
-
-is_bad_alloc : EglError → Bool
-is_bad_alloc BadAlloc = true
-is_bad_alloc e = false
-
-off : (b : Bool) → b ≡ true → not b ≡ false
-off b h = ap not h
+use Rattle.model_laws.proofs.WantLaws.{from_number, is_bad_alloc, off, refusal_of_reply, reply_of_refusal, to_number}
 
 -- ---- Windows: the rows before EGL_BAD_ALLOC, and those of it.
 abbrev asking : EglFacts → List (Row EglError)
-asking f = display_rows f ++
+asking f =
+    (not f.is_display ⇒ BadDisplay) ∷
+    (not f.is_initialized ⇒ NotInitialized) ∷
     (not f.is_config ⇒ BadConfig) ∷
     (not f.is_list_allowed ⇒ BadAttribute) ∷
     (not f.is_window_config ⇒ BadMatch) ∷
@@ -85,7 +75,7 @@ from_wants s c (inr (inl v)) = inr (inl (is_past _ _ v))
 from_wants s c (inr (inr n)) = inr (inr (from_number s n))
 
 pub window_is_refused : (s : State) (t : ℕ) (c : CallValue) → IsEglCall s t CreateWindowSurface c → Answers s t c BadAlloc → IsFaultlessWindow s c × (IsWindowUsed s c ⊎ (WantsWindowPixels s c ⊎ WantsNumber s))
-unfolding egl_refusal is_bad_alloc too_many
+unfolding egl_refusal too_many
 window_is_refused s t c h a =
     let f = window_facts s c in
     let r = refused_first c f CreateWindowSurface BadAlloc h.kind (refusal_of_reply s t CreateWindowSurface c BadAlloc h a) in
@@ -100,48 +90,3 @@ window_wants_something s t c h w =
     reply_of_refusal s t CreateWindowSurface c BadAlloc h
     (first_refused c f CreateWindowSurface BadAlloc h.kind
     (first_of BadAlloc (asking f ++ rows) (past_off (asking f) rows (asking_off s c w.0) ∙ any_holds f.is_window_used (too_many s c) f.are_handles_used_up (from_wants s c w.1))))
-
--- ---- Syncs.
-abbrev asking_sync : CallValue → EglFacts → List (Row EglError)
-asking_sync c f = display_rows f ++
-    (not (has_code c 1 EGL_SYNC_FENCE) ⇒ BadAttribute) ∷
-    (has_attributes c ⇒ BadAttribute) ∷
-    (not f.is_current_here ⇒ BadMatch) ∷
-    []
-
-last_holds : (b : Bool) → first_error ((b ⇒ BadAlloc) ∷ []) ≡ Some BadAlloc → b ≡ true
-last_holds true h = refl
-last_holds false h = absurd (let e : first_error {E = EglError} [] ≡ Some BadAlloc = h in cc)
-
-faultless_sync : (s : State) (t : ℕ) (c : CallValue) → AllOff (asking_sync c (new_sync_facts s t c)) → IsFaultlessSync s t c
-faultless_sync s t c a =
-    let both = and_parts (is_some (current_context s t)) (display_at s (current_context s t) == number c 0) (not-false _ a.1.1.1.1.0) in
-    record {
-      on = record { display = not-false _ a.0; initialized = not-false _ a.1.0 };
-      fence = not-false _ a.1.1.0;
-      list = a.1.1.1.0;
-      current = both.0;
-      here = both.1;
-    }
-
-asking_sync_off : (s : State) (t : ℕ) (c : CallValue) → IsFaultlessSync s t c → AllOff (asking_sync c (new_sync_facts s t c))
-asking_sync_off s t c a =
-    let here = and_from (is_some (current_context s t)) (display_at s (current_context s t) == number c 0) a.current a.here in
-    (off _ a.on.display, (off _ a.on.initialized, (off _ a.fence, (a.list, (off _ here, tt)))))
-
-pub sync_is_refused : (s : State) (t : ℕ) (c : CallValue) → IsEglCall s t CreateSync c → Answers s t c BadAlloc → IsFaultlessSync s t c × WantsNumber s
-unfolding egl_refusal is_bad_alloc
-sync_is_refused s t c h a =
-    let f = new_sync_facts s t c in
-    let r = refused_first c f CreateSync BadAlloc h.kind (refusal_of_reply s t CreateSync c BadAlloc h a) in
-    let o = from_others is_bad_alloc BadAlloc (asking_sync c f) ((f.are_handles_used_up ⇒ BadAlloc) ∷ []) refl (refl, (refl, (refl, (refl, (refl, tt))))) (first_is BadAlloc (asking_sync c f ++ (f.are_handles_used_up ⇒ BadAlloc) ∷ []) r) in
-    (faultless_sync s t c o.0, to_number s (last_holds f.are_handles_used_up o.1))
-
-pub sync_wants_number : (s : State) (t : ℕ) (c : CallValue) → IsEglCall s t CreateSync c → IsFaultlessSync s t c × WantsNumber s → Answers s t c BadAlloc
-unfolding egl_refusal
-sync_wants_number s t c h w =
-    let f = new_sync_facts s t c in
-    reply_of_refusal s t CreateSync c BadAlloc h
-    (first_refused c f CreateSync BadAlloc h.kind
-    (first_of BadAlloc (asking_sync c f ++ (f.are_handles_used_up ⇒ BadAlloc) ∷ []) (past_off (asking_sync c f) ((f.are_handles_used_up ⇒ BadAlloc) ∷ []) (asking_sync_off s t c w.0)
-    ∙ ap (λ b. first_error ((b ⇒ BadAlloc) ∷ [])) (from_number s w.1))))

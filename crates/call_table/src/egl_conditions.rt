@@ -1,0 +1,109 @@
+//! What refuses calls of EGL.
+/// A condition that refuses a call of EGL. What it is of the state and of the call stands in `call_rules`.
+#[derive(Clone, Copy, Debug, PartialEq, Eq, Drop)]
+pub enum EglCondition {
+    NoDisplay,
+    NotInitialized,
+    WrongList,
+    NoConfig,
+    NoAttribute,
+    NoWindowBit,
+    NoWindow,
+    WindowUsed,
+    NoVideo,
+    NoHandle,
+    NegativeSide,
+    LongSide,
+    NoSurface,
+    NoSwapAttribute,
+    NoSwapBehavior,
+    NoApi,
+    NoShare,
+    ShareElsewhere,
+    LaterVersion,
+    NoVersion,
+    NoContext,
+    WrongSurface,
+    WrongContext,
+    WithoutContext,
+    OneSurface,
+    NotCompatible,
+    ContextElsewhere,
+    SurfaceElsewhere,
+    NoReaddraw,
+    NotDrawnTo,
+    NoFence,
+    SomeList,
+    NoContextHere,
+    NoSync,
+    SomeFlags,
+    NotCurrent,
+    NoImageSource,
+    NoPixels,
+    NotComplete,
+    NoLevel,
+    Sibling,
+    NoImage,
+}
+
+impl EglCondition {
+    /// What holds, in words.
+    pub fn words(self) -> &'static str {
+        match self {
+            EglCondition::NoDisplay => "the display is none that eglGetDisplay gives",
+            EglCondition::NotInitialized => "the display isn't initialized",
+            EglCondition::WrongList => {
+                "the list has an attribute or a value that the call doesn't take"
+            }
+            EglCondition::NoConfig => "the config is none of the display's",
+            EglCondition::NoAttribute => "there is no such attribute",
+            EglCondition::NoWindowBit => "the config has no EGL_WINDOW_BIT in EGL_SURFACE_TYPE",
+            EglCondition::NoWindow => "the window isn't declared",
+            EglCondition::WindowUsed => "a surface of the window exists already",
+            EglCondition::NoVideo => "too few bytes are left for the pixels",
+            EglCondition::NoHandle => "the numbers of handles are used up",
+            EglCondition::NegativeSide => "EGL_WIDTH or EGL_HEIGHT is negative",
+            EglCondition::LongSide => {
+                "a side is above 2,048, and EGL_LARGEST_PBUFFER isn't EGL_TRUE"
+            }
+            EglCondition::NoSurface => "the surface is none of the display's, or was destroyed",
+            EglCondition::NoSwapAttribute => "the attribute isn't EGL_SWAP_BEHAVIOR",
+            EglCondition::NoSwapBehavior => {
+                "the value is neither EGL_BUFFER_PRESERVED nor EGL_BUFFER_DESTROYED"
+            }
+            EglCondition::NoApi => "the API isn't EGL_OPENGL_ES_API",
+            EglCondition::NoShare => "the context to share with is none, or was destroyed",
+            EglCondition::ShareElsewhere => "the context to share with is of the other display",
+            EglCondition::LaterVersion => "no config supports OpenGL ES 2.0 or later",
+            EglCondition::NoVersion => "there is no such version of OpenGL ES",
+            EglCondition::NoContext => "the context is none of the display's, or was destroyed",
+            EglCondition::WrongSurface => "a surface is none of the display's, or was destroyed",
+            EglCondition::WrongContext => "the context is none of the display's, or was destroyed",
+            EglCondition::WithoutContext => "a surface is given without a context",
+            EglCondition::OneSurface => "one surface is given without the other",
+            EglCondition::NotCompatible => {
+                "the context's config isn't compatible with that of a surface"
+            }
+            EglCondition::ContextElsewhere => "the context is current to another thread",
+            EglCondition::SurfaceElsewhere => "a surface is current to another thread",
+            EglCondition::NoReaddraw => "readdraw is neither EGL_READ nor EGL_DRAW",
+            EglCondition::NotDrawnTo => {
+                "the surface isn't the draw surface of the thread's current context"
+            }
+            EglCondition::NoFence => "the type isn't EGL_SYNC_FENCE",
+            EglCondition::SomeList => "the list has an attribute",
+            EglCondition::NoContextHere => "no context of the display is current to the thread",
+            EglCondition::NoSync => "the sync is none of the display's, or was destroyed",
+            EglCondition::SomeFlags => "the flags aren't 0",
+            EglCondition::NotCurrent => "no context is current to the thread",
+            EglCondition::NoImageSource => {
+                "the target is neither EGL_GL_TEXTURE_2D nor EGL_GL_RENDERBUFFER"
+            }
+            EglCondition::NoPixels => "the name has no texture or renderbuffer with pixels",
+            EglCondition::NotComplete => "the texture has levels above 0, and isn't complete",
+            EglCondition::NoLevel => "the level has no pixels",
+            EglCondition::Sibling => "the pixels are an EGL image's already",
+            EglCondition::NoImage => "the image is none of the display's, or was destroyed",
+        }
+    }
+}
