@@ -6,6 +6,7 @@ use Rattle.egl_calls.specs.declared.errors.GlError.{GlError}
 use Rattle.egl_calls.specs.declared.kinds.EglKind.{EglKind}
 use Rattle.egl_calls.specs.declared.kinds.GlKind.{GlKind}
 use Rattle.egl_calls.specs.declared.kinds.OwnKind.{OwnKind}
+use Rattle.egl_calls.specs.declared.kinds.OwnKind.TheVariants.{WaitEnd, Halt}
 use Rattle.egl_calls.specs.contracts.kinds.EglKind as egl_kinds
 use Rattle.egl_calls.specs.contracts.kinds.GlKind as gl_kinds
 use Rattle.egl_calls.specs.contracts.kinds.OwnKind as own_kinds
@@ -40,3 +41,12 @@ egl_kind k = slice_index_or (map (λ r. Some r.1) EGL_CALLS) (tag_of egl_kinds.t
 
 abbrev pub gl_kind : GlKind → Option GlKind
 gl_kind k = slice_index_or (map (λ r. Some r.1) GL_CALLS) (tag_of gl_kinds.the_type k) None
+
+abbrev pub own_kind : OwnKind → Option OwnKind
+own_kind k = slice_index_or (map (λ r. Some r.1) OWN_CALLS) (tag_of own_kinds.the_type k) None
+
+-- a kind that has a name, and so a row: all but the end of a wait and a Halt
+abbrev pub named_kind : OwnKind → Option OwnKind
+named_kind WaitEnd = None
+named_kind Halt = None
+named_kind k = Some k

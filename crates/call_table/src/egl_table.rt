@@ -34,7 +34,9 @@ macro_rules! calls {
 
 /// The calls, in the order of their kinds.
 pub static EGL_CALLS: [EglRow; 31] = calls![
+    // Section 3.1
     GetError "eglGetError" [] Plain => [];
+    // Section 3.2
     GetDisplay "eglGetDisplay" ["identifier": Number] Plain => [];
     Initialize "eglInitialize" ["display": NumberOrVariable] Plain => [
         NoDisplay: BadDisplay,
@@ -42,21 +44,25 @@ pub static EGL_CALLS: [EglRow; 31] = calls![
     Terminate "eglTerminate" ["display": NumberOrVariable] Releases => [
         NoDisplay: BadDisplay,
     ];
+    // Section 3.4
     GetConfigs "eglGetConfigs" ["display": NumberOrVariable] Plain => [
         NoDisplay: BadDisplay,
         NotInitialized: NotInitialized,
     ];
+    // Section 3.4.1
     ChooseConfig "eglChooseConfig" ["display": NumberOrVariable, "attributes": AttributeList] Plain => [
         NoDisplay: BadDisplay,
         NotInitialized: NotInitialized,
         WrongList: BadAttribute,
     ];
+    // Section 3.4.3
     GetConfigAttrib "eglGetConfigAttrib" ["display": NumberOrVariable, "config": Number, "attribute": Number] Plain => [
         NoDisplay: BadDisplay,
         NotInitialized: NotInitialized,
         NoConfig: BadConfig,
         NoAttribute: BadAttribute,
     ];
+    // Section 3.5.1
     CreateWindowSurface "eglCreateWindowSurface" ["display": NumberOrVariable, "config": Number, "window": Number, "attributes": AttributeList] Creates(Surface) => [
         NoDisplay: BadDisplay,
         NotInitialized: NotInitialized,
@@ -68,6 +74,7 @@ pub static EGL_CALLS: [EglRow; 31] = calls![
         NoVideo: BadAlloc,
         NoHandle: BadAlloc,
     ];
+    // Section 3.5.2
     CreatePbufferSurface "eglCreatePbufferSurface" ["display": NumberOrVariable, "config": Number, "attributes": AttributeList] Creates(Surface) => [
         NoDisplay: BadDisplay,
         NotInitialized: NotInitialized,
@@ -78,11 +85,13 @@ pub static EGL_CALLS: [EglRow; 31] = calls![
         NoVideo: BadAlloc,
         NoHandle: BadAlloc,
     ];
+    // Section 3.5.5
     DestroySurface "eglDestroySurface" ["display": NumberOrVariable, "surface": NumberOrVariable] Destroys(Surface) => [
         NoDisplay: BadDisplay,
         NotInitialized: NotInitialized,
         NoSurface: BadSurface,
     ];
+    // Section 3.5.6
     QuerySurface "eglQuerySurface" ["display": NumberOrVariable, "surface": NumberOrVariable, "attribute": Number] Plain => [
         NoDisplay: BadDisplay,
         NotInitialized: NotInitialized,
@@ -96,10 +105,12 @@ pub static EGL_CALLS: [EglRow; 31] = calls![
         NoSwapAttribute: BadAttribute,
         NoSwapBehavior: BadParameter,
     ];
+    // Section 3.7
     BindApi "eglBindAPI" ["api": Number] Plain => [
         NoApi: BadParameter,
     ];
     QueryApi "eglQueryAPI" [] Plain => [];
+    // Section 3.7.1
     CreateContext "eglCreateContext" ["display": NumberOrVariable, "config": Number, "share": NumberOrVariable, "attributes": AttributeList] Creates(Context) => [
         NoDisplay: BadDisplay,
         NotInitialized: NotInitialized,
@@ -111,11 +122,13 @@ pub static EGL_CALLS: [EglRow; 31] = calls![
         NoVersion: BadMatch,
         NoHandle: BadAlloc,
     ];
+    // Section 3.7.2
     DestroyContext "eglDestroyContext" ["display": NumberOrVariable, "context": NumberOrVariable] Destroys(Context) => [
         NoDisplay: BadDisplay,
         NotInitialized: NotInitialized,
         NoContext: BadContext,
     ];
+    // Section 3.7.3
     MakeCurrent "eglMakeCurrent" ["display": NumberOrVariable, "draw": NumberOrVariable, "read": NumberOrVariable, "context": NumberOrVariable] Binds => [
         NoDisplay: BadDisplay,
         NotInitialized: NotInitialized,
@@ -127,6 +140,7 @@ pub static EGL_CALLS: [EglRow; 31] = calls![
         ContextElsewhere: BadAccess,
         SurfaceElsewhere: BadAccess,
     ];
+    // Section 3.7.4
     GetCurrentContext "eglGetCurrentContext" [] Plain => [];
     GetCurrentSurface "eglGetCurrentSurface" ["which": Number] Plain => [
         NoReaddraw: BadParameter,
@@ -138,14 +152,18 @@ pub static EGL_CALLS: [EglRow; 31] = calls![
         NoContext: BadContext,
         NoAttribute: BadAttribute,
     ];
+    // Section 3.10.1
     SwapBuffers "eglSwapBuffers" ["display": NumberOrVariable, "surface": NumberOrVariable] Plain => [
         NoDisplay: BadDisplay,
         NotInitialized: NotInitialized,
         NoSurface: BadSurface,
         NotDrawnTo: BadSurface,
     ];
+    // Section 3.8
     WaitClient "eglWaitClient" [] Flushes => [];
+    // Section 3.12
     ReleaseThread "eglReleaseThread" [] Releases => [];
+    // Section 3.8.1
     CreateSync "eglCreateSync" ["display": NumberOrVariable, "type": Number, "attributes": AttributeList] Creates(Sync) => [
         NoDisplay: BadDisplay,
         NotInitialized: NotInitialized,
@@ -159,11 +177,13 @@ pub static EGL_CALLS: [EglRow; 31] = calls![
         NotInitialized: NotInitialized,
         NoSync: BadParameter,
     ];
+    // Section 3.8.1.1
     ClientWaitSync "eglClientWaitSync" ["display": NumberOrVariable, "sync": NumberOrVariable, "flags": Number, "timeout": Timeout] ClientWaits => [
         NoDisplay: BadDisplay,
         NotInitialized: NotInitialized,
         NoSync: BadParameter,
     ];
+    // Section 3.8.1.2
     WaitSync "eglWaitSync" ["display": NumberOrVariable, "sync": NumberOrVariable, "flags": Number] ServerWaits => [
         NoDisplay: BadDisplay,
         NotInitialized: NotInitialized,
@@ -171,12 +191,14 @@ pub static EGL_CALLS: [EglRow; 31] = calls![
         SomeFlags: BadParameter,
         NotCurrent: BadMatch,
     ];
+    // Section 3.8.1.3
     GetSyncAttrib "eglGetSyncAttrib" ["display": NumberOrVariable, "sync": NumberOrVariable, "attribute": Number] Plain => [
         NoDisplay: BadDisplay,
         NotInitialized: NotInitialized,
         NoSync: BadParameter,
         NoAttribute: BadAttribute,
     ];
+    // Section 3.9
     CreateImage "eglCreateImage" ["display": NumberOrVariable, "context": NumberOrVariable, "target": Number, "buffer": NumberOrVariable, "attributes": AttributeList] Creates(Image) => [
         NoDisplay: BadDisplay,
         NotInitialized: NotInitialized,

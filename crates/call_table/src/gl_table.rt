@@ -33,31 +33,46 @@ macro_rules! calls {
 
 /// The calls, in the order of their kinds.
 pub static GL_CALLS: [GlRow; 52] = calls![
+    // Section 2.5
     GetError "glGetError" [] OwnState => [];
+    // Section 5
     Flush "glFlush" [] Flushes => [];
     Finish "glFinish" [] Flushes => [];
+    // Section 6.2
     Enable "glEnable" ["name": Number] OwnState => [];
     Disable "glDisable" ["name": Number] OwnState => [];
+    // Section 4.1.2
     Scissor "glScissor" ["left": Number, "bottom": Number, "width": Number, "height": Number] OwnState => [];
+    // Section 2.10.1
     Viewport "glViewport" ["left": Number, "bottom": Number, "width": Number, "height": Number] OwnState => [];
+    // Section 4.2.3
     ClearColorx "glClearColorx" ["red": Number, "green": Number, "blue": Number, "alpha": Number] OwnState => [];
+    // Section 2.7
     Color4x "glColor4x" ["red": Number, "green": Number, "blue": Number, "alpha": Number] OwnState => [];
+    // Section 4.2.3
     ClearDepthx "glClearDepthx" ["number": Number] OwnState => [];
     ClearStencil "glClearStencil" ["number": Number] OwnState => [];
+    // Section 4.2.2
     ColorMask "glColorMask" ["red": Number, "green": Number, "blue": Number, "alpha": Number] OwnState => [];
+    // Section 3.7.12
     TexEnvx "glTexEnvx" ["target": Number, "name": Number, "value": Number] OwnState => [];
+    // Sections 3.6.1 and 4.3.1
     PixelStorei "glPixelStorei" ["name": Number, "alignment": Number] OwnState => [];
+    // Section 6.2
     GetIntegerv "glGetIntegerv" ["name": Number, "index": Number] OwnState => [];
+    // Section 4.2.3
     Clear "glClear" ["mask": Number] Plain => [
         NoBufferBit: InvalidValue,
         NotComplete: InvalidFramebufferOperation,
     ];
+    // Section 4.3.1
     ReadPixels "glReadPixels" ["x": Number, "y": Number, "width": Number, "height": Number, "format": Number, "type": Number] Plain => [
         WrongReadSides: InvalidValue,
         NoReadKind: InvalidEnum,
         NoReadPair: InvalidOperation,
         NotComplete: InvalidFramebufferOperation,
     ];
+    // OES_draw_texture
     DrawTexi "glDrawTexiOES" ["x": Number, "y": Number, "z": Number, "width": Number, "height": Number] Plain => [
         DrawsNothing: InvalidValue,
         NotComplete: InvalidFramebufferOperation,
@@ -66,34 +81,46 @@ pub static GL_CALLS: [GlRow; 52] = calls![
         DrawsNothing: InvalidValue,
         NotComplete: InvalidFramebufferOperation,
     ];
+    // Section 3.7.11
     GenTextures "glGenTextures" ["count": Number] Plain => [
         WrongCount: InvalidValue,
     ];
+    // Section 2.9
     GenBuffers "glGenBuffers" ["count": Number] Plain => [
         WrongCount: InvalidValue,
     ];
+    // OES_framebuffer_object
     GenRenderbuffers "glGenRenderbuffersOES" ["count": Number] Plain => [
         WrongCount: InvalidValue,
     ];
     GenFramebuffers "glGenFramebuffersOES" ["count": Number] Plain => [
         WrongCount: InvalidValue,
     ];
+    // Section 3.7.11
     DeleteTextures "glDeleteTextures" ["names": NameList] Deletes => [];
+    // Section 2.9
     DeleteBuffers "glDeleteBuffers" ["names": NameList] Deletes => [];
+    // OES_framebuffer_object
     DeleteRenderbuffers "glDeleteRenderbuffersOES" ["names": NameList] Deletes => [];
     DeleteFramebuffers "glDeleteFramebuffersOES" ["names": NameList] Deletes => [];
+    // Section 3.7.11
     IsTexture "glIsTexture" ["name": NumberOrVariable] Plain => [];
+    // Section 2.9
     IsBuffer "glIsBuffer" ["name": NumberOrVariable] Plain => [];
+    // OES_framebuffer_object
     IsRenderbuffer "glIsRenderbufferOES" ["name": NumberOrVariable] Plain => [];
     IsFramebuffer "glIsFramebufferOES" ["name": NumberOrVariable] Plain => [];
+    // Section 3.7.11
     BindTexture "glBindTexture" ["target": Number, "name": NumberOrVariable] Plain => [
         NoTextureTarget: InvalidEnum,
         NegativeName: InvalidValue,
     ];
+    // Section 2.9
     BindBuffer "glBindBuffer" ["target": Number, "name": NumberOrVariable] Plain => [
         NoBufferTarget: InvalidEnum,
         NegativeName: InvalidValue,
     ];
+    // OES_framebuffer_object
     BindRenderbuffer "glBindRenderbufferOES" ["target": Number, "name": NumberOrVariable] Plain => [
         NoRenderbufferTarget: InvalidEnum,
         NegativeName: InvalidValue,
@@ -102,15 +129,18 @@ pub static GL_CALLS: [GlRow; 52] = calls![
         NoFramebufferTarget: InvalidEnum,
         NegativeName: InvalidValue,
     ];
+    // Section 3.7.4
     TexParameterx "glTexParameterx" ["target": Number, "parameter": Number, "value": Number] Plain => [
         NoTextureTarget: InvalidEnum,
         NoTextureParameter: InvalidEnum,
     ];
+    // OES_draw_texture
     TexParameteriv "glTexParameteriv" ["target": Number, "parameter": Number, "numbers": NumberList] Plain => [
         NoTextureTarget: InvalidEnum,
         NoCropParameter: InvalidEnum,
         WrongCropLength: InvalidValue,
     ];
+    // Section 3.7.1
     TexImage2d "glTexImage2D" ["target": Number, "level": Number, "internalformat": Number, "width": Number, "height": Number, "border": Number, "format": Number, "type": Number, "payload": Payload] Plain => [
         NoTextureTarget: InvalidEnum,
         NoImageKind: InvalidEnum,
@@ -122,6 +152,7 @@ pub static GL_CALLS: [GlRow; 52] = calls![
         NoImagePair: InvalidOperation,
         NoVideo: OutOfMemory,
     ];
+    // Section 3.7.2
     TexSubImage2d "glTexSubImage2D" ["target": Number, "level": Number, "x": Number, "y": Number, "width": Number, "height": Number, "format": Number, "type": Number, "payload": Payload] Plain => [
         NoTextureTarget: InvalidEnum,
         NoImageKind: InvalidEnum,
@@ -149,6 +180,7 @@ pub static GL_CALLS: [GlRow; 52] = calls![
         NotComplete: InvalidFramebufferOperation,
         NoLevelAlpha: InvalidOperation,
     ];
+    // Section 2.9
     BufferData "glBufferData" ["target": Number, "size": Number, "usage": Number, "payload": Payload] Plain => [
         NoBufferTarget: InvalidEnum,
         NoUsage: InvalidEnum,
@@ -162,11 +194,13 @@ pub static GL_CALLS: [GlRow; 52] = calls![
         NothingBound: InvalidOperation,
         PartBehindEnd: InvalidValue,
     ];
+    // Section 6.1.12
     GetBufferParameteriv "glGetBufferParameteriv" ["target": Number, "parameter": Number] Plain => [
         NoBufferTarget: InvalidEnum,
         NoBufferParameter: InvalidEnum,
         NothingBound: InvalidOperation,
     ];
+    // OES_framebuffer_object
     RenderbufferStorage "glRenderbufferStorageOES" ["target": Number, "internalformat": Number, "width": Number, "height": Number] Plain => [
         NoRenderbufferTarget: InvalidEnum,
         NoRenderbufferFormat: InvalidEnum,
@@ -204,6 +238,7 @@ pub static GL_CALLS: [GlRow; 52] = calls![
         NoAttachmentParameter: InvalidEnum,
         NothingAttached: InvalidEnum,
     ];
+    // OES_EGL_image
     ImageTargetTexture2d "glEGLImageTargetTexture2DOES" ["target": Number, "image": NumberOrVariable] Plain => [
         NoTextureTarget: InvalidEnum,
         NoImage: InvalidValue,

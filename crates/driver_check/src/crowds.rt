@@ -266,7 +266,7 @@ fn attach<R: Wait>(
     ensures owns { IsOf shared.now thread.new }
     ensures tokens { All (λ t. IsOf shared.now t) tokens.new.items }
 {
-    'attaching: for made in 0..threads {
+    'attaching: for _made in 0..threads {
         let Ok(token) = shared.attach(thread, rt) else {
             break 'attaching;
         };

@@ -1,8 +1,9 @@
 //! Lines in a random order, by a fixed seed.
-ghost use Rattle.std.specs.Prelude.{◌≡◌, ◌<◌, All};
+ghost use Rattle.std.specs.Prelude.{◌≡◌, ◌<◌, false, All};
 ghost use Rattle.egl_calls.specs.Ranges.{IsNumber};
+ghost use Rattle.egl_model.specs.Waits.{is_wait_end};
 
-use egl_calls::{Call, Kind, Numbers, set_argument};
+use egl_calls::{Call, EglKind, Kind, Numbers, set_argument};
 use egl_names::codes::{EGL_HEIGHT, EGL_WIDTH};
 use std::alloc::Global;
 use std::process::Abort;
@@ -101,6 +102,18 @@ pub fn call_with(kind: Kind, numbers: [u32; 8], list: Numbers) -> Call
         list,
         bytes: None,
     }
+}
+
+/// A call of EGL with these numbers.
+pub fn egl(alloc: Global, kind: EglKind, numbers: [u32; 4]) -> Call
+    ensures { is_wait_end result.kind ≡ false }
+{
+    let [first, second, third, fourth] = numbers;
+    call_with(
+        Kind::Egl(kind),
+        [first, second, third, fourth, 0, 0, 0, 0],
+        Numbers::new(alloc),
+    )
 }
 
 /// The list of a surface of so many pixels. Where memory runs out it is empty.

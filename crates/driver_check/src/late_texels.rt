@@ -4,10 +4,11 @@ ghost use Rattle.egl_model.specs.Waits.{is_wait_end};
 ghost use Rattle.shared_driver.specs.Tokens.{IsOf};
 
 use crate::crowds::{finish, opened};
+use crate::draws::egl;
 use crate::local_lines::is_reached;
 use crate::sides::played;
 use crate::texture_calls::{
-    CONFIG, CONTEXT, DISPLAY, TEXTURE, create_pbuffer, draw, egl, gl, prepare, read, upload,
+    CONFIG, CONTEXT, DISPLAY, TEXTURE, create_pbuffer, draw, gl, prepare, read, upload,
 };
 use driver_core::Driver;
 use egl_calls::{Bytes, Call, EglKind, GlKind, Journal, NoMemory, Payload};

@@ -16,6 +16,8 @@ mod faults;
 #[cfg(test)]
 mod faults_in_turn;
 #[cfg(test)]
+mod generated;
+#[cfg(test)]
 mod largest_uploads;
 #[cfg(test)]
 mod late_texels;
@@ -35,6 +37,8 @@ mod replays;
 mod shared_texture;
 #[cfg(test)]
 mod sides;
+#[cfg(test)]
+mod steps;
 #[cfg(test)]
 mod texture_calls;
 #[cfg(test)]

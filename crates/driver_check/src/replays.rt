@@ -6,8 +6,8 @@ use egl_calls::{Entry, Journal, Reply};
 use std::alloc::Global;
 use std::process::Abort;
 
-// Whether two replies are equal.
-fn is_same(one: &Reply, other: &Reply) -> bool {
+/// Whether two replies are equal.
+pub fn is_same(one: &Reply, other: &Reply) -> bool {
     one.outcome == other.outcome
         && one.value == other.value
         && one.list.as_slice() == other.list.as_slice()

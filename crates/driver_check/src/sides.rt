@@ -1,10 +1,9 @@
 //! One thread waits for a fence that another thread's flush signals, and a third sleeps for what the two add, in each of the ways in which an entry comes.
 ghost use Rattle.std.specs.Prelude.{◌≡◌, false, All};
-ghost use Rattle.egl_calls.specs.declared.kinds.Kind.TheVariants.{Egl as EglCall};
 ghost use Rattle.egl_model.specs.Waits.{is_wait_end};
 ghost use Rattle.shared_driver.specs.Tokens.{IsOf};
 
-use crate::draws::{call_with, surface_list};
+use crate::draws::{call_with, egl, surface_list};
 use driver_core::Driver;
 use egl_calls::{Call, EglKind, GlKind, Journal, Kind, NoMemory, Numbers, Outcome, OwnKind, Reply};
 use egl_names::codes::{EGL_CONDITION_SATISFIED, EGL_FOREVER, EGL_SYNC_FENCE};
@@ -63,17 +62,6 @@ impl Scene {
         }
         unreachable!()
     }
-}
-
-fn egl(alloc: Global, kind: EglKind, numbers: [u32; 4]) -> Call
-    ensures { result.kind ≡ EglCall kind }
-{
-    let [first, second, third, fourth] = numbers;
-    call_with(
-        Kind::Egl(kind),
-        [first, second, third, fourth, 0, 0, 0, 0],
-        Numbers::new(alloc),
-    )
 }
 
 /// A call's reply.

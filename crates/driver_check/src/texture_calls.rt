@@ -3,7 +3,7 @@ ghost use Rattle.std.specs.Prelude.{◌≡◌, false};
 ghost use Rattle.egl_model.specs.Waits.{is_wait_end};
 ghost use Rattle.shared_driver.specs.Tokens.{IsOf};
 
-use crate::draws::{call_with, surface_list};
+use crate::draws::{call_with, egl, surface_list};
 use crate::sides::played;
 use egl_calls::{Bytes, Call, EglKind, GlKind, Kind, Numbers, Payload};
 use egl_names::codes::{
@@ -28,17 +28,6 @@ pub const TEXTURE: u32 = 1;
 
 /// How many calls make a surface current, and a texture bound and enabled.
 const BEFORE: u32 = 10;
-
-pub fn egl(alloc: Global, kind: EglKind, numbers: [u32; 4]) -> Call
-    ensures { is_wait_end result.kind ≡ false }
-{
-    let [first, second, third, fourth] = numbers;
-    call_with(
-        Kind::Egl(kind),
-        [first, second, third, fourth, 0, 0, 0, 0],
-        Numbers::new(alloc),
-    )
-}
 
 pub fn gl(alloc: Global, kind: GlKind, numbers: [u32; 8]) -> Call
     ensures { is_wait_end result.kind ≡ false }

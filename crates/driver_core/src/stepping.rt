@@ -1,9 +1,10 @@
 //! One call of one thread.
-ghost use Rattle.std.specs.Prelude.{◌≡◌, ◌<◌, true, None, is_some, IfOk, IsOk, OnOk, OnErr, false, All, slice_index_or};
+ghost use Rattle.std.specs.Prelude.{◌≡◌, ◌<◌, true, None, Some, is_some, IfOk, IfSome, IsOk, OnOk, OnErr, false, All, slice_index_or};
 ghost use Rattle.driver_core.specs.Costs.{IsCheap, IsBounded};
 ghost use Rattle.driver_core.specs.Releases.{links, releases};
 ghost use Rattle.egl_model.specs.Sweep.{sweep};
 ghost use Rattle.thread_part.specs.Memory.{clears_nothing};
+ghost use Rattle.thread_part.specs.Uploads.{upload_of};
 ghost use Rattle.driver_facts.specs.Memory.{clears_own, egl_takes_no_memory, gl_clears_own, gl_takes_no_memory, takes_no_memory, is_bare, is_bare_on};
 ghost use Rattle.context_state.specs.Kinds.{context_gl_call};
 ghost use Rattle.egl_calls.specs.declared.kinds.Kind.TheVariants.{Egl as EglCall, Gl as GlCall};
@@ -15,6 +16,7 @@ ghost use Rattle.egl_model.specs.EglCalls.{egl_refusal, egl_effect};
 ghost use Rattle.egl_model.specs.GlCalls.{gl_refusal, gl_effect, object_effect};
 ghost use Rattle.egl_model.specs.Step.{egl_step, gl_step, step, step_by, done};
 ghost use Rattle.egl_model.specs.Currents.{current_context};
+ghost use Rattle.egl_model.specs.Parts.{part_of};
 ghost use Rattle.egl_model.specs.State.{State, record_of};
 ghost use Rattle.model_laws.specs.Sound.{IsSound};
 ghost use Rattle.model_laws.specs.Hidden.{hide};
@@ -36,7 +38,7 @@ use ref_store::Steps;
 use share_group::NameKind;
 use std::alloc::Global;
 use std::sync::ledger::Ledger;
-use thread_part::{Replies, answered, api_code, bare, display_of, read, valued};
+use thread_part::{Replies, Upload, answered, api_code, bare, display_of, read, valued};
 
 /// The ids of the configs that a list chooses, where the list is allowed.
 fn chosen(alloc: Global, call: &Call) -> Result<Numbers, NoMemory>
@@ -523,9 +525,64 @@ impl Driver {
         }
     }
 
-    /// Plays one call of a thread, and answers its reply. Every refusal of the standard is a reply, and takes no memory. Where memory runs out nothing has changed.
+    /// The same with what the call gives, if that was made before.
+    fn step_given<L: Ledger, R: Replies>(
+        &mut self,
+        alloc: Global,
+        thread: u32,
+        call: &Call,
+        upload: Option<Upload>,
+        steps: &mut Steps<L>,
+    ) -> Result<R, NoMemory>
+        requires made { thread < self.old.made }
+        requires upload { IfSome upload (λ u. upload_of (part_of self.old.state thread) call.now ≡ Some u) }
+        ensures reply { IfOk result (λ r. R.reply r ≡ (step self.old.state thread call.now).reply) }
+        ensures state { OnOk result (self.new ≡ record self.old { state = (step self.old.state thread call.now).state }) }
+        ensures steps { IsCheap self.old.state self.new.state steps.old steps.new }
+        ensures err { OnErr result (self.new ≡ self.old) }
+        ensures memory { upload ≡ None → takes_no_memory call.now.kind ≡ true → IsOk result }
+        ensures bare { is_bare self.old.state thread call.now.kind call.now ≡ true → IsOk result }
+        ensures room { upload ≡ None → clears_own self.old.state thread call.now.kind ≡ true → IsOk result }
+        ensures waits { upload ≡ None → is_some (record_of self.old.state thread).wait ≡ true → IsOk result }
+    {
+        match upload {
+            Some(upload) => self.step_in_with_upload(alloc, thread, call, upload, steps),
+            None => self.step_in(alloc, thread, call, steps),
+        }
+    }
+
+    /// Plays one call of a thread, and answers as many equal replies as its caller keeps. Every refusal of the standard is a reply, and takes no memory. Where memory runs out nothing has changed.
+    ///
+    /// Pixels or contents that the call gives may have been made before, from its thread's part as it is now. They are attached, or dropped where a rule refuses the call.
     ///
     /// Where the driver stands for a sound state outside the parts of some threads, and the thread isn't one of these, the reply is the step's from that state, and the driver then stands for the state after it outside the same parts.
+    pub fn step_as<L: Ledger, R: Replies>(
+        &mut self,
+        alloc: Global,
+        thread: u32,
+        call: &Call,
+        upload: Option<Upload>,
+        steps: &mut Steps<L>,
+    ) -> Result<R, NoMemory>
+        requires made { thread < self.old.made }
+        requires upload { IfSome upload (λ u. upload_of (part_of self.old.state thread) call.now ≡ Some u) }
+        ensures reply { IfOk result (λ r. R.reply r ≡ (step self.old.state thread call.now).reply) }
+        ensures state { OnOk result (self.new ≡ record self.old { state = (step self.old.state thread call.now).state }) }
+        ensures outside { (s : State) → IsSound s → slice_index_or self.old.away thread false ≡ false → self.old.state ≡ hide (outs self.old.away) s → IfOk result (λ r. R.reply r ≡ (step s thread call.now).reply) × OnOk result (self.new ≡ record self.old { state = hide (outs self.old.away) (step s thread call.now).state }) }
+        ensures steps { IsCheap self.old.state self.new.state steps.old steps.new }
+        ensures bound { IsBounded self.old.state self.new.state steps.old steps.new }
+        ensures err { OnErr result (self.new ≡ self.old) }
+        ensures memory { upload ≡ None → takes_no_memory call.now.kind ≡ true → IsOk result }
+        ensures bare { is_bare self.old.state thread call.now.kind call.now ≡ true → IsOk result }
+        ensures room { upload ≡ None → clears_own self.old.state thread call.now.kind ≡ true → IsOk result }
+        ensures waits { upload ≡ None → is_some (record_of self.old.state thread).wait ≡ true → IsOk result }
+    {
+        self.apart();
+        self.names_apart();
+        self.step_given(alloc, thread, call, upload, steps)
+    }
+
+    /// Plays one call of a thread, and answers its reply.
     pub fn step<L: Ledger>(
         &mut self,
         alloc: Global,
@@ -545,9 +602,7 @@ impl Driver {
         ensures room { clears_own self.old.state thread call.now.kind ≡ true → IsOk result }
         ensures waits { is_some (record_of self.old.state thread).wait ≡ true → IsOk result }
     {
-        self.apart();
-        self.names_apart();
-        self.step_in(alloc, thread, call, steps)
+        self.step_as(alloc, thread, call, None, steps)
     }
 
     /// The same with two equal replies.
@@ -570,8 +625,6 @@ impl Driver {
         ensures room { clears_own self.old.state thread call.now.kind ≡ true → IsOk result }
         ensures waits { is_some (record_of self.old.state thread).wait ≡ true → IsOk result }
     {
-        self.apart();
-        self.names_apart();
-        self.step_in(alloc, thread, call, steps)
+        self.step_as(alloc, thread, call, None, steps)
     }
 }

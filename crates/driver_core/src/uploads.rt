@@ -1,31 +1,27 @@
 //! Calls that give a texture or a buffer what was made before their turn (OpenGL ES 1.1, sections 2.9, 3.7.1 and 3.7.2).
-ghost use Rattle.std.specs.Prelude.{◌≡◌, ◌<◌, true, false, Some, IfOk, IsOk, OnOk, OnErr, slice_index_or};
+ghost use Rattle.std.specs.Prelude.{◌≡◌, ◌<◌, true, Some, IfOk, IsOk, OnOk, OnErr};
 ghost use Rattle.egl_calls.specs.declared.kinds.Kind.TheVariants.{Gl as GlCall};
 ghost use Rattle.egl_model.specs.Currents.{current_context};
 ghost use Rattle.egl_model.specs.GlCalls.{gl_effect};
 ghost use Rattle.egl_model.specs.Parts.{part_of};
-ghost use Rattle.egl_model.specs.State.{State};
 ghost use Rattle.egl_model.specs.Step.{done, gl_step, step};
 ghost use Rattle.egl_model.specs.Sweep.{sweep};
-ghost use Rattle.model_laws.specs.Hidden.{hide};
-ghost use Rattle.model_laws.specs.Sound.{IsSound};
 ghost use Rattle.thread_part.specs.Uploads.{upload_of};
-ghost use Rattle.driver_core.specs.Costs.{IsBounded, IsCheap};
-ghost use Rattle.driver_core.specs.Machine.{outs};
+ghost use Rattle.driver_core.specs.Costs.{IsCheap};
 ghost use Rattle.driver_facts.specs.Memory.{is_bare, is_bare_on};
 
 use crate::machine::Driver;
 use egl_calls::arguments::number;
 use egl_calls::places::LEVEL;
-use egl_calls::{Call, GlKind, Kind, NoMemory, Outcome, ReplyPair};
+use egl_calls::{Call, GlKind, Kind, NoMemory, Outcome};
 use ref_store::Steps;
 use std::alloc::Global;
 use std::sync::ledger::Ledger;
-use thread_part::{Upload, bare, valued};
+use thread_part::{Replies, Upload, bare, valued};
 
 impl Driver {
     /// Does a call that no rule refuses, by what it gives.
-    fn give_upload<L: Ledger>(
+    fn give_upload<L: Ledger, R: Replies>(
         &mut self,
         alloc: Global,
         thread: u32,
@@ -34,11 +30,11 @@ impl Driver {
         call: &Call,
         upload: Upload,
         steps: &mut Steps<L>,
-    ) -> Result<ReplyPair, NoMemory>
+    ) -> Result<R, NoMemory>
         requires kind { call.now.kind ≡ GlCall kind }
         requires current { current_context self.old.state thread ≡ Some context }
         requires upload { upload_of (part_of self.old.state thread) call.now ≡ Some upload }
-        ensures reply { IfOk result (λ r. r.reply ≡ done (gl_effect self.old.state thread context kind call.now)) }
+        ensures reply { IfOk result (λ r. R.reply r ≡ done (gl_effect self.old.state thread context kind call.now)) }
         ensures state { OnOk result (self.new ≡ record self.old { state = sweep (gl_effect self.old.state thread context kind call.now).state }) }
         ensures steps { IsCheap self.old.state self.new.state steps.old steps.new }
         ensures err { OnErr result (self.new ≡ self.old) }
@@ -58,7 +54,7 @@ impl Driver {
     }
 
     #[tactic(auto, using(model_laws::proofs::StepLaws::gl_refused, model_laws::proofs::StepLaws::gl_done, model_laws::proofs::StepLaws::gl_without_context))]
-    fn gl_step_with_upload<L: Ledger>(
+    fn gl_step_with_upload<L: Ledger, R: Replies>(
         &mut self,
         alloc: Global,
         thread: u32,
@@ -66,11 +62,11 @@ impl Driver {
         call: &Call,
         upload: Upload,
         steps: &mut Steps<L>,
-    ) -> Result<ReplyPair, NoMemory>
+    ) -> Result<R, NoMemory>
         requires made { thread < self.old.made }
         requires kind { call.now.kind ≡ GlCall kind }
         requires upload { upload_of (part_of self.old.state thread) call.now ≡ Some upload }
-        ensures reply { IfOk result (λ r. r.reply ≡ (gl_step self.old.state thread kind call.now).reply) }
+        ensures reply { IfOk result (λ r. R.reply r ≡ (gl_step self.old.state thread kind call.now).reply) }
         ensures state { OnOk result (self.new ≡ record self.old { state = (gl_step self.old.state thread kind call.now).state }) }
         ensures steps { IsCheap self.old.state self.new.state steps.old steps.new }
         ensures err { OnErr result (self.new ≡ self.old) }
@@ -89,17 +85,17 @@ impl Driver {
     }
 
     /// The same of a call of any kind that gives something.
-    fn step_in_with_upload<L: Ledger>(
+    pub(crate) fn step_in_with_upload<L: Ledger, R: Replies>(
         &mut self,
         alloc: Global,
         thread: u32,
         call: &Call,
         upload: Upload,
         steps: &mut Steps<L>,
-    ) -> Result<ReplyPair, NoMemory>
+    ) -> Result<R, NoMemory>
         requires made { thread < self.old.made }
         requires upload { upload_of (part_of self.old.state thread) call.now ≡ Some upload }
-        ensures reply { IfOk result (λ r. r.reply ≡ (step self.old.state thread call.now).reply) }
+        ensures reply { IfOk result (λ r. R.reply r ≡ (step self.old.state thread call.now).reply) }
         ensures state { OnOk result (self.new ≡ record self.old { state = (step self.old.state thread call.now).state }) }
         ensures steps { IsCheap self.old.state self.new.state steps.old steps.new }
         ensures err { OnErr result (self.new ≡ self.old) }
@@ -109,29 +105,5 @@ impl Driver {
             unreachable!()
         };
         self.gl_step_with_upload(alloc, thread, kind, call, upload, steps)
-    }
-
-    /// Plays a call whose pixels or contents were made before, from its thread's part as it is now, and answers its reply twice. It attaches them, or drops them where a rule refuses the call. All is as in `step`; where memory runs out nothing has changed.
-    pub fn step_with_upload<L: Ledger>(
-        &mut self,
-        alloc: Global,
-        thread: u32,
-        call: &Call,
-        upload: Upload,
-        steps: &mut Steps<L>,
-    ) -> Result<ReplyPair, NoMemory>
-        requires made { thread < self.old.made }
-        requires upload { upload_of (part_of self.old.state thread) call.now ≡ Some upload }
-        ensures reply { IfOk result (λ r. r.reply ≡ (step self.old.state thread call.now).reply) }
-        ensures state { OnOk result (self.new ≡ record self.old { state = (step self.old.state thread call.now).state }) }
-        ensures outside { (s : State) → IsSound s → slice_index_or self.old.away thread false ≡ false → self.old.state ≡ hide (outs self.old.away) s → IfOk result (λ r. r.reply ≡ (step s thread call.now).reply) × OnOk result (self.new ≡ record self.old { state = hide (outs self.old.away) (step s thread call.now).state }) }
-        ensures steps { IsCheap self.old.state self.new.state steps.old steps.new }
-        ensures bound { IsBounded self.old.state self.new.state steps.old steps.new }
-        ensures err { OnErr result (self.new ≡ self.old) }
-        ensures bare { is_bare self.old.state thread call.now.kind call.now ≡ true → IsOk result }
-    {
-        self.apart();
-        self.names_apart();
-        self.step_in_with_upload(alloc, thread, call, upload, steps)
     }
 }

@@ -3,6 +3,9 @@ use Rattle.std.proofs.Common.{◌≡◌, ℕ, List, take, drop, refl, sym, ap, �
 use Rattle.std.specs.Prelude.{codes, IsOkAnd}
 use Rattle.std.specs.Str.Lines.{lines}
 use Rattle.egl_flow.specs.Flow.{AtEnd, Took}
+use Rattle.egl_flow.specs.declared.statuses.Status.{Status}
+use Rattle.egl_flow.specs.declared.statuses.Status.TheVariants.{Ok as Fine, WriteFault, NoMemory, Differs}
+use Rattle.egl_flow.specs.Statuses.{Wrote}
 use Rattle.trace_reader.specs.declared.traces.Defect.{Defect}
 use Rattle.trace_reader.specs.Traces.{TraceValue}
 use Rattle.trace_reader.specs.Grammar.{trace}
@@ -16,12 +19,10 @@ use Rattle.trace_check.specs.Verdicts.{verdict}
 use Rattle.trace_check.specs.declared.verdicts.Verdict.{Verdict}
 use Rattle.trace_check.specs.declared.verdicts.Verdict.TheVariants.{Holds, Differs as DiffersAt, Incomplete}
 use Rattle.egl_cli.specs.declared.inputs.Claim.{Claim}
-use Rattle.egl_cli.specs.declared.statuses.Status.{Status}
-use Rattle.egl_cli.specs.declared.statuses.Status.TheVariants.{Ok as Fine, WriteFault, NoMemory, Differs}
 use Rattle.egl_cli.specs.declared.commands.Command.TheVariants.{Check}
 use Rattle.egl_cli.specs.Answers.{check_answer, verdict_answer, claim_answer, then_lines, claimed_at, claimed}
 use Rattle.egl_cli.specs.Inputs.{WasRead}
-use Rattle.egl_cli.specs.Says.{WhereTold, Wrote, WroteIfMade, Says, IsClaimTrue, IsHeadline}
+use Rattle.egl_cli.specs.Says.{WhereTold, WroteIfMade, Says, IsClaimTrue, IsHeadline}
 use Rattle.egl_cli.proofs.AnswerLaws.{check_is}
 use Rattle.egl_cli.proofs.SaysLaws.{where_told, read_whole, answered, meant, ended, wanted}
 

@@ -3,6 +3,9 @@ use Rattle.std.proofs.Common.{◌≡◌, ℕ, ◌<◌, Bool, true, false, List, 
 use Rattle.std.specs.Prelude.{All}
 use Rattle.std.proofs.lemmas.List.Elements.{All-nil, All-cons}
 use Rattle.egl_flow.specs.Flow.{AtEnd, Took}
+use Rattle.egl_flow.specs.declared.statuses.Status.{Status}
+use Rattle.egl_flow.specs.declared.statuses.Status.TheVariants.{Ok as Fine, WriteFault, Stalled, NoMemory}
+use Rattle.egl_flow.specs.Statuses.{Wrote}
 use Rattle.trace_reader.specs.Traces.{TraceValue}
 use Rattle.trace_reader.specs.Grammar.{trace}
 use Rattle.trace_reader.specs.Order.{IsTrace}
@@ -14,12 +17,10 @@ use Rattle.trace_model.specs.Stalled.{is_stalled, IsComplete, IsStalled}
 use Rattle.trace_model.proofs.FollowsLaws.{serial_plays}
 use Rattle.trace_model.proofs.OutcomeLaws.{not_stalled}
 use Rattle.trace_session.specs.Runs.{IsRun}
-use Rattle.egl_cli.specs.declared.statuses.Status.{Status}
-use Rattle.egl_cli.specs.declared.statuses.Status.TheVariants.{Ok as Fine, WriteFault, Stalled, NoMemory}
 use Rattle.egl_cli.specs.declared.commands.Command.TheVariants.{Compose}
 use Rattle.egl_cli.specs.Answers.{frames_answer, journal_frames, run_frames}
 use Rattle.egl_cli.specs.Inputs.{WasRead}
-use Rattle.egl_cli.specs.Says.{WhereTold, Wrote, WroteIfMade, Says, Spells, AreFrames, AreFramesStalled, IsHeadline, IsStalledHeadline}
+use Rattle.egl_cli.specs.Says.{WhereTold, WroteIfMade, Says, Spells, AreFrames, AreFramesStalled, IsHeadline, IsStalledHeadline}
 use Rattle.egl_cli.proofs.AnswerLaws.{compose_is}
 use Rattle.egl_cli.proofs.SaysLaws.{where_told, read_whole, answered, meant, ended, wanted}
 use Rattle.egl_cli.proofs.StalledLaws.{never_stalls}

@@ -20,8 +20,9 @@ use Rattle.trace_check.proofs.RunLaws.{run_holds}
 use Rattle.trace_check.proofs.WrittenLaws.{read_back}
 use Rattle.trace_check.specs.Recordings.{lines_recorded, IsSized}
 use Rattle.egl_cli.specs.declared.inputs.Claim.{Claim}
-use Rattle.egl_cli.specs.declared.statuses.Status.TheVariants.{Ok as Fine}
-use Rattle.egl_cli.specs.Answers.{check_answer, verdict_answer, claim_answer, then_lines, claimed_at, claimed, answer_or_defect, most_input}
+use Rattle.egl_flow.specs.declared.statuses.Status.TheVariants.{Ok as Fine}
+use Rattle.egl_flow.specs.Inputs.{most_input}
+use Rattle.egl_cli.specs.Answers.{check_answer, verdict_answer, claim_answer, then_lines, claimed_at, claimed, answer_or_defect}
 use Rattle.egl_cli.proofs.SaysLaws.{within}
 
 module _ (front : List ℕ) (t : TraceValue) (journal : List AnEntry) (spelt : trace (front ++ codes "\n") ≡ Ok t) (is : IsTrace t) (p : IsPlayOf t journal) (c : IsComplete t journal) (sized : IsSized t journal) where

@@ -1,4 +1,5 @@
 pub mod ConfigLaws
+pub mod InputLaws
 pub mod StalledLaws
 pub mod TurnLaws
 pub mod AnswerLaws

@@ -3,6 +3,10 @@ use Rattle.std.proofs.Common.{◌≡◌, ◌++◌, ℕ, Bool, true, false, List,
 use Rattle.std.specs.Prelude.{◌⊎◌}
 use Rattle.egl_calls.specs.declared.entries.Entry.{Entry}
 use Rattle.egl_flow.specs.Flow.{AtEnd}
+use Rattle.egl_flow.specs.declared.statuses.Status.{Status}
+use Rattle.egl_flow.specs.declared.statuses.Status.TheVariants.{Ok as Fine, Usage, ReadFault, Malformed, WriteFault, Stalled, NoMemory, TooLong, Differs}
+use Rattle.egl_flow.specs.Inputs.{read_fault_text}
+use Rattle.egl_flow.specs.Statuses.{Wrote}
 use Rattle.trace_reader.specs.Grammar.{trace}
 use Rattle.trace_reader.specs.Order.{IsTrace}
 use Rattle.trace_reader.specs.Traces.{TraceValue}
@@ -10,12 +14,10 @@ use Rattle.trace_model.specs.Follows.{IsPlayOf}
 use Rattle.trace_model.specs.Stalled.{IsComplete, IsStalled}
 use Rattle.egl_cli.specs.StalledLines.{stalled_lines}
 use Rattle.egl_cli.specs.declared.answers.Answer.{Answer}
-use Rattle.egl_cli.specs.declared.statuses.Status.{Status}
-use Rattle.egl_cli.specs.declared.statuses.Status.TheVariants.{Ok as Fine, Usage, ReadFault, Malformed, WriteFault, Stalled, NoMemory, TooLong, Differs}
 use Rattle.egl_cli.specs.declared.commands.Command.TheVariants.{Play}
-use Rattle.egl_cli.specs.Answers.{journal_answer, read_fault_text, told}
+use Rattle.egl_cli.specs.Answers.{journal_answer, told}
 use Rattle.egl_cli.specs.Inputs.{WasRead}
-use Rattle.egl_cli.specs.Says.{IsPlayText, IsTold, IsToldStalled, IsWhole, Says, Spells, WhereTold, Wrote, WrotePlay}
+use Rattle.egl_cli.specs.Says.{IsPlayText, IsTold, IsToldStalled, IsWhole, Says, Spells, WhereTold, WrotePlay}
 use Rattle.egl_cli.proofs.SaysLaws.{ended, wanted, where_told}
 
 -- a fact of the bytes that follows from another

@@ -2,11 +2,11 @@
 use Rattle.std.proofs.Common.{◌≡◌, ℕ, List, Option, subst, inl, inr, Result, Ok, Err}
 use Rattle.std.specs.Prelude.{◌⊎◌, IfOk, IfErr}
 use Rattle.egl_flow.specs.Flow.{HasRisen}
+use Rattle.egl_flow.specs.declared.statuses.Status.{Status}
+use Rattle.egl_flow.specs.declared.statuses.Status.TheVariants as status
 use Rattle.egl_cli.specs.Commands.{command_of}
 use Rattle.egl_cli.specs.Process.{IsStatusOf, KeepsPromises}
 use Rattle.egl_cli.specs.Says.{Says, WantsMemory, IsUnread, IsHeadline, IsStalledHeadline, IsWhole}
-use Rattle.egl_cli.specs.declared.statuses.Status.{Status}
-use Rattle.egl_cli.specs.declared.statuses.Status.TheVariants as status
 
 module _ (left rest : Option (List ℕ)) (read_before read_now : ℕ) (before after : Option (List ℕ)) (write_before write_now : ℕ) (s : Status) where
   pub kept : (given words : List (List ℕ)) → given ≡ words → Says (command_of given) left rest (HasRisen read_before read_now) before after (HasRisen write_before write_now) s

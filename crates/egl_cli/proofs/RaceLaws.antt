@@ -1,7 +1,11 @@
 -- What `races` says to a trace, and what that is worth.
-use Rattle.std.proofs.Common.{◌≡◌, ℕ, ◌++◌, Bool, true, false, List, refl, sym, ap, ◌∙◌, subst, Option, None, Some, Result, Ok, Err, inl, inr}
+use Rattle.std.proofs.Common.{◌≡◌, ℕ, Bool, true, false, List, refl, sym, ap, ◌∙◌, subst, Option, None, Some, Result, Ok, Err, inl, inr}
 use Rattle.std.specs.Prelude.{◌⊎◌, nat_le, if◌then◌else◌}
 use Rattle.egl_flow.specs.Flow.{Took}
+use Rattle.egl_flow.specs.declared.statuses.Status.{Status}
+use Rattle.egl_flow.specs.declared.statuses.Status.TheVariants.{Ok as Fine, WriteFault, Stalled, NoMemory}
+use Rattle.egl_flow.specs.Inputs.{read_fault_text}
+use Rattle.egl_flow.specs.Statuses.{Wrote}
 use Rattle.egl_calls.specs.declared.entries.Entry.{Entry}
 use Rattle.egl_model.specs.State.{State}
 use Rattle.trace_reader.specs.declared.traces.Defect.{Defect}
@@ -16,15 +20,12 @@ use Rattle.trace_session.specs.Runs.{IsRun}
 use Rattle.race_report.specs.declared.reports.Pair.{Pair}
 use Rattle.race_report.specs.Replays.{AreRacesOf}
 use Rattle.egl_cli.specs.declared.answers.Answer.{Answer}
-use Rattle.egl_cli.specs.declared.statuses.Status.{Status}
-use Rattle.egl_cli.specs.declared.statuses.Status.TheVariants.{Ok as Fine, WriteFault, Stalled, NoMemory}
 use Rattle.egl_cli.specs.declared.commands.Command.TheVariants.{Races}
-use Rattle.egl_cli.specs.Answers.{answer_or_defect, journal_races, races_answer, read_fault_text, run_answer, unreported, IsJournalRaces, IsRacesAnswer}
+use Rattle.egl_cli.specs.Answers.{answer_or_defect, journal_races, races_answer, run_answer, unreported, with_stalled, IsJournalRaces, IsRacesAnswer}
 use Rattle.egl_cli.specs.RaceLines.{races_text}
-use Rattle.egl_cli.specs.StalledLines.{stalled_lines}
 use Rattle.egl_cli.specs.BodyLines.{limited, line_past, most_raced, short_trace}
 use Rattle.egl_cli.specs.Inputs.{WasRead}
-use Rattle.egl_cli.specs.Says.{AnswersRaces, AreRacesTold, AreRacesToldStalled, IsHeadline, IsRacesText, IsStalledHeadline, Says, Spells, WroteRaces, WroteReport, Wrote}
+use Rattle.egl_cli.specs.Says.{AnswersRaces, AreRacesTold, AreRacesToldStalled, IsHeadline, IsRacesText, IsStalledHeadline, Says, Spells, WroteRaces, WroteReport}
 use Rattle.egl_cli.proofs.SaysLaws.{ended, wanted, where_told, within}
 use Rattle.egl_cli.proofs.StalledLaws.{answer_by, never_stalls}
 
@@ -43,15 +44,8 @@ unfolding short_trace
 short_is_one b t e = limited_of (line_past most_raced b) (trace b) t e
 
 -- ---- The answer to a run that came to its end, and to one that stalled.
-pub told_ended : (t : TraceValue) (entries : List Entry) (pairs : List Pair) (text : List ℕ) → AreRacesOf t entries pairs → text ≡ races_text entries pairs → IsJournalRaces t entries false (record { status = Fine; text = text })
-told_ended t entries pairs text all e =
-    let f : List ℕ → Answer = λ x. record { status = Fine; text = x } in
-    (pairs, all, ap f e)
-
-pub told_stalled : (t : TraceValue) (entries : List Entry) (pairs : List Pair) (text : List ℕ) → AreRacesOf t entries pairs → text ≡ races_text entries pairs ++ stalled_lines t entries → IsJournalRaces t entries true (record { status = Stalled; text = text })
-told_stalled t entries pairs text all e =
-    let f : List ℕ → Answer = λ x. record { status = Stalled; text = x } in
-    (pairs, all, ap f e)
+pub told_races : (t : TraceValue) (entries : List Entry) (pairs : List Pair) (text : List ℕ) (stalled : Bool) (a : Answer) → AreRacesOf t entries pairs → text ≡ races_text entries pairs → a ≡ with_stalled text t entries stalled → IsJournalRaces t entries stalled a
+told_races t entries pairs text stalled a all e f = (pairs, all, f ∙ ap (λ (x : List ℕ). with_stalled x t entries stalled) e)
 
 module _ (t : TraceValue) (entries : List Entry) (s : State) (r : IsRun t entries s) (a : Answer) where
   pub races_ended : IsComplete t (serial t) → IsJournalRaces t entries false a → IsRacesAnswer t a

@@ -1,22 +1,24 @@
 -- What each status promises, from what was read and written.
-use Rattle.std.proofs.Common.{◌≡◌, ℕ, ◌<◌, ◌≤◌, true, false, List, [], ◌++◌, length, refl, sym, ap, ◌∙◌, arith, subst, Option, None, Some, Result, Err, inl, inr, length-append}
+use Rattle.std.proofs.Common.{◌≡◌, ℕ, ◌+◌, ◌<◌, ◌≤◌, true, false, List, [], ◌++◌, length, refl, sym, ap, ◌∙◌, arith, subst, Option, None, Some, Result, Err, inl, inr, length-append}
 use Rattle.std.proofs.lemmas.Bool.{cond-true, cond-false}
 use Rattle.std.proofs.lemmas.List.{append-nil}
 use Rattle.std.specs.Prelude.{codes, nat_lt}
 use Rattle.egl_flow.specs.Flow.{HasRisen, Took, TookFront}
 use Rattle.egl_flow.specs.Causes.{GavePast}
+use Rattle.egl_flow.specs.declared.statuses.Status.{Status}
+use Rattle.egl_flow.specs.declared.statuses.Status.TheVariants.{Usage, ReadFault, Malformed, WriteFault, NoMemory, TooLong}
+use Rattle.egl_flow.specs.Inputs.{read_fault_text, too_long_text, most_input}
+use Rattle.egl_flow.specs.Statuses.{Wrote}
 use Rattle.trace_reader.specs.declared.traces.Defect.{Defect}
 use Rattle.trace_reader.specs.declared.traces.Reason.{Reason}
-use Rattle.egl_cli.specs.declared.statuses.Status.{Status}
-use Rattle.egl_cli.specs.declared.statuses.Status.TheVariants.{Usage, ReadFault, Malformed, WriteFault, NoMemory, TooLong}
 use Rattle.egl_cli.specs.declared.answers.Answer.{Answer}
 use Rattle.egl_cli.specs.declared.commands.Command.{Command}
 use Rattle.egl_cli.specs.declared.commands.Command.TheVariants.{Serial, Play, Check, Configs, Generate, Compose, Scene, Races}
 use Rattle.egl_cli.specs.declared.inputs.InputError.{InputError}
 use Rattle.egl_cli.specs.declared.inputs.InputError.TheVariants.{ReadFault as Unread, TooLong as Overlong, Malformed as Defective, NoMemory as Unmade}
-use Rattle.egl_cli.specs.Answers.{within_limit, answer_or_defect, malformed_text, usage_text, read_fault_text, too_long_text, most_input}
+use Rattle.egl_cli.specs.Answers.{within_limit, answer_or_defect, malformed_text, usage_text}
 use Rattle.egl_cli.specs.Inputs.{WasRead, GivesNone}
-use Rattle.egl_cli.specs.Says.{WhereTold, Wrote, WroteRefusal, IsAnswered, ReadsInput, answer_of, IsMeant, Says}
+use Rattle.egl_cli.specs.Says.{WhereTold, WroteRefusal, IsAnswered, ReadsInput, answer_of, IsMeant, Says}
 
 -- ---- What was read.
 pub within : (b : List ℕ) (a : Answer) → length b ≤ most_input → within_limit b a ≡ a
@@ -119,13 +121,13 @@ module _ (left rest : Option (List ℕ)) (source_failed : Type 0) (before after 
         let a : Answer = record { status = Malformed; text = malformed_text n r } in
         ended command (malformed_text n r) result (meant command p left source_failed a (read_whole spelled answer command is left rest bytes (Err (record { line = n; reason = r })) w h)) q
 
-    pub says_too_long : (result : Status) → GavePast left rest most_input 33554433 → Written too_long_text TooLong result → Promises command result
+    pub says_too_long : (result : Status) → GavePast left rest most_input (most_input + 1) → Written too_long_text TooLong result → Promises command result
     says_too_long result g (inl q) =
         let a : Answer = record { status = TooLong; text = too_long_text } in
-        subst (Promises command) (sym q.0) (p, g, answered (answer_of command) left before after a (read_past spelled answer command is left rest 33554433 g) q.1)
+        subst (Promises command) (sym q.0) (p, g, answered (answer_of command) left before after a (read_past spelled answer command is left rest (most_input + 1) g) q.1)
     says_too_long result g (inr q) =
         let a : Answer = record { status = TooLong; text = too_long_text } in
-        ended command too_long_text result (meant command p left source_failed a (read_past spelled answer command is left rest 33554433 g)) q
+        ended command too_long_text result (meant command p left source_failed a (read_past spelled answer command is left rest (most_input + 1) g)) q
 
 -- the same by the cause
 module _ (left rest : Option (List ℕ)) (faults_before faults : ℕ) (before after : Option (List ℕ)) (sink_failed : Type 0) where

@@ -6,8 +6,8 @@ use Rattle.scene_reader.specs.Scenes.{SceneValue}
 use Rattle.sprite_scene.specs.Calls.{calls_of}
 use Rattle.sprite_scene.specs.Runs.{Draws}
 use Rattle.scene_trace.specs.Lines.{scene_text, trace_of}
-use Rattle.egl_cli.specs.declared.statuses.Status.{Status}
-use Rattle.egl_cli.specs.declared.statuses.Status.TheVariants.{Ok as Fine, WriteFault, NoMemory}
+use Rattle.egl_flow.specs.declared.statuses.Status.{Status}
+use Rattle.egl_flow.specs.declared.statuses.Status.TheVariants.{Ok as Fine, WriteFault, NoMemory}
 use Rattle.egl_cli.specs.declared.commands.Command.TheVariants.{Scene}
 use Rattle.egl_cli.specs.Answers.{drawn, scene_answer}
 use Rattle.egl_cli.specs.Inputs.{WasRead}

@@ -1,6 +1,9 @@
 -- What `serial` says to a trace, and what that is worth.
 use Rattle.std.proofs.Common.{◌≡◌, ℕ, Bool, true, false, List, refl, sym, ◌∙◌, subst, Option, Some, Ok, inl, inr}
 use Rattle.egl_flow.specs.Flow.{AtEnd, Took}
+use Rattle.egl_flow.specs.declared.statuses.Status.{Status}
+use Rattle.egl_flow.specs.declared.statuses.Status.TheVariants.{Ok as Fine, WriteFault, Stalled, NoMemory}
+use Rattle.egl_flow.specs.Statuses.{Wrote}
 use Rattle.trace_reader.specs.Traces.{TraceValue}
 use Rattle.trace_reader.specs.Grammar.{trace}
 use Rattle.trace_reader.specs.Order.{IsTrace}
@@ -9,12 +12,10 @@ use Rattle.trace_model.specs.Serial.{state_behind, serial}
 use Rattle.trace_model.specs.Stalled.{is_stalled}
 use Rattle.trace_model.proofs.FollowsLaws.{serial_plays}
 use Rattle.trace_model.proofs.OutcomeLaws.{not_stalled}
-use Rattle.egl_cli.specs.declared.statuses.Status.{Status}
-use Rattle.egl_cli.specs.declared.statuses.Status.TheVariants.{Ok as Fine, WriteFault, Stalled, NoMemory}
 use Rattle.egl_cli.specs.declared.commands.Command.TheVariants.{Serial}
 use Rattle.egl_cli.specs.Answers.{serial_answer, journal_answer, run_answer}
 use Rattle.egl_cli.specs.Inputs.{WasRead}
-use Rattle.egl_cli.specs.Says.{WhereTold, Wrote, WroteIfMade, Says, Spells, IsTold, IsToldStalled, IsHeadline, IsStalledHeadline}
+use Rattle.egl_cli.specs.Says.{WhereTold, WroteIfMade, Says, Spells, IsTold, IsToldStalled, IsHeadline, IsStalledHeadline}
 use Rattle.egl_cli.proofs.AnswerLaws.{serial_is}
 use Rattle.egl_cli.proofs.SaysLaws.{where_told, read_whole, answered, meant, ended, wanted}
 

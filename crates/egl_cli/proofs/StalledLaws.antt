@@ -9,7 +9,7 @@ use Rattle.trace_model.specs.Serial.{state_behind, serial}
 use Rattle.trace_model.specs.Stalled.{threads_of, is_at_rest, is_stalled, IsComplete}
 use Rattle.trace_model.specs.Recording.{recording}
 use Rattle.egl_cli.specs.StalledLines.{stalled_lines}
-use Rattle.egl_cli.specs.declared.statuses.Status.TheVariants.{Ok as Fine, Stalled}
+use Rattle.egl_flow.specs.declared.statuses.Status.TheVariants.{Ok as Fine, Stalled}
 use Rattle.egl_cli.specs.Answers.{journal_answer, run_answer}
 
 never : (b : Bool) → (b && false) ≡ false

@@ -2,11 +2,14 @@
 use Rattle.std.specs.Prelude.{◌≡◌, ◌⊎◌, ℕ, ◌+◌, nat_lt, Bool, true, false, List, [], ◌++◌, if◌then◌else◌, length, take, drop, codes, decimal, Option, None, Some, Result, Ok, Err}
 use Rattle.std.specs.Str.Lines.{lines}
 use Rattle.trace_reader.specs.declared.traces.Reason.{Reason}
-use Rattle.trace_reader.specs.declared.traces.Reason.TheVariants.{Header, Window, Thread, Name, Argument, Variable, Limit, Entry}
+use Rattle.trace_reader.specs.declared.traces.Reason.TheVariants.{Entry}
+use Rattle.trace_reader.specs.Reasons.{reason_name}
 use Rattle.trace_reader.specs.declared.traces.Defect.{Defect}
 use Rattle.trace_reader.specs.Traces.{TraceValue}
 use Rattle.trace_reader.specs.Grammar.{trace}
 use Rattle.egl_calls.specs.declared.entries.Entry.{Entry as AnEntry}
+use Rattle.egl_flow.specs.Inputs.{most_input, too_long_text}
+use Rattle.egl_flow.specs.declared.statuses.Status.TheVariants.{Ok as Fine, Malformed, Stalled, TooLong, Differs}
 use Rattle.trace_model.specs.Serial.{state_behind, serial}
 use Rattle.trace_model.specs.Follows.{IsPlayOf}
 use Rattle.trace_model.specs.Stalled.{IsComplete, IsStalled, is_stalled}
@@ -26,38 +29,18 @@ use Rattle.scene_reader.specs.Scenes.{SceneValue}
 use Rattle.scene_trace.specs.Lines.{scene_text}
 use Rattle.egl_cli.specs.Frames.{frames_text}
 use Rattle.egl_cli.specs.BodyLines.{short_trace}
+use Rattle.egl_cli.specs.Places.{place_words}
 use Rattle.egl_cli.specs.RaceLines.{races_text}
 use Rattle.egl_cli.specs.StalledLines.{stalled_lines}
-use Rattle.egl_cli.specs.declared.statuses.Status.TheVariants.{Ok as Fine, Malformed, Stalled, TooLong, Differs}
 use Rattle.egl_cli.specs.declared.answers.Answer.{Answer}
 use Rattle.egl_cli.specs.declared.inputs.Claim.{Claim}
 
 unfoldable pub usage_text : List ℕ
 usage_text = codes "usage: egl_cli serial | play [summary] | check | configs | gen N THREADS SEED | compose W H | scene | races\n"
 
-unfoldable pub read_fault_text : List ℕ
-read_fault_text = codes "read fault\n"
-
-unfoldable pub too_long_text : List ℕ
-too_long_text = codes "too long\n"
-
-unfoldable pub reason_name : Reason → List ℕ
-reason_name Header = codes "Header"
-reason_name Window = codes "Window"
-reason_name Thread = codes "Thread"
-reason_name Name = codes "Name"
-reason_name Argument = codes "Argument"
-reason_name Variable = codes "Variable"
-reason_name Limit = codes "Limit"
-reason_name Entry = codes "Entry"
-
 -- malformed LINE REASON
 unfoldable pub malformed_text : ℕ → Reason → List ℕ
 malformed_text line reason = codes "malformed " ++ decimal line ++ codes " " ++ reason_name reason ++ codes "\n"
-
--- how many bytes an input may have
-abbrev pub most_input : ℕ
-most_input = 33554432
 
 -- ---- Of a trace that is played.
 -- what is told of a run: its summary, or its recording
@@ -65,10 +48,13 @@ abbrev pub told : Bool → TraceValue → List AnEntry → List ℕ
 told true t journal = summary t journal
 told false t journal = recording t journal
 
--- what is told of a run, and where it stalled, the lines at which threads wait
+-- a text that tells of a journal, and where the run stalled, the lines at which threads wait
+abbrev pub with_stalled : List ℕ → TraceValue → List AnEntry → Bool → Answer
+with_stalled text t journal false = record { status = Fine; text = text }
+with_stalled text t journal true = record { status = Stalled; text = text ++ stalled_lines t journal }
+
 abbrev pub journal_answer : Bool → TraceValue → List AnEntry → Bool → Answer
-journal_answer how t journal false = record { status = Fine; text = told how t journal }
-journal_answer how t journal true = record { status = Stalled; text = told how t journal ++ stalled_lines t journal }
+journal_answer how t journal stalled = with_stalled (told how t journal) t journal stalled
 
 -- the answer to a trace: that of its serial journal
 unfoldable pub run_answer : TraceValue → Answer
@@ -79,20 +65,18 @@ abbrev pub IsPlayAnswer : Bool → TraceValue → Answer → Type 0
 IsPlayAnswer how t a = (journal : List AnEntry) × IsPlayOf t journal × ((IsComplete t journal × (a ≡ journal_answer how t journal false)) ⊎ (IsStalled t journal × (a ≡ journal_answer how t journal true)))
 
 -- ---- Of a trace that is played for its frames.
--- its frames on a screen of these sides, and where the run stalled, the lines at which threads wait
+-- its frames on a screen of these sides
 abbrev pub journal_frames : ℕ → ℕ → TraceValue → List AnEntry → Bool → Answer
-journal_frames w h t journal false = record { status = Fine; text = frames_text w h t journal }
-journal_frames w h t journal true = record { status = Stalled; text = frames_text w h t journal ++ stalled_lines t journal }
+journal_frames w h t journal stalled = with_stalled (frames_text w h t journal) t journal stalled
 
 -- the frames of a trace: those of its serial journal
 unfoldable pub run_frames : ℕ → ℕ → TraceValue → Answer
 run_frames w h t = journal_frames w h t (serial t) (is_stalled t (serial t) (state_behind t (serial t)))
 
 -- ---- Of a trace that is played for its races.
--- the races of its journal, and where the run stalled, the lines at which threads wait
+-- the races of its journal
 abbrev pub journal_races : TraceValue → List AnEntry → List Pair → Bool → Answer
-journal_races t journal pairs false = record { status = Fine; text = races_text journal pairs }
-journal_races t journal pairs true = record { status = Stalled; text = races_text journal pairs ++ stalled_lines t journal }
+journal_races t journal pairs stalled = with_stalled (races_text journal pairs) t journal stalled
 
 -- the answer to a journal, behind which the run stalled or didn't. There is only one: no two lists are all races
 abbrev pub IsJournalRaces : TraceValue → List AnEntry → Bool → Answer → Type 0
@@ -129,15 +113,11 @@ claimed_at b None = then_lines (trace b) (Err (record { line = length (lines b) 
 unfoldable pub claimed : List ℕ → Result Claim Defect
 claimed b = claimed_at b (cut_recording b)
 
--- THREAD LINE
-unfoldable pub thread_line : ℕ → ℕ → List ℕ
-thread_line thread line = decimal thread ++ codes " " ++ decimal line ++ codes "\n"
-
 -- differs PLACE, expected TEXT, found TEXT on three lines, or that a thread isn't at its end
 abbrev pub verdict_answer : Verdict → Answer
 verdict_answer Holds = record { status = Fine; text = codes "holds\n" }
 verdict_answer (DiffersAt place expected found) = record { status = Differs; text = codes "differs " ++ decimal place ++ codes "\nexpected " ++ expected ++ codes "\nfound " ++ found ++ codes "\n" }
-verdict_answer (Incomplete thread line) = record { status = Differs; text = codes "incomplete " ++ thread_line thread line }
+verdict_answer (Incomplete thread line) = record { status = Differs; text = codes "incomplete " ++ place_words thread line ++ codes "\n" }
 
 unfoldable pub claim_answer : Claim → Answer
 claim_answer c = verdict_answer (verdict c.trace c.recording)

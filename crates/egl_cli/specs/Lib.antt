@@ -1,8 +1,8 @@
-pub mod Texts
 pub mod Commands
 pub mod ConfigLines
 pub mod Frames
 pub mod BodyLines
+pub mod Places
 pub mod RaceLines
 pub mod StalledLines
 pub mod Answers

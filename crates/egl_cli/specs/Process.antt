@@ -1,10 +1,10 @@
 -- What the program's edge answers.
 use Rattle.std.specs.Prelude.{◌≡◌, ℕ, List, Option}
 use Rattle.egl_flow.specs.Flow.{HasRisen}
+use Rattle.egl_flow.specs.declared.statuses.Status.{Status}
+use Rattle.egl_flow.specs.declared.statuses.Status.TheVariants.{Ok, Stalled, NoMemory}
 use Rattle.egl_cli.specs.Commands.{command_of}
 use Rattle.egl_cli.specs.Says.{Says, WantsMemory, IsUnread, IsHeadline, IsStalledHeadline, IsWhole}
-use Rattle.egl_cli.specs.declared.statuses.Status.{Status}
-use Rattle.egl_cli.specs.declared.statuses.Status.TheVariants.{Ok, Stalled, NoMemory}
 
 -- all that is promised of the command that words name: by what the source had left and has left now, its count of faults before and now, what the sink had taken and has taken now, and its count of faults
 pub record KeepsPromises (words : List (List ℕ)) (left rest : Option (List ℕ)) (read_before read_now : ℕ) (before after : Option (List ℕ)) (write_before write_now : ℕ) (status : Status) : Type 0 where

@@ -3,15 +3,16 @@ use Rattle.std.specs.Prelude.{ℕ, List, [], ◌++◌, length, slice_get, codes,
 use Rattle.std.specs.List.{flat_map}
 use Rattle.egl_calls.specs.declared.entries.Entry.{Entry}
 use Rattle.race_report.specs.declared.reports.Pair.{Pair}
+use Rattle.egl_cli.specs.Places.{place_words}
 
--- THREAD LINE of an entry; each pair of races has two
-abbrev pub place_words : Option Entry → List ℕ
-place_words None = []
-place_words (Some e) = decimal e.thread ++ codes " " ++ decimal e.mark
+-- where an entry stands; each pair of races has two
+abbrev pub entry_place : Option Entry → List ℕ
+entry_place None = []
+entry_place (Some e) = place_words e.thread e.mark
 
 -- race THREAD LINE THREAD LINE
 unfoldable pub race_line : List Entry → Pair → List ℕ
-race_line journal p = codes "race " ++ place_words (slice_get journal p.first) ++ codes " " ++ place_words (slice_get journal p.second) ++ codes "\n"
+race_line journal p = codes "race " ++ entry_place (slice_get journal p.first) ++ codes " " ++ entry_place (slice_get journal p.second) ++ codes "\n"
 
 -- races N, and a line for each
 unfoldable pub races_text : List Entry → List Pair → List ℕ

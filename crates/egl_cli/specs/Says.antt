@@ -1,8 +1,12 @@
 -- What each status of the program promises of what was read and written.
-use Rattle.std.specs.Prelude.{◌≡◌, ℕ, ◌≤◌, ◌⊎◌, Bool, false, List, [], ◌++◌, length, take, drop, codes, Option, None, Some, Ok as Spelt}
+use Rattle.std.specs.Prelude.{◌≡◌, ℕ, ◌+◌, ◌≤◌, ◌⊎◌, Bool, false, List, [], ◌++◌, length, take, drop, codes, Option, None, Some, Ok as Spelt}
 use Rattle.egl_calls.specs.declared.entries.Entry.{Entry}
 use Rattle.egl_flow.specs.Flow.{AtEnd, Took, TookFront}
 use Rattle.egl_flow.specs.Causes.{GavePast, GaveWithin}
+use Rattle.egl_flow.specs.Inputs.{read_fault_text, too_long_text, most_input}
+use Rattle.egl_flow.specs.Statuses.{Wrote}
+use Rattle.egl_flow.specs.declared.statuses.Status.{Status}
+use Rattle.egl_flow.specs.declared.statuses.Status.TheVariants.{Ok, Usage, ReadFault, Malformed, WriteFault, Stalled, NoMemory, TooLong, Differs}
 use Rattle.trace_reader.specs.Traces.{TraceValue}
 use Rattle.trace_reader.specs.Grammar.{trace}
 use Rattle.trace_reader.specs.Order.{IsTrace}
@@ -24,13 +28,11 @@ use Rattle.egl_cli.specs.BodyLines.{short_trace}
 use Rattle.egl_cli.specs.RaceLines.{races_text}
 use Rattle.egl_cli.specs.StalledLines.{stalled_lines}
 use Rattle.egl_cli.specs.declared.answers.Answer.{Answer}
-use Rattle.egl_cli.specs.declared.statuses.Status.{Status}
-use Rattle.egl_cli.specs.declared.statuses.Status.TheVariants.{Ok, Usage, ReadFault, Malformed, WriteFault, Stalled, NoMemory, TooLong, Differs}
 use Rattle.egl_cli.specs.declared.commands.Command.{Command}
 use Rattle.egl_cli.specs.declared.commands.Command.TheVariants.{Serial, Play, Check, Configs, Generate, Compose, Scene, Races}
 use Rattle.egl_cli.specs.declared.inputs.InputError.{InputError}
 use Rattle.egl_cli.specs.declared.inputs.InputError.TheVariants.{ReadFault as Unread, TooLong as Overlong, Malformed as Defective, NoMemory as Unmade}
-use Rattle.egl_cli.specs.Answers.{told, serial_answer, frames_answer, races_answer, scene_answer, check_answer, IsPlayAnswer, IsRacesAnswer, malformed_text, usage_text, read_fault_text, too_long_text, most_input}
+use Rattle.egl_cli.specs.Answers.{told, serial_answer, frames_answer, races_answer, scene_answer, check_answer, IsPlayAnswer, IsRacesAnswer, malformed_text, usage_text}
 use Rattle.egl_cli.specs.ConfigLines.{configs_text}
 
 -- a fact of the bytes of the input, where the source tells them
@@ -39,11 +41,7 @@ WhereTold None P = Unit {0}
 WhereTold (Some b) P = P b
 
 -- ---- What was written.
--- a text was written whole with its status, or else a front part of it and the sink failed
-abbrev pub Wrote : Option (List ℕ) → List ℕ → Option (List ℕ) → Type 0 → Status → Status → Type 0
-Wrote before text after failed meant result = ((result ≡ meant) × Took before text after) ⊎ ((result ≡ WriteFault) × TookFront before text after × failed)
-
--- the same of a text that is made in memory: where that runs out nothing was written
+-- a text that is made in memory was written, and where that runs out nothing
 abbrev pub WroteIfMade : Option (List ℕ) → List ℕ → Option (List ℕ) → Type 0 → Status → Status → Type 0
 WroteIfMade before text after failed meant result = Wrote before text after failed meant result ⊎ ((result ≡ NoMemory) × Took before [] after)
 
@@ -213,7 +211,7 @@ Says command left rest source_failed before after sink_failed ReadFault = ReadsI
 Says command left rest source_failed before after sink_failed Malformed = ReadsInput command × AtEnd rest × WhereTold left (λ b. IsAnswered (answer_of command b) before after Malformed)
 Says command left rest source_failed before after sink_failed WriteFault = sink_failed × ((text : List ℕ) × TookFront before text after × IsMeant command left source_failed text)
 Says command left rest source_failed before after sink_failed NoMemory = Took before [] after
-Says command left rest source_failed before after sink_failed TooLong = ReadsInput command × GavePast left rest most_input 33554433 × WhereTold left (λ b. IsAnswered (answer_of command b) before after TooLong)
+Says command left rest source_failed before after sink_failed TooLong = ReadsInput command × GavePast left rest most_input (most_input + 1) × WhereTold left (λ b. IsAnswered (answer_of command b) before after TooLong)
 Says command left rest source_failed before after sink_failed Stalled = GotStuck command left rest before after
 Says command left rest source_failed before after sink_failed Differs = GotDifference command left rest before after
 

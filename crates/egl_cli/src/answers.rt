@@ -1,16 +1,16 @@
 //! What the program says to the bytes of its input.
-ghost use Rattle.std.specs.Prelude.{◌≡◌, ◌≤◌, ◌<◌, [], All, true, false, length, IfOk};
+ghost use Rattle.std.specs.Prelude.{◌≡◌, ◌≤◌, ◌<◌, [], All, IfOk};
 ghost use Rattle.trace_model.specs.Serial.{state_behind};
 ghost use Rattle.trace_session.specs.Runs.{StandBehind};
-ghost use Rattle.egl_cli.specs.Answers.{reason_name, malformed_text, told, journal_answer, run_answer, journal_frames, run_frames};
+ghost use Rattle.egl_cli.specs.Answers.{malformed_text, told, with_stalled, journal_answer, run_answer, journal_frames, run_frames};
 
 use crate::frames::frames_text;
 use crate::stalled_lines::{put_stalled, put_waiting};
-use crate::statuses::Status;
 use crate::turns::put_run;
 use arrayvec::ArrayString;
 use driver_core::{Driver, Run};
 use egl_calls::{Bytes, Journal, NoMemory};
+use egl_flow::Status;
 use itoa::Buffer;
 use journal_text::{summary, write};
 use std::alloc::Global;
@@ -27,23 +27,6 @@ pub struct Answer {
     pub text: Bytes,
 }
 
-#[tactic(auto, unfolding(crate::specs::Answers::reason_name))]
-fn reason_name(reason: Reason) -> &'static str
-    ensures value { result.now ≡ reason_name reason }
-    ensures short { length result.now ≤ 8 }
-{
-    match reason {
-        Reason::Header => "Header",
-        Reason::Window => "Window",
-        Reason::Thread => "Thread",
-        Reason::Name => "Name",
-        Reason::Argument => "Argument",
-        Reason::Variable => "Variable",
-        Reason::Limit => "Limit",
-        Reason::Entry => "Entry",
-    }
-}
-
 /// What is said to a trace with a defect. It takes no memory.
 #[tactic(auto, unfolding(crate::specs::Answers::malformed_text))]
 pub fn malformed_text(line: u64, reason: Reason) -> ArrayString<MALFORMED_ROOM>
@@ -53,7 +36,7 @@ pub fn malformed_text(line: u64, reason: Reason) -> ArrayString<MALFORMED_ROOM>
     out.push_str("malformed ");
     out.push_str(Buffer::new().format(line));
     out.push_str(" ");
-    out.push_str(reason_name(reason));
+    out.push_str(reason.name());
     out.push_str("\n");
     out
 }
@@ -70,38 +53,43 @@ fn told(alloc: Global, summarized: bool, trace: &Trace, run: &Run) -> Result<Byt
     }
 }
 
-/// What is said of a run that came to its end.
-pub fn ended_answer(
+/// What is said of a run by a text that tells of it: where it stalled, the lines at which its threads wait stand behind that.
+pub fn with_stalled(
     alloc: Global,
-    summarized: bool,
+    told: Bytes,
     trace: &Trace,
-    run: &Run,
+    journal: &Journal,
+    stalled: bool,
 ) -> Result<Answer, NoMemory>
-    requires { run.now.driver.state ≡ state_behind trace.now run.now.journal.entries }
-    ensures { IfOk result (λ a. a ≡ journal_answer summarized trace.now run.now.journal.entries false) }
+    ensures { IfOk result (λ a. a ≡ with_stalled told trace.now journal.now.entries stalled) }
 {
+    let mut text = told;
+    if stalled {
+        put_stalled(alloc, &mut text, trace, journal)?;
+        return Ok(Answer {
+            status: Status::Stalled,
+            text,
+        });
+    }
     Ok(Answer {
         status: Status::Ok,
-        text: told(alloc, summarized, trace, run)?,
+        text,
     })
 }
 
-/// What is said of a run that stalled: the lines at which its threads wait stand behind what is told of it.
-pub fn stalled_answer(
+/// What is said of a run that came to its end, or stalled.
+pub fn journal_answer(
     alloc: Global,
     summarized: bool,
     trace: &Trace,
     run: &Run,
+    stalled: bool,
 ) -> Result<Answer, NoMemory>
     requires { run.now.driver.state ≡ state_behind trace.now run.now.journal.entries }
-    ensures { IfOk result (λ a. a ≡ journal_answer summarized trace.now run.now.journal.entries true) }
+    ensures { IfOk result (λ a. a ≡ journal_answer summarized trace.now run.now.journal.entries stalled) }
 {
-    let mut text = told(alloc, summarized, trace, run)?;
-    put_stalled(alloc, &mut text, trace, &run.journal)?;
-    Ok(Answer {
-        status: Status::Stalled,
-        text,
-    })
+    let text = told(alloc, summarized, trace, run)?;
+    with_stalled(alloc, text, trace, &run.journal, stalled)
 }
 
 /// What is said to a trace that a driver plays by turns from its first line on.
@@ -149,44 +137,22 @@ fn journal_of(run: Run) -> Journal
     journal
 }
 
-/// The frames of a run that came to its end.
-fn ended_frames(
+/// The frames of a run that came to its end, or stalled.
+fn journal_frames(
     alloc: Global,
     width: u32,
     height: u32,
     trace: &Trace,
     journal: &Journal,
+    stalled: bool,
 ) -> Result<Answer, NoMemory>
     requires wide { (0 < width) × (width ≤ 2048) }
     requires high { (0 < height) × (height ≤ 2048) }
     requires threads { All (λ e. e.thread < trace.now.threads) journal.now.entries }
-    ensures { IfOk result (λ a. a ≡ journal_frames width height trace.now journal.now.entries false) }
+    ensures { IfOk result (λ a. a ≡ journal_frames width height trace.now journal.now.entries stalled) }
 {
-    Ok(Answer {
-        status: Status::Ok,
-        text: frames_text(alloc, width, height, trace, journal)?,
-    })
-}
-
-/// The frames of a run that stalled: the lines at which its threads wait stand behind them.
-fn stalled_frames(
-    alloc: Global,
-    width: u32,
-    height: u32,
-    trace: &Trace,
-    journal: &Journal,
-) -> Result<Answer, NoMemory>
-    requires wide { (0 < width) × (width ≤ 2048) }
-    requires high { (0 < height) × (height ≤ 2048) }
-    requires threads { All (λ e. e.thread < trace.now.threads) journal.now.entries }
-    ensures { IfOk result (λ a. a ≡ journal_frames width height trace.now journal.now.entries true) }
-{
-    let mut text = frames_text(alloc, width, height, trace, journal)?;
-    put_stalled(alloc, &mut text, trace, journal)?;
-    Ok(Answer {
-        status: Status::Stalled,
-        text,
-    })
+    let text = frames_text(alloc, width, height, trace, journal)?;
+    with_stalled(alloc, text, trace, journal, stalled)
 }
 
 /// The frames of a trace that is played by turns, on a screen of these sides.
@@ -198,9 +164,9 @@ pub fn run_frames(alloc: Global, width: u32, height: u32, trace: &Trace) -> Resu
     // Each entry's thread is one of the trace.
     trace.in_order();
     match run_serial(alloc, trace) {
-        Ok(run) => ended_frames(alloc, width, height, trace, &journal_of(run)),
+        Ok(run) => journal_frames(alloc, width, height, trace, &journal_of(run), false),
         Err(RunError::Stalled(run)) => {
-            stalled_frames(alloc, width, height, trace, &journal_of(run))
+            journal_frames(alloc, width, height, trace, &journal_of(run), true)
         }
         Err(RunError::NoMemory) => Err(NoMemory),
     }

@@ -1,5 +1,6 @@
 //! Traces whose body has few lines.
 ghost use Rattle.std.specs.Prelude.{◌≡◌, ◌≤◌, length};
+ghost use Rattle.egl_flow.specs.Inputs.{most_input};
 ghost use Rattle.trace_reader.specs.Reading.{Gives};
 ghost use Rattle.egl_cli.specs.BodyLines.{declares, is_body_line, line_past, short_trace};
 
@@ -33,7 +34,7 @@ fn is_body_line(line: &[u8]) -> bool
 
 /// The number of the body line that stands behind so many.
 fn line_past(most: u64, bytes: &[u8]) -> Option<u64>
-    requires { length bytes.now ≤ 33554432 }
+    requires { length bytes.now ≤ most_input }
     ensures { result ≡ line_past most bytes.now }
 {
     let (_, mut rest) = cut_line(bytes)?;
@@ -55,7 +56,7 @@ fn line_past(most: u64, bytes: &[u8]) -> Option<u64>
 /// The trace that bytes spell, of at most 2,000 body lines, or the first defect. A longer trace is read whole, since an earlier line may have a defect that comes first.
 #[tactic(auto, unfolding(crate::specs::BodyLines::short_trace))]
 pub fn short_trace(alloc: Global, bytes: &[u8]) -> Result<Trace, TraceError>
-    requires { length bytes.now ≤ 33554432 }
+    requires { length bytes.now ≤ most_input }
     ensures { Gives (λ t. t) result (short_trace bytes.now) }
 {
     let read = Trace::read_slice(alloc, bytes);

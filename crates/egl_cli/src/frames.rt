@@ -5,6 +5,7 @@ ghost use Rattle.egl_cli.specs.Frames as values;
 
 use driver_core::Driver;
 use egl_calls::{Bytes, EglKind, Entry, Journal, Kind, NoMemory, is_done};
+use journal_text::sum_of;
 use journal_text::texts::{put_decimal, put_text};
 use screen_compose::{Fronts, Placed, Screen};
 use std::alloc::Global;
@@ -47,18 +48,6 @@ fn makes_frame(entry: &Entry) -> bool
     ensures { result ≡ values.makes_frame entry.now }
 {
     matches!(entry.call.kind, Kind::Egl(EglKind::SwapBuffers)) && is_done(entry.reply.outcome)
-}
-
-/// The sum of the bytes of a picture.
-fn sum_of(bytes: &[u8]) -> u64
-    requires { length bytes.now ≤ 16777216 }
-    ensures { result ≡ sum bytes.now }
-{
-    let mut total = 0u64;
-    'each: for b in bytes {
-        total += u64::from(*b);
-    }
-    total
 }
 
 /// The line of a frame.

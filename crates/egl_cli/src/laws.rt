@@ -1,6 +1,8 @@
 //! What is true of the program's texts: the contracts of functions that do nothing.
 ghost use Rattle.std.specs.Prelude.{◌≡◌, ◌≤◌, ℕ, List, ◌++◌, length, codes, Ok};
 ghost use Rattle.egl_calls.specs.declared.entries.Entry.{Entry};
+ghost use Rattle.egl_flow.specs.Inputs.{most_input};
+ghost use Rattle.egl_flow.specs.declared.statuses.Status.TheVariants.{Ok as Fine};
 ghost use Rattle.trace_reader.specs.Grammar.{trace};
 ghost use Rattle.trace_reader.specs.Order.{IsTrace};
 ghost use Rattle.trace_reader.specs.Traces.{TraceValue};
@@ -8,9 +10,8 @@ ghost use Rattle.trace_model.specs.Follows.{IsPlayOf};
 ghost use Rattle.trace_model.specs.Recording.{recording};
 ghost use Rattle.trace_model.specs.Stalled.{IsComplete};
 ghost use Rattle.trace_check.specs.Recordings.{IsSized};
-ghost use Rattle.egl_cli.specs.Answers.{check_answer, most_input};
+ghost use Rattle.egl_cli.specs.Answers.{check_answer};
 ghost use Rattle.egl_cli.specs.ConfigLines.{configs_text, printed_configs};
-ghost use Rattle.egl_cli.specs.declared.statuses.Status.TheVariants.{Ok as Fine};
 
 /// The text that the table of the configs makes is this one, byte by byte.
 #[tactic(auto, using(crate::proofs::ConfigLaws::text_is))]

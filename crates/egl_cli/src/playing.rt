@@ -6,14 +6,13 @@ ghost use Rattle.egl_cli.specs.Answers.{IsPlayAnswer};
 ghost use Rattle.egl_cli.specs.Says.{Says, WrotePlay, WantsMemory, IsUnread, IsHeadline, IsStalledHeadline, IsWhole};
 ghost use Rattle.egl_cli.specs.Commands.{command_of};
 
-use crate::answers::{Answer, ended_answer, stalled_answer};
+use crate::answers::{Answer, journal_answer};
 use crate::commands::{Command, command_of};
 use crate::inputs::read_trace;
 use crate::respond::plain;
-use crate::statuses::Status;
-use crate::telling::{finish, refuse};
+use crate::telling::refuse;
 use egl_calls::{NoMemory, Text};
-use egl_flow::{Sink, Source};
+use egl_flow::{Sink, Source, Status, finish};
 use play_threads::{Gate, play};
 use std::alloc::Global;
 use std::sync::Wait;
@@ -32,8 +31,8 @@ fn play_answer<R: Threads + Wait + Sync, G: Gate + Sync>(
     ensures { IfOk result (IsPlayAnswer summary trace.now) }
 {
     match play(rt, alloc, trace, gate) {
-        Ok(run) => ended_answer(alloc, summary, trace, &run),
-        Err(RunError::Stalled(run)) => stalled_answer(alloc, summary, trace, &run),
+        Ok(run) => journal_answer(alloc, summary, trace, &run, false),
+        Err(RunError::Stalled(run)) => journal_answer(alloc, summary, trace, &run, true),
         Err(RunError::NoMemory) => Err(NoMemory),
     }
 }

@@ -6,9 +6,8 @@ ghost use Rattle.std.specs.Vec.Iter.{into_iter_items};
 ghost use Rattle.egl_cli.specs.Process.{IsStatusOf, KeepsPromises};
 
 use crate::playing::top;
-use crate::statuses::Status;
 use egl_calls::{NoMemory, Text};
-use egl_flow::{Sink, Source, StdSink, StdSource, Waiting};
+use egl_flow::{Sink, Source, Status, StdSink, StdSource, Waiting};
 use play_threads::OpenGate;
 use std::alloc::Global;
 use std::env::Args;

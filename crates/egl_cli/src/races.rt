@@ -1,11 +1,10 @@
 //! The races of a run: which of its calls touch one thing though nothing orders them.
-ghost use Rattle.std.specs.Prelude.{◌≡◌, ◌<◌, ◌++◌, All, slice_get, true, false, IfOk, OnOk};
+ghost use Rattle.std.specs.Prelude.{◌≡◌, ◌<◌, ◌++◌, All, slice_get, IfOk, OnOk};
 ghost use Rattle.egl_cli.specs.Answers.{IsJournalRaces, IsRacesAnswer};
-ghost use Rattle.egl_cli.specs.RaceLines.{place_words, race_line, races_text};
+ghost use Rattle.egl_cli.specs.RaceLines.{entry_place, race_line, races_text};
 
-use crate::answers::Answer;
-use crate::stalled_lines::put_stalled;
-use crate::statuses::Status;
+use crate::answers::{Answer, with_stalled};
+use crate::places::put_place;
 use driver_core::Run;
 use egl_calls::{Bytes, Entry, NoMemory};
 use journal_text::texts::{put_decimal, put_text};
@@ -15,15 +14,13 @@ use trace_reader::Trace;
 use trace_session::{RunError, run_serial};
 
 /// The thread and the line of the entry at a place.
-fn put_place(out: &mut Bytes, entries: &[Entry], place: u64) -> Result<(), NoMemory>
-    ensures { OnOk result (out.new ≡ out.old ++ place_words (slice_get entries.now place)) }
+fn put_entry_place(out: &mut Bytes, entries: &[Entry], place: u64) -> Result<(), NoMemory>
+    ensures { OnOk result (out.new ≡ out.old ++ entry_place (slice_get entries.now place)) }
 {
     let Some(entry) = entries.get(place as usize) else {
         return Ok(());
     };
-    put_decimal(out, u64::from(entry.thread))?;
-    put_text(out, " ")?;
-    put_decimal(out, entry.mark)
+    put_place(out, entry.thread, entry.mark)
 }
 
 /// The line of a pair.
@@ -32,9 +29,9 @@ fn put_race(out: &mut Bytes, entries: &[Entry], pair: Pair) -> Result<(), NoMemo
     ensures { OnOk result (out.new ≡ out.old ++ race_line entries.now pair) }
 {
     put_text(out, "race ")?;
-    put_place(out, entries, pair.first)?;
+    put_entry_place(out, entries, pair.first)?;
     put_text(out, " ")?;
-    put_place(out, entries, pair.second)?;
+    put_entry_place(out, entries, pair.second)?;
     put_text(out, "\n")
 }
 
@@ -54,30 +51,14 @@ fn races_text(alloc: Global, entries: &[Entry], pairs: &[Pair]) -> Result<Bytes,
     Ok(out)
 }
 
-/// The races of a run that came to its end.
-fn ended_races(alloc: Global, trace: &Trace, run: &Run) -> Result<Answer, NoMemory>
+/// The races of a run that came to its end, or stalled.
+fn journal_races(alloc: Global, trace: &Trace, run: &Run, stalled: bool) -> Result<Answer, NoMemory>
     requires { All (λ e. e.thread < trace.now.threads) run.now.journal.entries }
-    ensures { IfOk result (IsJournalRaces trace.now run.now.journal.entries false) }
+    ensures { IfOk result (IsJournalRaces trace.now run.now.journal.entries stalled) }
 {
     let pairs = report(alloc, trace, run)?;
-    Ok(Answer {
-        status: Status::Ok,
-        text: races_text(alloc, run.journal.as_slice(), pairs.as_slice())?,
-    })
-}
-
-/// The races of a run that stalled: the lines at which its threads wait stand behind them.
-fn stalled_races(alloc: Global, trace: &Trace, run: &Run) -> Result<Answer, NoMemory>
-    requires { All (λ e. e.thread < trace.now.threads) run.now.journal.entries }
-    ensures { IfOk result (IsJournalRaces trace.now run.now.journal.entries true) }
-{
-    let pairs = report(alloc, trace, run)?;
-    let mut text = races_text(alloc, run.journal.as_slice(), pairs.as_slice())?;
-    put_stalled(alloc, &mut text, trace, &run.journal)?;
-    Ok(Answer {
-        status: Status::Stalled,
-        text,
-    })
+    let text = races_text(alloc, run.journal.as_slice(), pairs.as_slice())?;
+    with_stalled(alloc, text, trace, &run.journal, stalled)
 }
 
 /// The races of a trace that is played by turns.
@@ -87,8 +68,8 @@ pub fn run_races(alloc: Global, trace: &Trace) -> Result<Answer, NoMemory>
     // Each entry's thread is one of the trace.
     trace.in_order();
     match run_serial(alloc, trace) {
-        Ok(run) => ended_races(alloc, trace, &run),
-        Err(RunError::Stalled(run)) => stalled_races(alloc, trace, &run),
+        Ok(run) => journal_races(alloc, trace, &run, false),
+        Err(RunError::Stalled(run)) => journal_races(alloc, trace, &run, true),
         Err(RunError::NoMemory) => Err(NoMemory),
     }
 }

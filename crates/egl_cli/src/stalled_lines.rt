@@ -4,8 +4,9 @@ ghost use Rattle.egl_calls.specs.declared.entries.Entry.{Entry as AnEntry};
 ghost use Rattle.trace_session.specs.Sessions.{Knows};
 ghost use Rattle.egl_cli.specs.StalledLines.{stalled_line, stalled_lines};
 
+use crate::places::put_place;
 use egl_calls::{Bytes, Journal, NoMemory};
-use journal_text::texts::{put_decimal, put_text};
+use journal_text::texts::put_text;
 use std::alloc::Global;
 use trace_reader::Trace;
 use trace_session::{Chains, Session};
@@ -18,9 +19,7 @@ fn put_stalled_line(out: &mut Bytes, thread: u32, number: Option<u64>) -> Result
         return Ok(());
     };
     put_text(out, "stalled ")?;
-    put_decimal(out, u64::from(thread))?;
-    put_text(out, " ")?;
-    put_decimal(out, number)?;
+    put_place(out, thread, number)?;
     put_text(out, "\n")
 }
 

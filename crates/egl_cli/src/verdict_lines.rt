@@ -1,11 +1,13 @@
 //! What is said of a recording.
 ghost use Rattle.std.specs.Prelude.{◌≡◌, ◌++◌, codes, decimal, IfOk, OnOk};
-ghost use Rattle.egl_cli.specs.Answers.{thread_line, verdict_answer, claim_answer};
+ghost use Rattle.egl_cli.specs.Answers.{verdict_answer, claim_answer};
+ghost use Rattle.egl_cli.specs.Places.{place_words};
 
 use crate::answers::Answer;
 use crate::inputs::Claim;
-use crate::statuses::Status;
+use crate::places::put_place;
 use egl_calls::{Bytes, NoMemory, Text};
+use egl_flow::Status;
 use journal_text::texts::{put_decimal, put_text};
 use std::alloc::Global;
 use trace_check::{Verdict, check};
@@ -28,23 +30,13 @@ fn put_difference(
     put_text(out, "\n")
 }
 
-/// A thread, and its next line.
-#[tactic(auto, unfolding(crate::specs::Answers::thread_line))]
-fn put_thread_line(out: &mut Bytes, thread: u32, line: u64) -> Result<(), NoMemory>
-    ensures { OnOk result (out.new ≡ out.old ++ thread_line thread line) }
-{
-    put_decimal(out, u64::from(thread))?;
-    put_text(out, " ")?;
-    put_decimal(out, line)?;
-    put_text(out, "\n")
-}
-
 /// A thread that isn't at its end, and its next line.
 fn put_incomplete(out: &mut Bytes, thread: u32, line: u64) -> Result<(), NoMemory>
-    ensures { OnOk result (out.new ≡ out.old ++ (codes "incomplete " ++ thread_line thread line)) }
+    ensures { OnOk result (out.new ≡ out.old ++ (codes "incomplete " ++ place_words thread line ++ codes "\n")) }
 {
     put_text(out, "incomplete ")?;
-    put_thread_line(out, thread, line)
+    put_place(out, thread, line)?;
+    put_text(out, "\n")
 }
 
 /// The status and the text of a verdict.

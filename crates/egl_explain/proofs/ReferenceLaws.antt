@@ -17,9 +17,9 @@ use Rattle.egl_model.specs.State.{State, capacity, initial}
 use Rattle.egl_model.specs.Sweep.{bound_object, edges_at, edges_in, held_by, references, roots, roots_of}
 use Rattle.egl_explain.specs.declared.references.Holder.{Holder}
 use Rattle.egl_explain.specs.declared.references.Holder.TheVariants.{Handle as by_handle, Thread as by_thread, Object as by_object}
-use Rattle.egl_explain.specs.declared.references.Reference.{Reference}
-use Rattle.egl_explain.specs.declared.references.Role.{Role}
-use Rattle.egl_explain.specs.declared.references.Role.TheVariants.{Group as its_group, OwnTexture, Bound as BoundTo, Named, Level, Pixels, Attached}
+use Rattle.egl_explain.specs.declared.references.ObjectReference.{ObjectReference}
+use Rattle.egl_explain.specs.declared.references.LinkRole.{LinkRole}
+use Rattle.egl_explain.specs.declared.references.LinkRole.TheVariants.{Group as its_group, OwnTexture, Bound as BoundTo, Named, Level, Pixels, Attached}
 use Rattle.driver_objects.specs.declared.targets.BindTarget.TheVariants.{Texture as texture_2d, ArrayBuffer as array_buffer, ElementArrayBuffer as element_array_buffer, Renderbuffer as renderbuffer, Framebuffer as framebuffer}
 use Rattle.framebuffer_objects.specs.Framebuffers.{object_of}
 use Rattle.framebuffer_objects.specs.declared.points.Point.TheVariants.{Color, Depth, Stencil}
@@ -35,7 +35,7 @@ from_place : {X : Type 0} (xs : List X) (k : ℕ) (d : X) → k < length xs → 
 from_place xs k d l = drop-cons xs k d l ∙ ap (λ i. get_or xs k d ∷ drop i xs) (let q : suc k ≡ k + 1 = omega arith in q)
 
 -- the names in front of one, with it
-pub next_name : (n k m : ℕ) (xs : List ℕ) (old new all : List Reference) → k < length xs → m ≡ get_or xs k 0 → new ≡ old ++ name_reference n m ∷ []
+pub next_name : (n k m : ℕ) (xs : List ℕ) (old new all : List ObjectReference) → k < length xs → m ≡ get_or xs k 0 → new ≡ old ++ name_reference n m ∷ []
     → old ++ map (name_reference n) (drop k xs) ≡ all → new ++ map (name_reference n) (drop (k + 1) xs) ≡ all
 next_name n k m xs old new all l e f g =
     next (name_reference n m ∷ []) (map (name_reference n) (drop (k + 1) xs)) (map (name_reference n) (drop k xs)) old new all f (ap (map (name_reference n)) (from_place xs k 0 l ∙ ap (λ x. x ∷ drop (k + 1) xs) (sym e))) g
@@ -45,15 +45,15 @@ unfolding object_references
 objects_from k os o e l = ap (object_references k) (from_place os k None l) ∙ ap (λ x. references_at k x ++ object_references (k + 1) (drop (k + 1) os)) (sym e)
 
 -- the objects in front of one, with it
-pub next_object : (k : ℕ) (os : List (Option Object)) (o : Option Object) (old new all : List Reference) → k < length os → o ≡ get_or os k None → new ≡ old ++ references_at k o
+pub next_object : (k : ℕ) (os : List (Option Object)) (o : Option Object) (old new all : List ObjectReference) → k < length os → o ≡ get_or os k None → new ≡ old ++ references_at k o
     → old ++ object_references k (drop k os) ≡ all → new ++ object_references (k + 1) (drop (k + 1) os) ≡ all
 next_object k os o old new all l e f g = next (references_at k o) (object_references (k + 1) (drop (k + 1) os)) (object_references k (drop k os)) old new all f (objects_from k os o e l) g
 
 -- what refers by the first, and by those behind it
-pub next_holder : (n : ℕ) (r : Reference) (rs : List Reference) → holders_of n (r ∷ rs) ≡ holders_of n (r ∷ []) ++ holders_of n rs
+pub next_holder : (n : ℕ) (r : ObjectReference) (rs : List ObjectReference) → holders_of n (r ∷ rs) ≡ holders_of n (r ∷ []) ++ holders_of n rs
 next_holder n r rs =
-    let leads : Reference → Bool = λ x. x.object == n in
-    let holder : Reference → Holder = λ x. x.holder in
+    let leads : ObjectReference → Bool = λ x. x.object == n in
+    let holder : ObjectReference → Holder = λ x. x.holder in
     ap (map holder) (filter-append leads (r ∷ []) rs) ∙ map-append holder (filter leads (r ∷ [])) (filter leads rs)
 
 -- ---- The records of threads that were never made have no references.
@@ -76,7 +76,7 @@ padded_threads rs ts e =
     sym (append-nil (thread_references 0 rs)) ∙ ap (λ l. thread_references 0 rs ++ l) (sym (none_hold (0 + length rs) (capacity - length rs))) ∙ sym (threads_append 0 rs more) ∙ ap (thread_references 0) e
 
 -- the references of handles, then of threads, then of objects are all of a state
-pub all_added : (s : State) (hs : List Handle) (rs : List ThreadRecord) (a b c : List Reference) → hs ≡ s.handles → padded rs ≡ s.threads → a ≡ map handle_reference hs → b ≡ a ++ thread_references 0 rs → c ≡ b ++ object_references 0 s.objects → c ≡ references_in s
+pub all_added : (s : State) (hs : List Handle) (rs : List ThreadRecord) (a b c : List ObjectReference) → hs ≡ s.handles → padded rs ≡ s.threads → a ≡ map handle_reference hs → b ≡ a ++ thread_references 0 rs → c ≡ b ++ object_references 0 s.objects → c ≡ references_in s
 unfolding references_in
 all_added s hs rs a b c handles records first second third =
     let hr = map handle_reference s.handles in
@@ -86,21 +86,21 @@ all_added s hs rs a b c handles records first second third =
     third ∙ ap (λ l. l ++ os) so_far ∙ append_assoc hr ts os
 
 -- ---- Where references lead.
-abbrev ends : List Reference → List ℕ
+abbrev ends : List ObjectReference → List ℕ
 ends rs = map (λ r. r.object) rs
 
 both : {A : Type 0} (a b c d : List A) → a ≡ c → b ≡ d → a ++ b ≡ c ++ d
 both a b c d e f = ap (λ l. l ++ b) e ∙ ap (λ l. c ++ l) f
 
-ends_append : (xs ys : List Reference) → ends (xs ++ ys) ≡ ends xs ++ ends ys
-ends_append xs ys = map-append (λ (r : Reference). r.object) xs ys
+ends_append : (xs ys : List ObjectReference) → ends (xs ++ ys) ≡ ends xs ++ ends ys
+ends_append xs ys = map-append (λ (r : ObjectReference). r.object) xs ys
 
 ends_to : (h : Holder) (o : Option ℕ) → ends (to h o) ≡ option_to_list o
 ends_to h None = refl
 ends_to h (Some n) = refl
 
 -- that of a slot in front of others
-ends_more : (h : Holder) (o : Option ℕ) (rs : List Reference) (xs : List ℕ) → ends rs ≡ xs → ends (to h o ++ rs) ≡ option_to_list o ++ xs
+ends_more : (h : Holder) (o : Option ℕ) (rs : List ObjectReference) (xs : List ℕ) → ends rs ≡ xs → ends (to h o ++ rs) ≡ option_to_list o ++ xs
 ends_more h o rs xs e = ends_append (to h o) rs ∙ both (ends (to h o)) (ends rs) (option_to_list o) xs (ends_to h o) e
 
 ends_last : (h : Holder) (o : Option ℕ) → ends (to h o) ≡ filled (o ∷ [])
@@ -166,7 +166,7 @@ ends_bound None = refl
 ends_bound (Some b) = refl
 
 -- that of something current in front of others
-ends_current : (h : Holder) (b : Option Bound) (rs : List Reference) (xs : List ℕ) → ends rs ≡ xs → ends (to h (bound_to b) ++ rs) ≡ bound_object b ++ xs
+ends_current : (h : Holder) (b : Option Bound) (rs : List ObjectReference) (xs : List ℕ) → ends rs ≡ xs → ends (to h (bound_to b) ++ rs) ≡ bound_object b ++ xs
 ends_current h b rs xs e = ends_more h (bound_to b) rs xs e ∙ ap (λ l. l ++ xs) (ends_bound b)
 
 ends_record : (t : ℕ) (r : ThreadRecord) → ends (record_references t r) ≡ held_by r
@@ -209,10 +209,10 @@ counted n xs = count_by (λ m. m == n) xs
 counted_append : (n : ℕ) (xs ys : List ℕ) → counted n (xs ++ ys) ≡ counted n xs + counted n ys
 counted_append n xs ys = sum_by-append (λ m. cond (m == n) 1 0) xs ys
 
-counted_ends : (n : ℕ) (rs : List Reference) → count_by (λ r. r.object == n) rs ≡ counted n (ends rs)
+counted_ends : (n : ℕ) (rs : List ObjectReference) → count_by (λ r. r.object == n) rs ≡ counted n (ends rs)
 counted_ends n [] = refl
 counted_ends n (r ∷ rs) =
-    let a = sum_by-cons (λ (x : Reference). cond (x.object == n) 1 0) r rs in
+    let a = sum_by-cons (λ (x : ObjectReference). cond (x.object == n) 1 0) r rs in
     let b = sum_by-cons (λ m. cond (m == n) 1 0) r.object (ends rs) in
     omega (arith, a, b, counted_ends n rs)
 
@@ -231,8 +231,8 @@ pub as_many_lead : (s : State) (n : ℕ) → length (holders_of n (references_in
 unfolding references
 as_many_lead s n =
     let rs = references_in s in
-    let a = length_map (λ (r : Reference). r.holder) (filter (λ (r : Reference). r.object == n) rs) in
-    let b = length-filter (λ (r : Reference). r.object == n) rs in
+    let a = length_map (λ (r : ObjectReference). r.holder) (filter (λ (r : ObjectReference). r.object == n) rs) in
+    let b = length-filter (λ (r : ObjectReference). r.object == n) rs in
     let c = counted_ends n rs in
     let d = ap (counted n) (ends_of_all s) in
     let e = counted_append n (roots s) (flat_map edges_in s.objects) in
@@ -240,25 +240,25 @@ as_many_lead s n =
     omega (arith, a, b, c, d, e, f)
 
 -- ---- Those of one holder.
-targets_append : (p : Holder → Bool) (xs ys : List Reference) → targets p (xs ++ ys) ≡ targets p xs ++ targets p ys
+targets_append : (p : Holder → Bool) (xs ys : List ObjectReference) → targets p (xs ++ ys) ≡ targets p xs ++ targets p ys
 targets_append p xs ys =
-    let passes : Reference → Bool = λ r. p r.holder in
+    let passes : ObjectReference → Bool = λ r. p r.holder in
     ap ends (filter-append passes xs ys) ∙ ends_append (filter passes xs) (filter passes ys)
 
 -- all of some references pass, or none
-abbrev All_are : (Holder → Bool) → Bool → List Reference → Type 0
+abbrev All_are : (Holder → Bool) → Bool → List ObjectReference → Type 0
 All_are p b [] = Unit {0}
 All_are p b (r ∷ rs) = (p r.holder ≡ b) × All_are p b rs
 
-all_append : (p : Holder → Bool) (b : Bool) (xs ys : List Reference) → All_are p b xs → All_are p b ys → All_are p b (xs ++ ys)
+all_append : (p : Holder → Bool) (b : Bool) (xs ys : List ObjectReference) → All_are p b xs → All_are p b ys → All_are p b (xs ++ ys)
 all_append p b [] ys h k = k
 all_append p b (x ∷ xs) ys h k = (h.0, all_append p b xs ys h.1 k)
 
-kept : (p : Holder → Bool) (rs : List Reference) → All_are p true rs → targets p rs ≡ ends rs
+kept : (p : Holder → Bool) (rs : List ObjectReference) → All_are p true rs → targets p rs ≡ ends rs
 kept p [] h = refl
 kept p (r ∷ rs) h = rw h.0 (ap (λ l. r.object ∷ l) (kept p rs h.1))
 
-dropped : (p : Holder → Bool) (rs : List Reference) → All_are p false rs → targets p rs ≡ []
+dropped : (p : Holder → Bool) (rs : List ObjectReference) → All_are p false rs → targets p rs ≡ []
 dropped p [] h = refl
 dropped p (r ∷ rs) h = rw h.0 (dropped p rs h.1)
 
@@ -266,7 +266,7 @@ all_to : (p : Holder → Bool) (b : Bool) (h : Holder) (o : Option ℕ) → p h 
 all_to p b h None e = tt
 all_to p b h (Some n) e = (e, tt)
 
-all_more : (p : Holder → Bool) (b : Bool) (h : Holder) (o : Option ℕ) (rs : List Reference) → p h ≡ b → All_are p b rs → All_are p b (to h o ++ rs)
+all_more : (p : Holder → Bool) (b : Bool) (h : Holder) (o : Option ℕ) (rs : List ObjectReference) → p h ≡ b → All_are p b rs → All_are p b (to h o ++ rs)
 all_more p b h o rs e k = all_append p b (to h o) rs (all_to p b h o e) k
 
 all_handles : (p : Holder → Bool) (b : Bool) (hs : List Handle) → ((m d : ℕ) → p (by_handle m d) ≡ b) → All_are p b (map handle_reference hs)
@@ -285,11 +285,11 @@ unfolding thread_references
 all_threads p b t [] e = tt
 all_threads p b t (r ∷ rs) e = all_append p b (record_references t r) (thread_references (t + 1) rs) (all_record p b t r (e t)) (all_threads p b (t + 1) rs e)
 
-all_levels : (p : Holder → Bool) (b : Bool) (n i : ℕ) (xs : List (Option ℕ)) → ((role : Role) → p (by_object n role) ≡ b) → All_are p b (level_references n i xs)
+all_levels : (p : Holder → Bool) (b : Bool) (n i : ℕ) (xs : List (Option ℕ)) → ((role : LinkRole) → p (by_object n role) ≡ b) → All_are p b (level_references n i xs)
 all_levels p b n i [] e = tt
 all_levels p b n i (x ∷ xs) e = all_more p b _ x (level_references n (i + 1) xs) (e _) (all_levels p b n (i + 1) xs e)
 
-all_object : (p : Holder → Bool) (b : Bool) (n : ℕ) (o : Option Object) → ((role : Role) → p (by_object n role) ≡ b) → All_are p b (references_at n o)
+all_object : (p : Holder → Bool) (b : Bool) (n : ℕ) (o : Option Object) → ((role : LinkRole) → p (by_object n role) ≡ b) → All_are p b (references_at n o)
 all_object p b n None e = tt
 all_object p b n (Some (Context c)) e =
     let of_texture = BoundTo texture_2d in
@@ -325,7 +325,7 @@ all_object p b n (Some (Storage x)) e = tt
 all_object p b n (Some (Image x)) e = (e _, tt)
 all_object p b n (Some (Sync x)) e = tt
 
-all_objects : (p : Holder → Bool) (b : Bool) (n : ℕ) (os : List (Option Object)) → ((m : ℕ) (role : Role) → p (by_object m role) ≡ b) → All_are p b (object_references n os)
+all_objects : (p : Holder → Bool) (b : Bool) (n : ℕ) (os : List (Option Object)) → ((m : ℕ) (role : LinkRole) → p (by_object m role) ≡ b) → All_are p b (object_references n os)
 unfolding object_references
 all_objects p b n [] e = tt
 all_objects p b n (o ∷ os) e = all_append p b (references_at n o) (object_references (n + 1) os) (all_object p b n o (e n)) (all_objects p b (n + 1) os e)

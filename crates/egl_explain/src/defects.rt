@@ -2,7 +2,7 @@
 use crate::call_words::{Argument, CallWords, call_of};
 use crate::pages::{Ink, Page};
 use crate::source_lines::{line_at, put_bar, put_line};
-use crate::suspects::{Suspect, Wanted, unknown_in, wanted_line, word_at_fault};
+use crate::suspects::{ExpectedWord, Suspect, expected_line, unknown_in, word_at_fault};
 use egl_calls::NoMemory;
 use std::alloc::Global;
 use trace_reader::Reason;
@@ -39,12 +39,12 @@ fn put_mark(page: &mut Page, column: usize, width: usize) -> Result<(), NoMemory
 }
 
 /// What should stand in the place of a word or a line.
-fn put_wanted(page: &mut Page, wanted: Wanted) -> Result<(), NoMemory> {
+fn put_expected(page: &mut Page, expected: ExpectedWord) -> Result<(), NoMemory> {
     put_bar(page)?;
     page.put("  expected here: ")?;
-    match wanted {
-        Wanted::Argument(argument) => argument.put(page)?,
-        Wanted::Other(text) => page.put(text)?,
+    match expected {
+        ExpectedWord::Argument(argument) => argument.put(page)?,
+        ExpectedWord::Other(text) => page.put(text)?,
     }
     page.end_line()
 }
@@ -94,7 +94,7 @@ fn put_suspect(
         column_of(line, found.word),
         word_at(words, found.word).len(),
     )?;
-    put_wanted(page, found.wanted)?;
+    put_expected(page, found.expected)?;
     if let Some(nearest) = found.nearest {
         put_bar(page)?;
         page.put("  ")?;
@@ -107,20 +107,6 @@ fn put_suspect(
     Ok(())
 }
 
-/// The name of a reason, as the program `egl_cli` tells it.
-fn reason_name(reason: Reason) -> &'static str {
-    match reason {
-        Reason::Header => "Header",
-        Reason::Window => "Window",
-        Reason::Thread => "Thread",
-        Reason::Name => "Name",
-        Reason::Argument => "Argument",
-        Reason::Variable => "Variable",
-        Reason::Limit => "Limit",
-        Reason::Entry => "Entry",
-    }
-}
-
 /// The lines in front of one with a number.
 fn lines_before<'a, 'b>(lines: &'b [&'a [u8]], number: u64) -> &'b [&'a [u8]] {
     let count = (number.saturating_sub(1) as usize).min(lines.len());
@@ -131,7 +117,7 @@ fn lines_before<'a, 'b>(lines: &'b [&'a [u8]], number: u64) -> &'b [&'a [u8]] {
 /// The heading of a defect, and its line.
 fn put_head(page: &mut Page, lines: &[&[u8]], number: u64, reason: Reason) -> Result<(), NoMemory> {
     page.put_in(Ink::Fault, "malformed: ")?;
-    page.put(reason_name(reason))?;
+    page.put(reason.name())?;
     page.put(" in line ")?;
     page.put_decimal(number)?;
     page.end_line()?;
@@ -151,7 +137,7 @@ fn put_words(
     let before = lines_before(lines, number);
     match word_at_fault(alloc, lines, before, words, reason)? {
         Some(found) => put_suspect(page, line_at(lines, number), words, found)?,
-        None => put_wanted(page, Wanted::Other(wanted_line(reason)))?,
+        None => put_expected(page, ExpectedWord::Other(expected_line(reason)))?,
     }
     put_called(page, words, reason)
 }

@@ -1,5 +1,5 @@
 //! Where a recording differs from its trace, and why.
-ghost use Rattle.std.specs.Prelude.{◌≡◌, ◌≤◌};
+ghost use Rattle.std.specs.Prelude.{◌≡◌, ◌≤◌, OnOk};
 
 use crate::census_lines::put_census;
 use crate::entry_lines::put_outcome;
@@ -13,61 +13,64 @@ use trace_check::{Verdict, check};
 use trace_reader::Trace;
 use trace_session::{Chains, Session, driver_of, play_turn};
 
-/// An entry, and what is told of it: which rows of its call's table held before it, and how many objects of each kind there are behind it, with the live bytes.
+/// An entry, and which rows of its call's table held before it.
 #[derive(Drop)]
-struct Judgement {
+struct JudgedEntry {
     entry: Entry,
     refusals: Refusals,
-    census: [u64; 11],
 }
 
-/// Plays the entry that a thread has next, and gives what is told of it. There is none where the trace has no such thread, or the thread is at its end or blocked.
-fn next_judged(
+/// Plays the entry that a thread has next, where it has one.
+fn play_next(
     alloc: Global,
     driver: &mut Driver,
     session: &mut Session,
     thread: u32,
-) -> Result<Option<Judgement>, NoMemory>
+) -> Result<(), NoMemory>
     requires made { session.old.trace.threads ≤ driver.old.made }
     ensures trace { session.new.trace ≡ session.old.trace }
     ensures made { driver.new.made ≡ driver.old.made }
 {
-    if thread >= session.threads() {
-        return Ok(None);
+    if let Some(mark) = session.due(driver, thread) {
+        play_turn(alloc, driver, session, thread, mark)?;
     }
-    if session.blocked(driver, thread) {
-        return Ok(None);
+    Ok(())
+}
+
+/// Plays the entries of some lines.
+fn play_lines(
+    alloc: Global,
+    driver: &mut Driver,
+    session: &mut Session,
+    lines: &[RecordedLine],
+) -> Result<(), NoMemory>
+    requires { session.old.trace.threads ≤ driver.old.made }
+    ensures { OnOk result (session.new.trace.threads ≤ driver.new.made) }
+{
+    'each: for line in lines {
+        if let Some(thread) = line.thread {
+            play_next(alloc, driver, session, thread)?;
+        }
     }
-    let Some(mark) = session.next(thread) else {
+    Ok(())
+}
+
+/// Plays the entry that a thread has next, and gives it with the rows that held before it.
+fn judge_next(
+    alloc: Global,
+    driver: &mut Driver,
+    session: &mut Session,
+    thread: u32,
+) -> Result<Option<JudgedEntry>, NoMemory>
+    requires { session.old.trace.threads ≤ driver.old.made }
+{
+    let Some(mark) = session.due(driver, thread) else {
         return Ok(None);
     };
     let call = session.call(alloc, thread)?;
     let refusals = driver.refusals(thread, &call);
     let entry = play_turn(alloc, driver, session, thread, mark)?;
-    Ok(Some(Judgement {
-        entry,
-        refusals,
-        census: driver.census(),
-    }))
-}
-
-/// Plays the entries of some lines, and gives what is told of the last of them.
-fn follow(
-    alloc: Global,
-    driver: &mut Driver,
-    session: &mut Session,
-    lines: &[RecordedLine],
-) -> Result<Option<Judgement>, NoMemory>
-    requires { session.old.trace.threads ≤ driver.old.made }
-{
-    let mut last = None;
-    'each: for line in lines {
-        let Some(thread) = line.thread else {
-            return Ok(last);
-        };
-        last = next_judged(alloc, driver, session, thread)?;
-    }
-    Ok(last)
+    Ok(Some(JudgedEntry { entry, refusals }))
 }
 
 /// The line that should stand at a place, or the one that stands there.
@@ -80,26 +83,18 @@ fn put_recorded(page: &mut Page, title: &str, text: &[u8], ink: Ink) -> Result<(
 }
 
 /// The line of the trace that a recording answers otherwise, and what the specification gives there.
-fn put_entry(page: &mut Page, lines: &[&[u8]], judgement: &Judgement) -> Result<(), NoMemory> {
-    let entry = &judgement.entry;
+fn put_entry(page: &mut Page, lines: &[&[u8]], judged: &JudgedEntry) -> Result<(), NoMemory> {
+    let entry = &judged.entry;
     put_line(page, lines, entry.mark)?;
-    put_outcome(page, entry.call.kind, &entry.reply, &judgement.refusals)
+    put_outcome(page, entry.call.kind, &entry.reply, &judged.refusals)
 }
 
-/// What is told of the last entry, where the last line is an entry's; else what there is behind all entries.
-fn put_last(
-    page: &mut Page,
-    lines: &[&[u8]],
-    is_entry: bool,
-    judgement: &Judgement,
-) -> Result<(), NoMemory> {
-    if is_entry {
-        return put_entry(page, lines, judgement);
-    }
+/// What there is behind all entries.
+fn put_rest(page: &mut Page, driver: &Driver) -> Result<(), NoMemory> {
     put_bar(page)?;
     page.put("  behind all entries")?;
     page.end_line()?;
-    put_census(page, &judgement.census)
+    put_census(page, &driver.census())
 }
 
 /// That a thread has no entry.
@@ -111,7 +106,7 @@ fn put_none(page: &mut Page) -> Result<(), NoMemory> {
     page.end_line()
 }
 
-/// Plays the entries of some lines, and says what is told of the last of them.
+/// Plays the entries of some lines, and says what came of the last, where the last line is an entry's; else what there is behind all entries.
 fn put_followed(
     alloc: Global,
     page: &mut Page,
@@ -122,14 +117,17 @@ fn put_followed(
 ) -> Result<(), NoMemory>
     requires { session.old.trace.threads ≤ driver.old.made }
 {
-    let is_entry = match recorded {
-        [.., last] => last.thread.is_some(),
-        [] => false,
-    };
-    match follow(alloc, driver, session, recorded)? {
-        Some(judgement) => put_last(page, lines, is_entry, &judgement),
-        None => put_none(page),
+    if let [front @ .., last] = recorded {
+        if let Some(thread) = last.thread {
+            play_lines(alloc, driver, session, front)?;
+            return match judge_next(alloc, driver, session, thread)? {
+                Some(judged) => put_entry(page, lines, &judged),
+                None => put_none(page),
+            };
+        }
     }
+    play_lines(alloc, driver, session, recorded)?;
+    put_rest(page, driver)
 }
 
 /// Why a recording should have another line at a place.

@@ -1,5 +1,6 @@
 //! The text that is made of an input.
 ghost use Rattle.std.specs.Prelude.{◌≡◌, ◌≤◌, ◌<◌, length, All, OnOk};
+ghost use Rattle.egl_flow.specs.Inputs.{most_input};
 ghost use Rattle.egl_model.specs.History.{replay_from};
 ghost use Rattle.egl_model.specs.Step.{step};
 
@@ -13,6 +14,7 @@ use crate::pages::{Ink, Look, Page};
 use crate::source_lines::{line_at, lines_of, put_bar, put_line, says_nothing};
 use driver_core::{Driver, Run};
 use egl_calls::{Bytes, Entry, NoMemory};
+use egl_flow::Status;
 use journal_text::{Cut, Recording, cut_recording, read_slice};
 use std::alloc::Global;
 use trace_reader::{Trace, TraceError};
@@ -21,36 +23,11 @@ use trace_session::{Chains, RunError, Session, driver_of, run_serial};
 /// How many references are looked at, about, for the objects that are told of behind calls.
 const MOST_LOOKS: u64 = 100_000_000;
 
-/// What came of an input.
-#[derive(Clone, Copy, Debug, PartialEq, Eq, Drop)]
-pub enum Ending {
-    /// The trace was played to its end, or the recording is one of its trace.
-    Ok,
-    /// A line isn't in its form.
-    Malformed,
-    /// The trace's threads wait for one another.
-    Stalled,
-    /// The recording differs from its trace.
-    Differs,
-}
-
-impl Ending {
-    /// The exit status: that of the commands of `egl_cli`.
-    pub fn status(self) -> u8 {
-        match self {
-            Ending::Ok => 0,
-            Ending::Malformed => 4,
-            Ending::Stalled => 6,
-            Ending::Differs => 9,
-        }
-    }
-}
-
-/// A text, and what came of the input that it tells of.
+/// A text, and what came of the input that it tells of: the status of the command of `egl_cli` that takes such an input.
 #[derive(Drop)]
 pub struct Explained {
     pub text: Bytes,
-    pub ending: Ending,
+    pub status: Status,
 }
 
 /// The lines behind those that were shown and in front of one that say nothing, or stand before the first call.
@@ -200,11 +177,11 @@ fn put_ended(
     lines: &[&[u8]],
     trace: &Trace,
     run: &Run,
-) -> Result<Ending, NoMemory>
+) -> Result<Status, NoMemory>
     requires { All (λ e. e.thread < trace.now.threads) run.now.journal.entries }
 {
     put_run(alloc, page, lines, trace, run)?;
-    Ok(Ending::Ok)
+    Ok(Status::Ok)
 }
 
 /// The text of a run that stalled: the lines at which its threads wait stand behind it.
@@ -214,12 +191,12 @@ fn put_stalled(
     lines: &[&[u8]],
     trace: &Trace,
     run: &Run,
-) -> Result<Ending, NoMemory>
+) -> Result<Status, NoMemory>
     requires { All (λ e. e.thread < trace.now.threads) run.now.journal.entries }
 {
     put_run(alloc, page, lines, trace, run)?;
     put_waiting(alloc, page, lines, trace, run)?;
-    Ok(Ending::Stalled)
+    Ok(Status::Stalled)
 }
 
 /// The text of a trace that is played by turns.
@@ -228,7 +205,7 @@ fn put_trace(
     page: &mut Page,
     lines: &[&[u8]],
     trace: &Trace,
-) -> Result<Ending, NoMemory> {
+) -> Result<Status, NoMemory> {
     // Each entry's thread is one of the trace.
     trace.in_order();
     match run_serial(alloc, trace) {
@@ -244,11 +221,11 @@ fn put_error(
     page: &mut Page,
     lines: &[&[u8]],
     error: TraceError,
-) -> Result<Ending, NoMemory> {
+) -> Result<Status, NoMemory> {
     match error {
         TraceError::Malformed { line, reason } => {
             put_defect(alloc, page, lines, line, reason)?;
-            Ok(Ending::Malformed)
+            Ok(Status::Malformed)
         }
         TraceError::NoMemory => Err(NoMemory),
     }
@@ -260,7 +237,7 @@ fn put_plain(
     page: &mut Page,
     lines: &[&[u8]],
     bytes: &[u8],
-) -> Result<Ending, NoMemory> {
+) -> Result<Status, NoMemory> {
     match Trace::read_slice(alloc, bytes) {
         Ok(trace) => put_trace(alloc, page, lines, &trace),
         Err(error) => put_error(alloc, page, lines, error),
@@ -274,11 +251,11 @@ fn put_judged(
     lines: &[&[u8]],
     trace: &Trace,
     recording: &Recording,
-) -> Result<Ending, NoMemory> {
+) -> Result<Status, NoMemory> {
     if put_difference(alloc, page, lines, trace, recording)? {
-        Ok(Ending::Ok)
+        Ok(Status::Ok)
     } else {
-        Ok(Ending::Differs)
+        Ok(Status::Differs)
     }
 }
 
@@ -290,7 +267,7 @@ fn put_recorded(
     trace: &Trace,
     bytes: &[u8],
     first_line: u64,
-) -> Result<Ending, NoMemory>
+) -> Result<Status, NoMemory>
     requires { first_line < 4294967296 }
 {
     match read_slice(alloc, bytes, first_line) {
@@ -306,7 +283,7 @@ fn put_claim(
     lines: &[&[u8]],
     bytes: &[u8],
     cut: Cut,
-) -> Result<Ending, NoMemory>
+) -> Result<Status, NoMemory>
     requires within { cut.front ≤ length bytes.now }
     requires line { cut.line < 4294967296 }
 {
@@ -323,8 +300,8 @@ fn put_input(
     page: &mut Page,
     lines: &[&[u8]],
     bytes: &[u8],
-) -> Result<Ending, NoMemory>
-    requires { length bytes.now ≤ 33554432 }
+) -> Result<Status, NoMemory>
+    requires { length bytes.now ≤ most_input }
 {
     match cut_recording(bytes) {
         Some(cut) => put_claim(alloc, page, lines, bytes, cut),
@@ -334,13 +311,13 @@ fn put_input(
 
 /// Tells of an input: of a trace what came of each of its lines when it is played by turns, and why a call was refused; what is wrong with the first line that isn't in its form; or, of a trace with a recording behind it, where that differs, and why.
 pub fn explain(alloc: Global, bytes: &[u8], look: Look) -> Result<Explained, NoMemory>
-    requires { length bytes.now ≤ 33554432 }
+    requires { length bytes.now ≤ most_input }
 {
     let lines = lines_of(alloc, bytes)?;
     let mut page = Page::new(alloc, look);
-    let ending = put_input(alloc, &mut page, &lines, bytes)?;
+    let status = put_input(alloc, &mut page, &lines, bytes)?;
     Ok(Explained {
         text: page.into_text(),
-        ending,
+        status,
     })
 }

@@ -20,8 +20,8 @@ mod row_words;
 mod source_lines;
 mod suspects;
 
-pub use explaining::{Ending, Explained, explain};
+pub use explaining::{Explained, explain};
 pub use judging::{Told, play_told};
 pub use pages::Look;
 pub use process::run;
-pub use references::{Holder, Reference, Role, Use, holders_of, references_in};
+pub use references::{Holder, LinkRole, ObjectReference, Use, holders_of, references_in};

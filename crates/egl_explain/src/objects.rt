@@ -4,7 +4,7 @@ ghost use Rattle.egl_model.specs.Names.{object_named};
 ghost use Rattle.egl_explain.specs.Births.{birth_of};
 
 use crate::pages::{Ink, Page};
-use crate::references::{Holder, Reference, Role, Use, holders_of, references_in};
+use crate::references::{Holder, LinkRole, ObjectReference, Use, holders_of, references_in};
 use crate::source_lines::put_bar;
 use driver_core::Driver;
 use driver_objects::{BindTarget, Object, ObjectKind};
@@ -64,7 +64,12 @@ fn named_kind(kind: ObjectKind) -> Option<NameKind> {
         ObjectKind::Buffer => Some(NameKind::Buffer),
         ObjectKind::Renderbuffer => Some(NameKind::Renderbuffer),
         ObjectKind::Framebuffer => Some(NameKind::Framebuffer),
-        _ => None,
+        ObjectKind::Context
+        | ObjectKind::Group
+        | ObjectKind::Surface
+        | ObjectKind::Storage
+        | ObjectKind::Image
+        | ObjectKind::Sync => None,
     }
 }
 
@@ -124,8 +129,9 @@ fn point_name(point: Point) -> &'static str {
     }
 }
 
-fn names_name(names: NameKind) -> &'static str {
-    match names {
+/// What the names of a kind name.
+fn named_object_word(kind: NameKind) -> &'static str {
+    match kind {
         NameKind::Texture => "texture",
         NameKind::Buffer => "buffer",
         NameKind::Renderbuffer => "renderbuffer",
@@ -170,7 +176,7 @@ fn put_name(
 ) -> Result<(), NoMemory> {
     match name_in(driver, births, group, object) {
         Some(found) => {
-            page.put(names_name(found.kind))?;
+            page.put(named_object_word(found.kind))?;
             page.put(" name ")?;
             page.put_decimal(u64::from(found.name))
         }
@@ -184,28 +190,28 @@ fn put_role(
     driver: &Driver,
     births: &[Birth],
     holder: u64,
-    role: Role,
+    role: LinkRole,
     object: u64,
 ) -> Result<(), NoMemory> {
     match role {
-        Role::Group => page.put("the group of the "),
-        Role::OwnTexture => page.put("texture 0 of the "),
-        Role::Bound(target) => {
+        LinkRole::Group => page.put("the group of the "),
+        LinkRole::OwnTexture => page.put("texture 0 of the "),
+        LinkRole::Bound(target) => {
             page.put("bound to ")?;
             page.put(target_name(target))?;
             page.put(" in the ")
         }
-        Role::Named => {
+        LinkRole::Named => {
             put_name(page, driver, births, holder, object)?;
             page.put(" in the ")
         }
-        Role::Level(level) => {
+        LinkRole::Level(level) => {
             page.put("level ")?;
             page.put_decimal(level as u64)?;
             page.put(" of the ")
         }
-        Role::Pixels => page.put("the pixels of the "),
-        Role::Attached(point) => {
+        LinkRole::Pixels => page.put("the pixels of the "),
+        LinkRole::Attached(point) => {
             page.put(point_name(point))?;
             page.put(" of the ")
         }
@@ -260,7 +266,7 @@ fn put_line(
     page: &mut Page,
     driver: &Driver,
     births: &[Birth],
-    references: &[Reference],
+    references: &[ObjectReference],
     number: u64,
 ) -> Result<(), NoMemory> {
     put_bar(page)?;
@@ -280,7 +286,7 @@ fn put_lines(
     page: &mut Page,
     driver: &Driver,
     births: &[Birth],
-    references: &[Reference],
+    references: &[ObjectReference],
 ) -> Result<(), NoMemory> {
     let mut told = 0u64;
     'each: for number in 0..driver.object_count() {

@@ -1,5 +1,6 @@
 //! A text for people, which grows piece by piece.
 use egl_calls::{Bytes, NoMemory};
+use journal_text::put_hex;
 use journal_text::texts::{put_byte, put_decimal, put_number, put_text};
 use std::alloc::Global;
 
@@ -32,9 +33,6 @@ pub struct Page {
     text: Bytes,
     look: Look,
 }
-
-/// The digits of a byte, each in lower case.
-const DIGITS: [u8; 16] = *b"0123456789abcdef";
 
 impl Page {
     pub fn new(alloc: Global, look: Look) -> Page {
@@ -73,19 +71,12 @@ impl Page {
 
     /// Two digits for each byte, the first bytes where wide lines are cut.
     pub fn put_digits(&mut self, bytes: &[u8]) -> Result<(), NoMemory> {
-        let most = if self.look.cut {
-            WIDEST / 2
-        } else {
-            bytes.len()
-        };
-        'each: for byte in bytes.iter().take(most) {
-            put_byte(&mut self.text, DIGITS[(*byte / 16) as usize])?;
-            put_byte(&mut self.text, DIGITS[(*byte % 16) as usize])?;
-        }
-        if most < bytes.len() {
+        if self.look.cut && bytes.len() > WIDEST / 2 {
+            let (front, _) = bytes.split_at(WIDEST / 2);
+            put_hex(&mut self.text, front)?;
             return self.put("..");
         }
-        Ok(())
+        put_hex(&mut self.text, bytes)
     }
 
     /// So many spaces.

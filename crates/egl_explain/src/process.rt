@@ -1,16 +1,16 @@
 //! The program's edge: standard input and standard output.
 use crate::explaining::explain;
 use crate::pages::Look;
-use egl_flow::{ReadError, Sink, StdSink, StdSource, Waiting, read_all, write_slice};
+use egl_flow::{
+    MOST_INPUT, READ_FAULT_TEXT, ReadError, Status, StdSink, StdSource, TOO_LONG_TEXT, Waiting,
+    finish, read_all,
+};
 use std::alloc::Global;
 use std::env::VarError;
 use std::io::IsTerminal;
 use std::rt::{Env, Stdin, Stdout};
 use std::time::Clock;
 use std::{env, io};
-
-/// How many bytes an input may have.
-const MOST_INPUT: u64 = 33_554_432;
 
 /// What is said to words, of which the program takes none.
 const USAGE: &[u8] = b"usage: egl_explain < TRACE\n";
@@ -28,22 +28,14 @@ fn is_colourless<R: Env + AllocGlobal>(rt: &R) -> bool {
     }
 }
 
-/// Writes a text, and answers a status where that went well.
-fn finish<K: Sink>(sink: &mut K, status: u8, text: &[u8]) -> u8 {
-    match write_slice(sink, text) {
-        Ok(()) => status,
-        Err(_) => 5,
-    }
-}
-
-/// Tells of the input on standard output, and answers the exit status. Input that isn't there yet is waited for.
-pub fn run<R: Env + Clock + AllocGlobal>(rt: &R, input: Stdin, output: Stdout) -> u8 {
+/// Tells of the input on standard output. Input that isn't there yet is waited for.
+pub fn run<R: Env + Clock + AllocGlobal>(rt: &R, input: Stdin, output: Stdout) -> Status {
     let alloc = rt.alloc();
     let terminal = output.is_terminal();
     let mut sink = StdSink::new(output);
     match count_words(rt) {
         Ok(0) => {}
-        _ => return finish(&mut sink, 2, USAGE),
+        _ => return finish(&mut sink, Status::Usage, USAGE),
     }
     let look = Look {
         coloured: terminal && !is_colourless(rt),
@@ -52,16 +44,16 @@ pub fn run<R: Env + Clock + AllocGlobal>(rt: &R, input: Stdin, output: Stdout) -
     let mut source = Waiting::new(StdSource::new(input), rt);
     let bytes = match read_all(alloc, &mut source, MOST_INPUT) {
         Ok(bytes) => bytes,
-        Err(ReadError::ReadFault) => return finish(&mut sink, 3, b"read fault\n"),
-        Err(ReadError::TooLong { taken: _ }) => return finish(&mut sink, 8, b"too long\n"),
-        Err(ReadError::NoMemory) => return 7,
+        Err(ReadError::ReadFault) => {
+            return finish(&mut sink, Status::ReadFault, READ_FAULT_TEXT);
+        }
+        Err(ReadError::TooLong { taken: _ }) => {
+            return finish(&mut sink, Status::TooLong, TOO_LONG_TEXT);
+        }
+        Err(ReadError::NoMemory) => return Status::NoMemory,
     };
     match explain(alloc, bytes.as_slice(), look) {
-        Ok(explained) => finish(
-            &mut sink,
-            explained.ending.status(),
-            explained.text.as_slice(),
-        ),
-        Err(_) => 7,
+        Ok(explained) => finish(&mut sink, explained.status, explained.text.as_slice()),
+        Err(_) => Status::NoMemory,
     }
 }

@@ -15,7 +15,7 @@ use std::alloc::Global;
 
 /// What an object is to another that refers to it.
 #[derive(Clone, Copy, Debug, PartialEq, Eq, Drop)]
-pub enum Role {
+pub enum LinkRole {
     /// A context's share group.
     Group,
     /// A context's texture with the name 0.
@@ -53,28 +53,32 @@ pub enum Holder {
     /// A thread.
     Thread(usize, Use),
     /// An object, by its number.
-    Object(u64, Role),
+    Object(u64, LinkRole),
 }
 
 /// A reference: what refers, and the number of the object to which it leads.
 #[derive(Clone, Copy, Debug, PartialEq, Eq, Drop)]
-pub struct Reference {
+pub struct ObjectReference {
     pub holder: Holder,
     pub object: u64,
 }
 
 /// Adds a reference.
-fn push(list: &mut Vec<Reference>, holder: Holder, object: u64) -> Result<(), NoMemory>
+fn push(list: &mut Vec<ObjectReference>, holder: Holder, object: u64) -> Result<(), NoMemory>
     ensures { OnOk result (list.new.items ≡ list.old.items ++ record { holder = holder; object = object } ∷ []) }
 {
-    match list.push(Reference { holder, object }) {
+    match list.push(ObjectReference { holder, object }) {
         Ok(()) => Ok(()),
         Err(_) => Err(NoMemory),
     }
 }
 
 /// Adds a reference, where it leads to an object.
-fn push_to(list: &mut Vec<Reference>, holder: Holder, object: Option<u64>) -> Result<(), NoMemory>
+fn push_to(
+    list: &mut Vec<ObjectReference>,
+    holder: Holder,
+    object: Option<u64>,
+) -> Result<(), NoMemory>
     ensures { OnOk result (list.new.items ≡ list.old.items ++ to holder object) }
 {
     match object {
@@ -84,7 +88,7 @@ fn push_to(list: &mut Vec<Reference>, holder: Holder, object: Option<u64>) -> Re
 }
 
 /// Adds those of the valid handles.
-fn push_handles(list: &mut Vec<Reference>, handles: &[Handle]) -> Result<(), NoMemory>
+fn push_handles(list: &mut Vec<ObjectReference>, handles: &[Handle]) -> Result<(), NoMemory>
     ensures { OnOk result (list.new.items ≡ list.old.items ++ map handle_reference handles.now) }
 {
     'each: for handle in handles {
@@ -109,7 +113,7 @@ fn bound_to(bound: Option<Bound>) -> Option<u64>
 
 /// Adds those of a thread.
 fn push_record(
-    list: &mut Vec<Reference>,
+    list: &mut Vec<ObjectReference>,
     thread: usize,
     kept: &ThreadRecord,
 ) -> Result<(), NoMemory>
@@ -127,7 +131,7 @@ fn push_record(
 
 /// Adds those of the threads.
 #[tactic(auto, unfolding(crate::specs::References::thread_references))]
-fn push_threads(list: &mut Vec<Reference>, records: &[ThreadRecord]) -> Result<(), NoMemory>
+fn push_threads(list: &mut Vec<ObjectReference>, records: &[ThreadRecord]) -> Result<(), NoMemory>
     ensures { OnOk result (list.new.items ≡ list.old.items ++ thread_references 0 records.now) }
 {
     let mut thread = 0;
@@ -139,57 +143,61 @@ fn push_threads(list: &mut Vec<Reference>, records: &[ThreadRecord]) -> Result<(
 }
 
 /// Adds those of a context.
-fn push_context(list: &mut Vec<Reference>, number: u64, context: &Context) -> Result<(), NoMemory>
+fn push_context(
+    list: &mut Vec<ObjectReference>,
+    number: u64,
+    context: &Context,
+) -> Result<(), NoMemory>
     ensures { OnOk result (list.new.items ≡ list.old.items ++ references_of number (AContext context.now)) }
 {
     let bound = &context.bound;
-    push(list, Holder::Object(number, Role::Group), context.group)?;
+    push(list, Holder::Object(number, LinkRole::Group), context.group)?;
     push(
         list,
-        Holder::Object(number, Role::OwnTexture),
+        Holder::Object(number, LinkRole::OwnTexture),
         context.texture,
     )?;
     push_to(
         list,
-        Holder::Object(number, Role::Bound(BindTarget::Texture)),
+        Holder::Object(number, LinkRole::Bound(BindTarget::Texture)),
         bound.texture,
     )?;
     push_to(
         list,
-        Holder::Object(number, Role::Bound(BindTarget::ArrayBuffer)),
+        Holder::Object(number, LinkRole::Bound(BindTarget::ArrayBuffer)),
         bound.array_buffer,
     )?;
     push_to(
         list,
-        Holder::Object(number, Role::Bound(BindTarget::ElementArrayBuffer)),
+        Holder::Object(number, LinkRole::Bound(BindTarget::ElementArrayBuffer)),
         bound.element_array_buffer,
     )?;
     push_to(
         list,
-        Holder::Object(number, Role::Bound(BindTarget::Renderbuffer)),
+        Holder::Object(number, LinkRole::Bound(BindTarget::Renderbuffer)),
         bound.renderbuffer,
     )?;
     push_to(
         list,
-        Holder::Object(number, Role::Bound(BindTarget::Framebuffer)),
+        Holder::Object(number, LinkRole::Bound(BindTarget::Framebuffer)),
         bound.framebuffer,
     )
 }
 
 /// Adds those of the names of a group.
 #[tactic(auto, using(crate::proofs::ReferenceLaws::next_name))]
-fn push_names(list: &mut Vec<Reference>, number: u64, group: &Object) -> Result<(), NoMemory>
+fn push_names(list: &mut Vec<ObjectReference>, number: u64, group: &Object) -> Result<(), NoMemory>
     ensures { OnOk result (list.new.items ≡ list.old.items ++ map (name_reference number) (edges_of group.now)) }
 {
     'each: for k in 0..group.edge_count() {
-        push(list, Holder::Object(number, Role::Named), group.edge(k))?;
+        push(list, Holder::Object(number, LinkRole::Named), group.edge(k))?;
     }
     Ok(())
 }
 
 /// Adds those of the levels of a texture.
 fn push_levels(
-    list: &mut Vec<Reference>,
+    list: &mut Vec<ObjectReference>,
     number: u64,
     levels: &[Option<u64>],
 ) -> Result<(), NoMemory>
@@ -197,7 +205,7 @@ fn push_levels(
 {
     let mut place = 0;
     'each: for level in levels {
-        push_to(list, Holder::Object(number, Role::Level(place)), *level)?;
+        push_to(list, Holder::Object(number, LinkRole::Level(place)), *level)?;
         place += 1;
     }
     Ok(())
@@ -205,7 +213,7 @@ fn push_levels(
 
 /// Adds those of the points of a framebuffer.
 fn push_points(
-    list: &mut Vec<Reference>,
+    list: &mut Vec<ObjectReference>,
     number: u64,
     framebuffer: &Framebuffer,
 ) -> Result<(), NoMemory>
@@ -213,26 +221,30 @@ fn push_points(
 {
     push_to(
         list,
-        Holder::Object(number, Role::Attached(Point::Color)),
+        Holder::Object(number, LinkRole::Attached(Point::Color)),
         framebuffer.part(Point::Color),
     )?;
     push_to(
         list,
-        Holder::Object(number, Role::Attached(Point::Depth)),
+        Holder::Object(number, LinkRole::Attached(Point::Depth)),
         framebuffer.part(Point::Depth),
     )?;
     push_to(
         list,
-        Holder::Object(number, Role::Attached(Point::Stencil)),
+        Holder::Object(number, LinkRole::Attached(Point::Stencil)),
         framebuffer.part(Point::Stencil),
     )
 }
 
 /// Adds those of an object.
-fn push_object(list: &mut Vec<Reference>, number: u64, object: &Object) -> Result<(), NoMemory>
+fn push_object(
+    list: &mut Vec<ObjectReference>,
+    number: u64,
+    object: &Object,
+) -> Result<(), NoMemory>
     ensures { OnOk result (list.new.items ≡ list.old.items ++ references_of number object.now) }
 {
-    let pixels = Holder::Object(number, Role::Pixels);
+    let pixels = Holder::Object(number, LinkRole::Pixels);
     match object {
         Object::Context(context) => push_context(list, number, context),
         Object::Group(_) => push_names(list, number, object),
@@ -246,7 +258,7 @@ fn push_object(list: &mut Vec<Reference>, number: u64, object: &Object) -> Resul
 }
 
 /// Adds those of the object of a number, where there is one.
-fn push_at(list: &mut Vec<Reference>, driver: &Driver, number: u64) -> Result<(), NoMemory>
+fn push_at(list: &mut Vec<ObjectReference>, driver: &Driver, number: u64) -> Result<(), NoMemory>
     ensures { OnOk result (list.new.items ≡ list.old.items ++ references_at number (object_at driver.now.state number)) }
 {
     match driver.object(number) {
@@ -257,7 +269,7 @@ fn push_at(list: &mut Vec<Reference>, driver: &Driver, number: u64) -> Result<()
 
 /// Adds those of the objects.
 #[tactic(auto, unfolding(crate::specs::References::object_references), using(crate::proofs::ReferenceLaws::next_object))]
-fn push_objects(list: &mut Vec<Reference>, driver: &Driver) -> Result<(), NoMemory>
+fn push_objects(list: &mut Vec<ObjectReference>, driver: &Driver) -> Result<(), NoMemory>
     ensures { OnOk result (list.new.items ≡ list.old.items ++ object_references 0 driver.now.state.objects) }
 {
     'each: for number in 0..driver.object_count() {
@@ -267,7 +279,7 @@ fn push_objects(list: &mut Vec<Reference>, driver: &Driver) -> Result<(), NoMemo
 }
 
 /// All references of a driver: those of its valid handles, of its threads and of its objects, each in the order of their numbers.
-pub fn references_in(alloc: Global, driver: &Driver) -> Result<Vec<Reference>, NoMemory>
+pub fn references_in(alloc: Global, driver: &Driver) -> Result<Vec<ObjectReference>, NoMemory>
     ensures { IfOk result (λ list. list.items ≡ references_in driver.now.state) }
 {
     let mut list = Vec::new(alloc);
@@ -279,7 +291,11 @@ pub fn references_in(alloc: Global, driver: &Driver) -> Result<Vec<Reference>, N
 }
 
 /// Adds what refers by a reference, where that leads to the object.
-fn push_holder(list: &mut Vec<Holder>, reference: &Reference, object: u64) -> Result<(), NoMemory>
+fn push_holder(
+    list: &mut Vec<Holder>,
+    reference: &ObjectReference,
+    object: u64,
+) -> Result<(), NoMemory>
     ensures { OnOk result (list.new.items ≡ list.old.items ++ holders_of object (reference.now ∷ [])) }
 {
     if reference.object != object {
@@ -295,7 +311,7 @@ fn push_holder(list: &mut Vec<Holder>, reference: &Reference, object: u64) -> Re
 #[tactic(auto, using(crate::proofs::ReferenceLaws::next_holder))]
 pub fn holders_of(
     alloc: Global,
-    references: &[Reference],
+    references: &[ObjectReference],
     object: u64,
 ) -> Result<Vec<Holder>, NoMemory>
     ensures { IfOk result (λ list. list.items ≡ holders_of object references.now) }

@@ -5,5 +5,5 @@ use egl_explain::run;
 use std::process::ExitCode;
 
 fn main(rt: HostRuntime) -> ExitCode {
-    ExitCode::from(run(&rt, rt.stdin(), rt.stdout()))
+    ExitCode::from(run(&rt, rt.stdin(), rt.stdout()).number())
 }

@@ -1,3 +1,5 @@
 pub mod Flow
 pub mod Causes
 pub mod Memory
+pub mod Statuses
+pub mod Inputs

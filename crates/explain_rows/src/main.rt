@@ -3,6 +3,7 @@
 
 use anyhow::{Context, Result, anyhow, bail, ensure};
 use egl_explain::{Explained, Look, explain};
+use egl_flow::MOST_INPUT;
 use std::process::ExitCode;
 use std::rt::Files;
 use std::{env, fs};
@@ -40,7 +41,7 @@ fn told<R: AllocGlobal>(rt: &R, input: &str) -> Result<Explained> {
     let mut bytes = Vec::from_slice(rt.alloc(), input.as_bytes())?;
     bytes.push(b'\n')?;
     let bytes = bytes.as_slice();
-    ensure!(bytes.len() <= 33_554_432, "an input is too long");
+    ensure!(bytes.len() as u64 <= MOST_INPUT, "an input is too long");
     explain(rt.alloc(), bytes, PLAIN).map_err(|_| anyhow!("no memory"))
 }
 
@@ -56,7 +57,7 @@ fn is_as_wanted<R: Print + AllocGlobal>(
     };
     let explained = told(rt, input)?;
     let found = str::from_utf8(explained.text.as_slice())?;
-    let number = explained.ending.status();
+    let number = explained.status.number();
     if shows {
         println!(rt; "{input}\n=> {number}\n{found}")?;
         return Ok(true);

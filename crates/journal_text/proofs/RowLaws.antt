@@ -1,5 +1,5 @@
--- What a row of a front has is bytes.
-use Rattle.std.proofs.Common.{ℕ, zero, suc, ◌<◌, List, [], ◌∷◌, ◌++◌, take, arith, pos, ◌+ℤ◌, Option, None, Some, All}
+-- What a row of a front has is bytes, and how many.
+use Rattle.std.proofs.Common.{◌≡◌, ℕ, zero, suc, ◌*◌, ◌<◌, List, [], ◌∷◌, ◌++◌, take, length, arith, pos, ◌+ℤ◌, Option, None, Some, All}
 use Rattle.std.specs.Int.{to_le_bytes, w32}
 use Rattle.std.specs.List.{flat_map, range_with_len}
 use Rattle.egl_calls.specs.Ranges.{unsigned}
@@ -8,12 +8,13 @@ use Rattle.pixel_formats.specs.Pixels.{pack, pack_in}
 use Rattle.pixel_formats.specs.declared.formats.Format.{Format}
 use Rattle.pixel_formats.specs.declared.formats.Format.TheVariants.{Rgba8888}
 use Rattle.pixel_formats.specs.declared.pixels.Pixel.{Pixel}
+use Rattle.pixel_rows.proofs.LawsHold.{length-row_bytes}
 use Rattle.pixel_rows.specs.Images.{ImageValue}
 use Rattle.pixel_rows.specs.Transfers.{zeros, place_in, pixel_bytes, bytes_at, line, padding, row_bytes}
 use Rattle.pixel_rows.specs.declared.rects.Rect.{Rect}
-use Rattle.surface_store.specs.Windows.{WindowValue}
 use Rattle.trace_model.specs.Recording.{row_of}
-use Rattle.journal_text.specs.Written.{IsByte, shown_row}
+use Rattle.journal_text.specs.Rests.{shown_row}
+use Rattle.journal_text.specs.Written.{IsByte}
 
 abbrev Small : List ℕ → Type 0
 Small [] = Unit {0}
@@ -68,5 +69,9 @@ small_row v rect to align =
     (λ j. small_append (line v rect to j) (zeros (padding rect to align)) (small_line v rect to j) (small_zeros (padding rect to align)))
     (range_with_len 0 (unsigned rect.h))
 
-pub row_bytes_are : (w : WindowValue) (y : ℕ) → All IsByte (shown_row w y)
-row_bytes_are w y = all_small (shown_row w y) (small_row w.front (row_of w.front y) Rgba8888 1)
+pub row_bytes_are : (v : ImageValue) (y : ℕ) → All IsByte (shown_row v y)
+row_bytes_are v y = all_small (shown_row v y) (small_row v (row_of v y) Rgba8888 1)
+
+-- four a pixel
+pub row_long : (v : ImageValue) (y : ℕ) → length (shown_row v y) ≡ 4 * v.width
+row_long v y = omega (arith, length-row_bytes v (row_of v y) Rgba8888 1 (omega arith))

@@ -12,21 +12,19 @@ use Rattle.std.specs.Str.{bytes_eq}
 use Rattle.egl_calls.specs.declared.entries.Entry.{Entry}
 use Rattle.egl_model.specs.State.{State}
 use Rattle.egl_model.specs.Sweep.{census}
-use Rattle.pixel_formats.specs.declared.formats.Format.TheVariants.{Rgba8888}
-use Rattle.pixel_rows.proofs.LawsHold.{length-row_bytes}
 use Rattle.surface_store.specs.Windows.{WindowValue}
 use Rattle.trace_reader.proofs.NumeralLaws.{numeral_within}
 use Rattle.trace_reader.specs.Numerals.{is_numeral}
 use Rattle.trace_reader.specs.Words.{is_space, begins_with}
 use Rattle.trace_reader.specs.declared.traces.Defect.{Defect}
-use Rattle.trace_model.specs.Recording.{number_text, outcome_text, list_text, bytes_text, hex_byte, entry_line, entry_lines, census_line, row_of, row_line, front_lines, fronts_text, recording_of}
+use Rattle.trace_model.specs.Recording.{number_text, outcome_text, list_text, bytes_text, hex_byte, entry_line, entry_lines, census_line, row_line, front_lines, fronts_text, recording_of}
 use Rattle.journal_text.proofs.ReadLaws.{taken, on_parts, some_part, behind_first}
-use Rattle.journal_text.proofs.RowLaws.{row_bytes_are}
+use Rattle.journal_text.proofs.RowLaws.{row_bytes_are, row_long}
 use Rattle.journal_text.proofs.WordLaws.{From, from_append, from_less, split_first, split_last, from_all, from_decimal, decimal_numeral, number_written, outcome_written, list_written, bytes_written, hex_written, hex_long, take_front, long}
 use Rattle.journal_text.specs.Recorded.{parts, is_entry, entry_thread, is_census, counted, at_stage, rows, front, is_row, behind_row, entry_or_census, next}
 use Rattle.journal_text.specs.Readings.{read_lines, recorded, fed}
-use Rattle.journal_text.specs.Rests.{rest_text}
-use Rattle.journal_text.specs.Written.{line_of_entry, line_behind, written_lines, shown_row, IsWrittenEntry, IsWrittenWindow, AreWritten}
+use Rattle.journal_text.specs.Rests.{front_head, shown_row, rest_text}
+use Rattle.journal_text.specs.Written.{line_of_entry, line_behind, written_lines, IsWrittenEntry, IsWrittenWindow, AreWritten}
 use Rattle.journal_text.specs.declared.stages.Stage.{Stage}
 use Rattle.journal_text.specs.declared.stages.Stage.TheVariants.{Entries, Fronts, Rows, Ended}
 use Rattle.journal_text.specs.declared.stages.Behind.{Behind}
@@ -82,11 +80,11 @@ entry_joined e = in_six (decimal e.thread) (decimal e.mark) (outcome_text e.repl
 
 entry_from : (e : Entry) → IsWrittenEntry e → AreFrom 33 (entry_words e)
 entry_from e w =
-    let line = from_less 33 48 (decimal e.mark) (omega arith) (from_decimal e.mark (omega (arith, w.mark))) in
-    let outcome = from_less 33 45 (outcome_text e.reply.outcome) (omega arith) (outcome_written e.reply.outcome w.outcome).bytes in
-    let value = from_less 33 45 (number_text e.reply.value) (omega arith) (number_written e.reply.value w.value).bytes in
-    let list = from_less 33 44 (list_text e.reply.list) (omega arith) (list_written e.reply.list w.list).bytes in
-    let bytes = from_less 33 45 (bytes_text e.reply.bytes) (omega arith) (bytes_written e.reply.bytes w.bytes).bytes in
+    let line = from_less 33 48 (decimal e.mark) (omega arith) (from_decimal e.mark (omega (arith, w.sized.mark))) in
+    let outcome = from_less 33 45 (outcome_text e.reply.outcome) (omega arith) (outcome_written e.reply.outcome w.sized.outcome).bytes in
+    let value = from_less 33 45 (number_text e.reply.value) (omega arith) (number_written e.reply.value w.sized.value).bytes in
+    let list = from_less 33 44 (list_text e.reply.list) (omega arith) (list_written e.reply.list w.sized.list).bytes in
+    let bytes = from_less 33 45 (bytes_text e.reply.bytes) (omega arith) (bytes_written e.reply.bytes w.sized.bytes).bytes in
     (from_less 33 48 (decimal e.thread) (omega arith) (from_decimal e.thread (omega (arith, w.thread))), (line, (outcome, (value, (list, (bytes, tt))))))
 
 entry_is : (e : Entry) → IsWrittenEntry e → is_entry (entry_words e) ≡ true
@@ -94,10 +92,10 @@ entry_is e w =
     and_from _ _
     (and_from _ _
     (and_from _ _
-    (and_from _ _ (decimal_numeral e.mark (omega (arith, w.mark))) (outcome_written e.reply.outcome w.outcome).form)
-    (number_written e.reply.value w.value).form)
-    (list_written e.reply.list w.list).form)
-    (bytes_written e.reply.bytes w.bytes).form
+    (and_from _ _ (decimal_numeral e.mark (omega (arith, w.sized.mark))) (outcome_written e.reply.outcome w.sized.outcome).form)
+    (number_written e.reply.value w.sized.value).form)
+    (list_written e.reply.list w.sized.list).form)
+    (bytes_written e.reply.bytes w.sized.bytes).form
 
 entry_next : (e : Entry) → IsWrittenEntry e → next Entries (entry_line e) ≡ Some (record { stage = Entries; thread = Some e.thread })
 unfolding next parts entry_thread
@@ -156,16 +154,13 @@ module _ (s : State) (small : All (λ n. n < 2 ^ 64) (census s)) where
 
 -- ---- The windows' fronts.
 abbrev row_text : WindowValue → ℕ → List ℕ
-row_text w y = flat_map hex_byte (shown_row w y)
+row_text w y = flat_map hex_byte (shown_row w.front y)
 
 abbrev row_lines : WindowValue → List ℕ → List RecordedLine
 row_lines w ys = map (λ y. line_behind (row_text w y)) ys
 
-abbrev head_text : WindowValue → List ℕ
-head_text w = codes "front " ++ signed_decimal w.id ++ codes " " ++ decimal w.front.width ++ codes " " ++ decimal w.front.height
-
 abbrev window_lines : WindowValue → List RecordedLine
-window_lines w = line_behind (head_text w) ∷ row_lines w (range_with_len 0 w.front.height)
+window_lines w = line_behind (front_head w) ∷ row_lines w (range_with_len 0 w.front.height)
 
 in_four : (a b c : List ℕ) → codes "front " ++ a ++ codes " " ++ b ++ codes " " ++ c ≡ join_with_byte 32 (codes "front" ∷ a ∷ b ∷ c ∷ [])
 in_four a b c = simp append_assoc refl
@@ -187,46 +182,46 @@ from_front = from_all 33 (codes "front") refl
 
 module _ (w : WindowValue) (v : IsWrittenWindow w) where
   abbrev numbers : List (List ℕ)
-  numbers = decimal v.number ∷ decimal w.front.width ∷ decimal w.front.height ∷ []
+  numbers = decimal v.id.number ∷ decimal w.front.width ∷ decimal w.front.height ∷ []
 
   abbrev ws : List (List ℕ)
   ws = codes "front" ∷ numbers
 
-  head_is : head_text w ≡ join_with_byte 32 ws
-  head_is = ap (λ (z : ℤ). codes "front " ++ signed_decimal z ++ codes " " ++ decimal w.front.width ++ codes " " ++ decimal w.front.height) v.id ∙ in_four (decimal v.number) (decimal w.front.width) (decimal w.front.height)
+  head_is : front_head w ≡ join_with_byte 32 ws
+  head_is = ap (λ (z : ℤ). codes "front " ++ signed_decimal z ++ codes " " ++ decimal w.front.width ++ codes " " ++ decimal w.front.height) v.id.id ∙ in_four (decimal v.id.number) (decimal w.front.width) (decimal w.front.height)
 
   head_words : AreFrom 33 ws
-  head_words = (from_front, (small_from v.number v.last, (small_from w.front.width (omega (arith, v.width)), (small_from w.front.height (omega (arith, v.height)), tt))))
+  head_words = (from_front, (small_from v.id.number v.id.last, (small_from w.front.width (omega (arith, v.width)), (small_from w.front.height (omega (arith, v.height)), tt))))
 
-  head_from : From 11 (head_text w)
+  head_from : From 11 (front_head w)
   head_from = subst (From 11) (sym head_is) (no_feed (codes "front") numbers head_words)
 
-  no_end : bytes_eq (head_text w) (codes "end") ≡ false
+  no_end : bytes_eq (front_head w) (codes "end") ≡ false
   no_end = ap (λ (x : List ℕ). bytes_eq x (codes "end")) head_is
 
   head_front : front ws ≡ Some (at_stage (Rows w.front.width w.front.height))
   unfolding front
   head_front =
-      ap (λ (o : Option ℕ). rows o (counted 2048 (decimal w.front.width)) (counted 2048 (decimal w.front.height))) (counted_is 2147483647 v.number v.first v.last (omega arith))
-      ∙ ap (λ (o : Option ℕ). rows (Some v.number) o (counted 2048 (decimal w.front.height))) (counted_is 2048 w.front.width v.some_width v.width (omega arith))
-      ∙ ap (λ (o : Option ℕ). rows (Some v.number) (Some w.front.width) o) (counted_is 2048 w.front.height v.some_height v.height (omega arith))
+      ap (λ (o : Option ℕ). rows o (counted 2048 (decimal w.front.width)) (counted 2048 (decimal w.front.height))) (counted_is 2147483647 v.id.number v.id.first v.id.last (omega arith))
+      ∙ ap (λ (o : Option ℕ). rows (Some v.id.number) o (counted 2048 (decimal w.front.height))) (counted_is 2048 w.front.width v.some_width v.width (omega arith))
+      ∙ ap (λ (o : Option ℕ). rows (Some v.id.number) (Some w.front.width) o) (counted_is 2048 w.front.height v.some_height v.height (omega arith))
 
-  head_next : next Fronts (head_text w) ≡ Some (at_stage (Rows w.front.width w.front.height))
+  head_next : next Fronts (front_head w) ≡ Some (at_stage (Rows w.front.width w.front.height))
   unfolding next parts
   head_next =
-      cond-false (bytes_eq (head_text w) (codes "end")) (Some (at_stage Ended)) (front (parts (head_text w))) no_end
+      cond-false (bytes_eq (front_head w) (codes "end")) (Some (at_stage Ended)) (front (parts (front_head w))) no_end
       ∙ ap (λ (x : List ℕ). front (slice_split is_space x)) head_is
       ∙ ap front (parted 32 (codes "front") numbers refl head_words)
       ∙ head_front
 
-  row_long : (y : ℕ) → length (row_text w y) ≡ 8 * w.front.width
-  row_long y = omega (arith, hex_long (shown_row w y), length-row_bytes w.front (row_of w.front y) Rgba8888 1 (omega arith))
+  digits_long : (y : ℕ) → length (row_text w y) ≡ 8 * w.front.width
+  digits_long y = omega (arith, hex_long (shown_row w.front y), row_long w.front y)
 
   row_is : (y : ℕ) → is_row w.front.width (row_text w y) ≡ true
-  row_is y = and_from _ _ (eq-eqb (length (row_text w y)) (8 * w.front.width) (row_long y)) (hex_written (shown_row w y) (row_bytes_are w y)).digits
+  row_is y = and_from _ _ (eq-eqb (length (row_text w y)) (8 * w.front.width) (digits_long y)) (hex_written (shown_row w.front y) (row_bytes_are w.front y)).digits
 
   row_from : (y : ℕ) → From 11 (row_text w y)
-  row_from y = from_less 11 45 (row_text w y) (omega arith) (hex_written (shown_row w y) (row_bytes_are w y)).bytes
+  row_from y = from_less 11 45 (row_text w y) (omega arith) (hex_written (shown_row w.front y) (row_bytes_are w.front y)).bytes
 
   row_next : (h y : ℕ) (m : Stage) → behind_row w.front.width h ≡ m → next (Rows w.front.width h) (row_text w y) ≡ Some (at_stage m)
   unfolding next
@@ -254,7 +249,7 @@ rows_text w (y ∷ ys) = ap (λ (r : List ℕ). fed (line_behind (row_text w y))
 
 window_text : (w : WindowValue) → flat_map fed (window_lines w) ≡ front_lines w
 unfolding front_lines
-window_text w = ap (λ (r : List ℕ). (head_text w ++ codes "\n") ++ r) (rows_text w (range_with_len 0 w.front.height))
+window_text w = ap (λ (r : List ℕ). (front_head w ++ codes "\n") ++ r) (rows_text w (range_with_len 0 w.front.height))
 
 windows_chain : (vs : List WindowValue) → All IsWrittenWindow vs → Chain Fronts (flat_map window_lines vs) Fronts
 windows_chain [] a = refl

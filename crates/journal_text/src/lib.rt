@@ -17,5 +17,5 @@ mod writing;
 pub use cuts::{Cut, cut_recording, line_behind};
 pub use entries::{entry_line, put_entry_line, put_hex, put_list};
 pub use recordings::{RecordedLine, Recording, read, read_slice};
-pub use summaries::summary;
+pub use summaries::{sum_of, summary};
 pub use writing::{put_rest, rest, write};

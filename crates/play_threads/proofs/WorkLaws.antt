@@ -4,7 +4,7 @@ use Rattle.std.proofs.lemmas.Bool.{eq-eqb}
 use Rattle.std.proofs.lemmas.List.{append-nil}
 use Rattle.std.proofs.lemmas.List.Elements.{All-head, All-tail, All-weaker}
 use Rattle.std.proofs.lemmas.List.Folds.{list_any-append}
-use Rattle.std.specs.Prelude.{◌==◌, All, OnOk, if◌then◌else◌, is_some}
+use Rattle.std.specs.Prelude.{◌==◌, All, IsSome, OnOk, if◌then◌else◌, is_some}
 use Rattle.egl_calls.specs.declared.memory.NoMemory.{NoMemory}
 use Rattle.std.specs.List.{list_all}
 use Rattle.egl_calls.specs.Calls.{CallValue, ReplyValue}
@@ -26,11 +26,11 @@ use Rattle.trace_session.specs.Answers.{IsLone}
 use Rattle.trace_model.specs.Serial.{state_behind, next_call, entry_of}
 use Rattle.trace_model.specs.Follows.{IsNextOf, PlaysAs}
 use Rattle.trace_model.proofs.FollowsLaws.{plays_none, plays_others, plays_turn}
-use Rattle.trace_session.specs.Sessions.{Knows, SessionValue}
-use Rattle.trace_session.proofs.KnownLaws.{no_halt_known}
+use Rattle.trace_session.specs.Sessions.{Knows, SessionValue, line_at}
+use Rattle.trace_session.proofs.KnownLaws.{line_is, no_halt_known}
 use Rattle.trace_session.proofs.TraceFacts.{facts_of}
 use Rattle.shared_driver.specs.Cores.{entry, halt_call, of_number}
-use Rattle.shared_driver.specs.Picks.{IsAnswer, IsAtTurn, picked_entries}
+use Rattle.shared_driver.specs.Picks.{ComesOf, IsAnswer, IsAtTurn, IsSeenAtTurn, picked_entries}
 use Rattle.shared_driver.specs.Tokens.{AreOthers, Goes, Halts, Owns, Token, mine}
 use Rattle.driver_core.specs.Machine.{Machine, outs}
 use Rattle.model_laws.specs.Frame.{AreOf}
@@ -259,7 +259,7 @@ calm_picked t is s of n below es own x knows Stop r p calm = ap are_halted (appe
 -- ---- A turn.
 -- what came of a picker's look in a turn
 abbrev pub Turned : State → Token → LinePicker → Picked → LinePicker → Token → Type 0
-Turned o u p r q v = (es : List Entry) × (d : Machine) × (k : Pick) × IsAtTurn u es × (d.state ≡ hide (outs d.away) (replay_from o es)) × Picks p es d k q × IsAnswer k r × (v.seen ≡ es ++ picked_entries u.number k r) × (mine v ≡ mine u ++ picked_entries u.number k r)
+Turned o u p r q v = (es : List Entry) × (d : Machine) × (k : Pick) × IsSeenAtTurn o u es d × Picks p es d k q × ComesOf u es k r v
 
 -- in a turn a picker may look: it knows its own entries, and others' as far as it has looked
 pub may_look : (u : Token) (p : LinePicker) (t : TraceValue) (n : ℕ) → u.number ≡ n → p.thread ≡ n → p.session.trace ≡ t → n < t.threads → HasLearnt p (mine u) u.seen → (es : List Entry) (d : Machine) → IsAtTurn u es → u.number < d.made → MayLook p es d
@@ -299,6 +299,14 @@ none_waited n (Call mark call) Stopped e = refl
 none_waited n (Wait what) r e = refl
 none_waited n Stop r e = refl
 
+-- a call that was answered is that of a line
+line_by : (t : TraceValue) (es : List Entry) (s : State) (n : ℕ) (reply : ReplyValue) (k : Pick) (r : Picked) → r ≡ Replied reply → IsAnswer k r → IsPickOf t es s n k → IsSome (next_line t.lines es n)
+line_by t es s n reply (Call mark call) r e a (l, next, goes, at, is) = ap (λ (o : Option Line). is_some o) next
+line_by t es s n reply k Waited e a p = absurd (let f : Waited ≡ Replied reply = e in cc)
+line_by t es s n reply k Stopped e a p = absurd (let f : Stopped ≡ Replied reply = e in cc)
+line_by t es s n reply (Wait what) (Replied other) e a p = absurd a
+line_by t es s n reply Stop (Replied other) e a p = absurd a
+
 -- what a session learnt of its thread's answer is the entry of the pick
 told_by : (t : TraceValue) (es : List Entry) (s : State) (n : ℕ) (q w : LinePicker) (reply : ReplyValue) → q.thread ≡ n → q.session.trace ≡ t → Knows es q.session
     → ((xs : List Entry) (l : Line) → Knows xs q.session → next_line q.session.trace.lines xs q.thread ≡ Some l → Knows (xs ++ entry q.thread l.number (next_call q.session.trace.lines xs q.thread l) reply ∷ []) w.session)
@@ -334,33 +342,33 @@ module _ (t : TraceValue) (is : IsTrace t) (o : State) (opens : o ≡ opening t.
   more = picked_entries n picked r
 
   abbrev between : List Entry
-  between = turn.3.0
+  between = turn.3.at_turn.0
 
   others : of_others n between
-  others = not_owned u n between (inl (sym same)) turn.3.1
+  others = not_owned u n between (inl (sym same)) turn.3.at_turn.1
 
   seen_is : v.seen ≡ es ++ more
-  seen_is = turn.7 ∙ ap (λ m. es ++ picked_entries m picked r) same
+  seen_is = turn.5.seen ∙ ap (λ m. es ++ picked_entries m picked r) same
 
   pick_is : IsPickOf t es (state_behind t es) n picked
   pick_is =
       let T : TraceValue → Type 0 = λ x. IsPickOf x es turn.1.state p.thread picked in
       let N : ℕ → Type 0 = λ x. IsPickOf t es turn.1.state x picked in
       let S : State → Type 0 = λ x. IsPickOf t es x n picked in
-      let there : IsPickOf t es (hide (outs turn.1.away) (replay_from o es)) n picked = subst S turn.4 (subst N own (subst T of turn.5.pick)) in
+      let there : IsPickOf t es (hide (outs turn.1.away) (replay_from o es)) n picked = subst S turn.3.driver (subst N own (subst T of turn.4.pick)) in
       let whole : IsPickOf t es (replay_from o es) n picked = pick_same t es (hide (outs turn.1.away) (replay_from o es)) (replay_from o es) (ready_hidden (outs turn.1.away) (replay_from o es)) n picked there in
       subst S (ap (λ s. replay_from s es) opens) whole
 
   knows_turn : Knows es q.session
-  knows_turn = knows_all q es turn.5.all (learnt_of p q es turn.5.thread turn.5.learnt)
+  knows_turn = knows_all q es turn.4.all (learnt_of p q es turn.4.thread turn.4.learnt)
 
   pub turn_calm : are_halted (mine v) ≡ false
   turn_calm =
-      ap are_halted (turn.8 ∙ ap (λ m. mine u ++ picked_entries m picked r) same)
-      ∙ calm_picked t is q.session (turn.5.trace ∙ of) n below es (mine u) (state_behind t es) knows_turn picked r pick_is calm
+      ap are_halted (turn.5.own ∙ ap (λ m. mine u ++ picked_entries m picked r) same)
+      ∙ calm_picked t is q.session (turn.4.trace ∙ of) n below es (mine u) (state_behind t es) knows_turn picked r pick_is calm
 
   pub turn_over : r ≡ Stopped → IsOver t v.seen (state_behind t v.seen) n
-  turn_over e = over_by t es v.seen n picked r turn.6 e pick_is seen_is
+  turn_over e = over_by t es v.seen n picked r turn.5.answer e pick_is seen_is
 
   -- what the token has seen is legal, so what it saw in its turn is
   module _ (done : v.tail ≡ []) (legal : IsLegalFrom o (v.seen ++ v.tail)) where
@@ -376,29 +384,39 @@ module _ (t : TraceValue) (is : IsTrace t) (o : State) (opens : o ≡ opening t.
         let P : List Entry → Type 0 = λ xs. PlaysAs t n xs in
         let L : List Entry → Type 0 = λ xs. IsLegalFrom (opening t.windows t.video) xs in
         let past : PlaysAs t n (u.seen ++ between) = plays_past t n u.seen between others plays in
-        let front : IsLegalFrom (opening t.windows t.video) ((u.seen ++ between) ++ u.tail) = subst L turn.3.2 (legal_front (opening t.windows t.video) es more legal_all) in
-        subst P (sym turn.3.2) (hand_in t is n below u.seen (u.seen ++ between) u.tail (sym (of_number-past n u.seen between others)) lone past front)
+        let front : IsLegalFrom (opening t.windows t.video) ((u.seen ++ between) ++ u.tail) = subst L turn.3.at_turn.2 (legal_front (opening t.windows t.video) es more legal_all) in
+        subst P (sym turn.3.at_turn.2) (hand_in t is n below u.seen (u.seen ++ between) u.tail (sym (of_number-past n u.seen between others)) lone past front)
 
     pub turn_plays : PlaysAs t n v.seen
     turn_plays =
         let P : List Entry → Type 0 = λ xs. PlaysAs t n xs in
-        subst P (sym seen_is) (plays_picked t is n below es plays_there picked r turn.6 legal_all pick_is)
+        subst P (sym seen_is) (plays_picked t is n below es plays_there picked r turn.5.answer legal_all pick_is)
 
   -- its own entries are those of the turn, and what was picked
   own_there : of_number q.thread es ≡ mine u
   own_there =
-      ap (λ m. of_number m es) (turn.5.thread ∙ own) ∙ ap (of_number n) turn.3.2 ∙ of_number-append n (u.seen ++ between) u.tail
+      ap (λ m. of_number m es) (turn.4.thread ∙ own) ∙ ap (of_number n) turn.3.at_turn.2 ∙ of_number-append n (u.seen ++ between) u.tail
       ∙ ap (λ l. l ++ of_number n u.tail) (of_number-past n u.seen between others) ∙ sym (of_number-append n u.seen u.tail) ∙ ap (λ m. of_number m (u.seen ++ u.tail)) (sym same)
 
   own_now : of_number q.thread es ++ more ≡ mine v
-  own_now = ap (λ l. l ++ more) own_there ∙ sym (turn.8 ∙ ap (λ m. mine u ++ picked_entries m picked r) same)
+  own_now = ap (λ l. l ++ more) own_there ∙ sym (turn.5.own ∙ ap (λ m. mine u ++ picked_entries m picked r) same)
 
   -- nothing was added: the picker knows all its own
   pub turn_learnt : r ≡ Waited → HasLearnt q (mine v) v.seen
   turn_learnt e =
       let P : List Entry → Type 0 = λ xs. HasLearnt q (mine v) xs in
       let unchanged : of_number q.thread es ≡ mine v = sym (append-nil (of_number q.thread es)) ∙ sym (ap (λ l. of_number q.thread es ++ l) (none_waited n picked r e)) ∙ own_now in
-      subst P (sym seen_is) (learnt_longer q (of_number q.thread es) (mine v) es more unchanged (learnt_of p q es turn.5.thread turn.5.learnt))
+      subst P (sym seen_is) (learnt_longer q (of_number q.thread es) (mine v) es more unchanged (learnt_of p q es turn.4.thread turn.4.learnt))
+
+  -- a call was answered: it is that of the line where the picker's thread is
+  pub turn_line : (reply : ReplyValue) → r ≡ Replied reply → IsSome (line_at q.session q.thread)
+  turn_line reply e =
+      let many : q.session.trace.threads ≡ t.threads = ap (λ (x : TraceValue). x.threads) (turn.4.trace ∙ of) in
+      let lt : q.thread < q.session.trace.threads = omega (arith, turn.4.thread, own, many, below) in
+      ap (λ (o : Option Line). is_some o) (line_is q.session es knows_turn q.thread lt)
+      ∙ ap (λ (x : TraceValue). is_some (next_line x.lines es q.thread)) (turn.4.trace ∙ of)
+      ∙ ap (λ (m : ℕ). is_some (next_line t.lines es m)) (turn.4.thread ∙ own)
+      ∙ line_by t es (state_behind t es) n reply picked r e turn.5.answer pick_is
 
   -- a call was answered, and the picker was told
   pub turn_told : (reply : ReplyValue) → r ≡ Replied reply → (w : LinePicker) → w.thread ≡ q.thread → w.learnt ≡ q.learnt → w.halted ≡ q.halted
@@ -406,10 +424,10 @@ module _ (t : TraceValue) (is : IsTrace t) (o : State) (opens : o ≡ opening t.
       → HasLearnt w (mine v) v.seen
   turn_told reply e w thread place halted told =
       let P : List Entry → Type 0 = λ xs. HasLearnt w (mine v) xs in
-      let h : HasLearnt q (of_number q.thread es) es = learnt_of p q es turn.5.thread turn.5.learnt in
-      let owner : q.thread ≡ n = turn.5.thread ∙ own in
-      let knows : Knows (es ++ more) w.session = told_by t es (state_behind t es) n q w reply owner (turn.5.trace ∙ of) knows_turn told picked r e turn.6 pick_is in
-      subst P (sym seen_is) (learnt_told q w es more (mine v) turn.5.all h thread place halted knows (sym (ap (λ m. of_number m more) owner ∙ picked_own n picked r)) own_now)
+      let h : HasLearnt q (of_number q.thread es) es = learnt_of p q es turn.4.thread turn.4.learnt in
+      let owner : q.thread ≡ n = turn.4.thread ∙ own in
+      let knows : Knows (es ++ more) w.session = told_by t es (state_behind t es) n q w reply owner (turn.4.trace ∙ of) knows_turn told picked r e turn.5.answer pick_is in
+      subst P (sym seen_is) (learnt_told q w es more (mine v) turn.4.all h thread place halted knows (sym (ap (λ m. of_number m more) owner ∙ picked_own n picked r)) own_now)
 
 -- ---- A thread that gives up.
 pub gave_up : (t : TraceValue) → IsTrace t → (o : State) → o ≡ opening t.windows t.video → (u v : Token) (n : ℕ) → n < t.threads → u.number ≡ n → PlaysAs t n u.seen → PlayLone t n u.seen u.tail → IsLegalFrom o (v.seen ++ v.tail) → Halts u v → GaveUp t n v.seen

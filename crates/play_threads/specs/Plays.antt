@@ -22,11 +22,11 @@ pub record IsReady (t : TraceValue) (s : Shared) (w : Worker) : Type 0 where
   pub ended : (token_of w.thread).ended ≡ []
   pub tail : (token_of w.thread).tail ≡ []
 
--- a worker that is through. Where memory wasn't wanted, its thread plays its lines in what it has seen
+-- a worker that is through. Where memory didn't run out, its thread plays its lines in what it has seen
 pub record IsThrough (t : TraceValue) (s : Shared) (w : Worker) : Type 0 where
   pub owns : IsOf s w.thread
   pub number : (token_of w.thread).number < t.threads
-  pub plays : w.wanted ≡ false → PlaysAs t (token_of w.thread).number (token_of w.thread).seen
+  pub plays : w.ran_out ≡ false → PlaysAs t (token_of w.thread).number (token_of w.thread).seen
   pub ended : (token_of w.thread).ended ≡ []
   pub tail : (token_of w.thread).tail ≡ []
 

@@ -1,5 +1,5 @@
 //! What a worker picks, by what it knows of the journal.
-ghost use Rattle.std.specs.Prelude.{◌≡◌, ◌<◌, ◌+◌, ◌-◌, ◌^◌, ◌||◌, ◌∷◌, ◌++◌, [], length, slice_get, Some, IfOk, IfSome, OnOk, List};
+ghost use Rattle.std.specs.Prelude.{◌≡◌, ◌<◌, ◌+◌, ◌-◌, ◌^◌, ◌||◌, ◌∷◌, ◌++◌, [], length, slice_get, Some, IfOk, IfSome, IsSome, OnOk, List};
 ghost use Rattle.egl_calls.specs.Journals.{is_halt};
 ghost use Rattle.egl_calls.specs.declared.entries.Entry.{Entry as AnEntry};
 ghost use Rattle.trace_reader.specs.declared.traces.Line.{Line as ALine};
@@ -8,11 +8,11 @@ ghost use Rattle.trace_model.specs.Serial.{next_call};
 ghost use Rattle.trace_session.specs.Answers.{IsLone};
 ghost use Rattle.trace_session.specs.Chains.{AreChains};
 ghost use Rattle.trace_session.specs.Facts.{HasFacts};
-ghost use Rattle.trace_session.specs.Sessions.{Knows};
+ghost use Rattle.trace_session.specs.Sessions.{Knows, line_at};
 ghost use Rattle.shared_driver.specs.Cores.{entry, of_number};
 ghost use Rattle.play_threads.specs.Picks.{GoesOn, HasLearnt, IsPickOf, MayLook, Picks, has_stalled, have_others_halted};
 
-use crate::needs::Needs;
+use crate::needs::wanted;
 use driver_core::Driver;
 use egl_calls::{Entry, Journal, NoMemory, Reply, is_waiting};
 use shared_driver::{Pick, Picker, Wanted};
@@ -32,7 +32,6 @@ pub struct LinePicker<'a> {
     pub(crate) halted: bool,
     // its own thread is in a wait
     pub(crate) waits: bool,
-    pub(crate) needs: Needs<'a>,
 }
 
 /// Whether the run that a session knows has stalled. While threads of the trace have no token yet, it hasn't.
@@ -62,7 +61,6 @@ impl<'a> LinePicker<'a> {
             learnt: 0,
             halted: false,
             waits: false,
-            needs: Needs { trace, chains },
         })
     }
 
@@ -111,12 +109,16 @@ impl<'a> LinePicker<'a> {
         Ok(())
     }
 
-    // What its thread waits for at the line of this number, where it is blocked.
-    fn wanted(&self, mark: u64) -> Wanted {
+    // What its thread waits for, where it is blocked.
+    fn wanted(&self) -> Wanted
+        requires { self.now.thread < self.now.session.trace.threads }
+    {
         if self.waits {
-            Wanted::Signal
-        } else {
-            self.needs.wanted(&self.session, mark)
+            return Wanted::Signal;
+        }
+        match self.session.line(self.thread) {
+            Some(line) => wanted(&self.session, line),
+            None => Wanted::Entry,
         }
     }
 
@@ -139,7 +141,7 @@ impl<'a> LinePicker<'a> {
         if has_stalled(&self.session, driver) {
             Ok(Pick::Stop)
         } else {
-            Ok(Pick::Wait(self.wanted(mark)))
+            Ok(Pick::Wait(self.wanted()))
         }
     }
 
@@ -162,7 +164,8 @@ impl<'a> LinePicker<'a> {
 
     /// Takes in that the thread's next call was answered so.
     pub(crate) fn learn_own(&mut self, reply: Reply) -> Result<(), NoMemory>
-        requires { self.old.thread < self.old.session.trace.threads }
+        requires below { self.old.thread < self.old.session.trace.threads }
+        requires line { IsSome (line_at self.old.session self.old.thread) }
         ensures same { (self.new.thread ≡ self.old.thread) × (self.new.session.trace ≡ self.old.session.trace) × (self.new.learnt ≡ self.old.learnt) × (self.new.halted ≡ self.old.halted) }
         ensures knows { (es : List AnEntry) (l : ALine) → Knows es self.old.session → next_line self.old.session.trace.lines es self.old.thread ≡ Some l → OnOk result (Knows (es ++ entry self.old.thread l.number (next_call self.old.session.trace.lines es self.old.thread l) reply ∷ []) self.new.session) }
     {

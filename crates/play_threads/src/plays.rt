@@ -64,11 +64,11 @@ fn run<R: Threads + Wait + Sync, G: Gate + Sync>(
         trace.video(),
         trace.threads(),
     )?;
-    let Gathered { thread, wanted } = play_together(
+    let Gathered { thread, ran_out } = play_together(
         rt, alloc, trace, chains, gate, &shared, thread,
     );
     let Closed { driver, journal } = close(rt, shared, thread);
-    if wanted {
+    if ran_out {
         return Err(NoMemory);
     }
     Ok(Run { journal, driver })

@@ -16,16 +16,16 @@ use std::thread::Threads;
 use trace_reader::Trace;
 use trace_session::Chains;
 
-/// A token for a thread of the trace, and whether memory was wanted for its work.
+/// A token for a thread of the trace, and whether memory ran out in its work.
 pub(crate) struct Worker {
     pub(crate) thread: Thread,
-    pub(crate) wanted: bool,
+    pub(crate) ran_out: bool,
 }
 
-/// The token into which all others were joined, and whether memory was wanted for the work of one.
+/// The token into which all others were joined, and whether memory ran out in the work of one.
 pub(crate) struct Gathered {
     pub(crate) thread: Thread,
-    pub(crate) wanted: bool,
+    pub(crate) ran_out: bool,
 }
 
 // Makes workers for all threads but the first, in the room that there is. False exactly where one can't be made.
@@ -59,7 +59,7 @@ fn hire<R: Wait>(
         };
         workers.push_reserved(Worker {
             thread,
-            wanted: false,
+            ran_out: false,
         });
     }
     true
@@ -82,9 +82,9 @@ fn run<R: Wait, G: Gate>(
     requires opening { opening_of shared.now ≡ opening trace.now.windows trace.now.video }
     ensures { IsThrough trace.now shared.now worker.new }
 {
-    if start.count_in(rt, workers) && !worker.wanted {
+    if start.count_in(rt, workers) && !worker.ran_out {
         let worked = work(shared, &mut worker.thread, rt, alloc, trace, chains, gate);
-        worker.wanted = worked.is_err();
+        worker.ran_out = worked.is_err();
     }
 }
 
@@ -144,22 +144,22 @@ fn gather<R: Wait>(
     requires last { IsThrough trace.now shared.now last }
     requires through { All (IsThrough trace.now shared.now) workers.items }
     ensures owns { IsOf shared.now result.thread }
-    ensures play { result.wanted ≡ false → OwnersPlay trace.now (token_of result.thread) }
+    ensures play { result.ran_out ≡ false → OwnersPlay trace.now (token_of result.thread) }
 {
     let Worker {
         mut thread,
-        mut wanted,
+        mut ran_out,
     } = last;
     'joining: while let Some(worker) = workers.pop() {
         let Worker {
             thread: other,
-            wanted: lacked,
+            ran_out: other_ran_out,
         } = worker;
         shared.join(&mut thread, rt, other);
-        wanted = wanted || lacked;
+        ran_out = ran_out || other_ran_out;
     }
     workers.destroy_empty();
-    Gathered { thread, wanted }
+    Gathered { thread, ran_out }
 }
 
 /// Plays a trace with a token for each of its threads, all at once, and joins them into one.
@@ -181,18 +181,18 @@ pub(crate) fn play_together<R: Threads + Wait + Sync, G: Gate + Sync>(
     requires ended { (token_of first).ended ≡ [] }
     requires tail { (token_of first).tail ≡ [] }
     ensures owns { IsOf shared.now result.thread }
-    ensures play { result.wanted ≡ false → OwnersPlay trace.now (token_of result.thread) }
+    ensures play { result.ran_out ≡ false → OwnersPlay trace.now (token_of result.thread) }
 {
     let Ok(mut workers) = Vec::with_capacity(alloc, trace.threads() as usize + 1) else {
         return Gathered {
             thread: first,
-            wanted: true,
+            ran_out: true,
         };
     };
     let hired = hire(rt, shared, &mut first, &mut workers, trace);
     workers.push_reserved(Worker {
         thread: first,
-        wanted: !hired,
+        ran_out: !hired,
     });
     run_all(rt, alloc, trace, chains, gate, shared, &mut workers, hired);
     match workers.pop() {

@@ -1,34 +1,35 @@
-//! The races of a journal.
-ghost use Rattle.std.specs.Prelude.{◌≡◌, ◌<◌, [], ◌∷◌, ◌++◌, All, length, IfOk};
-ghost use Rattle.race_report.specs.Races.{AreRaces};
-ghost use Rattle.race_report.specs.Leading.{ArePlaces};
+//! The events of a journal, whose entries are played again.
+ghost use Rattle.std.specs.Prelude.{◌≡◌, ◌<◌, [], ◌∷◌, ◌++◌, All, IfOk};
 ghost use Rattle.race_report.specs.Events.{event_of, events_of};
+ghost use Rattle.race_report.specs.Leading.{ArePlaces};
+ghost use Rattle.race_report.specs.Replays.{touched_from};
 
 use crate::events::Event;
 use crate::leading::{behind_of, places_of};
-use crate::reports::{Pair, races};
-use driver_core::Touches;
-use egl_calls::{Entry, List, NoMemory};
+use driver_core::{Driver, Touches};
+use egl_calls::{Entry, NoMemory};
 use std::alloc::Global;
 use trace_reader::Line;
 
-/// The event of an entry.
+/// The event of an entry that touches this.
 fn event_of(
     alloc: Global,
     places: &[Option<u64>],
     lines: &[Line],
     entries: &[Entry],
     entry: &Entry,
-    touches: &Touches,
+    touches: Touches,
 ) -> Result<Event, NoMemory>
     requires { ArePlaces lines.now entries.now places.now }
-    ensures { IfOk result (λ e. e ≡ event_of lines.now entries.now entry.now touches.now) }
+    ensures { IfOk result (λ e. e ≡ event_of lines.now entries.now entry.now touches) }
 {
+    let behind = behind_of(alloc, places, lines, entries, entry)?;
+    let Touches { reads, writes } = touches;
     Ok(Event {
         thread: entry.thread,
-        behind: behind_of(alloc, places, lines, entries, entry)?,
-        reads: touches.reads.copy(alloc)?,
-        writes: touches.writes.copy(alloc)?,
+        behind,
+        reads,
+        writes,
     })
 }
 
@@ -41,38 +42,25 @@ fn push(events: &mut Vec<Event>, event: Event) -> Result<(), NoMemory>
     }
 }
 
-/// The events of all entries.
+/// The events of all entries, by what each touches as a driver plays them.
 #[tactic(auto, unfolding(crate::specs::Events::events_of))]
-fn events_of(
+pub fn events_of(
     alloc: Global,
+    driver: &mut Driver,
     lines: &[Line],
     entries: &[Entry],
-    touches: &[Touches],
 ) -> Result<Vec<Event>, NoMemory>
-    requires { length touches.now ≡ length entries.now }
-    ensures { IfOk result (λ es. es.items ≡ events_of lines.now entries.now touches.now) }
+    requires { All (λ e. e.thread < driver.old.made) entries.now }
+    ensures { IfOk result (λ es. es.items ≡ events_of lines.now entries.now (touched_from driver.old.state entries.now)) }
 {
     let table = places_of(alloc, lines, entries)?;
     let places = table.as_slice();
     let mut events = Vec::new(alloc);
-    'each: for (k, entry) in entries.iter().enumerate() {
-        let event = event_of(alloc, places, lines, entries, entry, &touches[k])?;
+    'each: for entry in entries {
+        let touches = driver.touches(alloc, entry.thread, &entry.call)?;
+        let event = event_of(alloc, places, lines, entries, entry, touches)?;
         push(&mut events, event)?;
+        driver.play(alloc, entry.thread, &entry.call)?;
     }
     Ok(events)
-}
-
-/// The races of a journal whose entries touch this.
-pub fn races_of(
-    alloc: Global,
-    lines: &[Line],
-    entries: &[Entry],
-    touches: &[Touches],
-) -> Result<List<Pair>, NoMemory>
-    requires long { length touches.now ≡ length entries.now }
-    requires threads { All (λ e. e.thread < 16) entries.now }
-    ensures { IfOk result (λ pairs. AreRaces (events_of lines.now entries.now touches.now) pairs) }
-{
-    let events = events_of(alloc, lines, entries, touches)?;
-    races(alloc, events.as_slice())
 }

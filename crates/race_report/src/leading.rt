@@ -2,7 +2,6 @@
 ghost use Rattle.std.specs.Prelude.{◌≡◌, ◌++◌, Some, find, option_copied, IfOk, OnOk};
 ghost use Rattle.std.specs.List.{position_from};
 ghost use Rattle.std.specs.Option.{option_to_list};
-ghost use Rattle.egl_model.specs.Arguments.{number};
 ghost use Rattle.trace_model.specs.Resolve.{answers, assigns};
 ghost use Rattle.trace_model.specs.Turns.{posts};
 ghost use Rattle.egl_calls.specs.Errors.{is_done, is_waiting};
@@ -10,11 +9,16 @@ ghost use Rattle.race_report.specs.Leading.{last_from, variable_place, ArePlaces
 
 use call_table::{Role, egl_role};
 use display_table::HandleKind;
+use egl_calls::arguments::number;
 use egl_calls::places::{NAMED, POSTED};
-use egl_calls::{Call, Entry, Kind, List, NoMemory, OwnKind, Reply, is_done, is_waiting, unsigned};
+use egl_calls::{Call, Entry, Kind, List, NoMemory, OwnKind, Reply, is_done, is_waiting};
 use egl_names::codes::EGL_CONDITION_SATISFIED;
 use std::alloc::Global;
 use trace_reader::{Line, Reference};
+use trace_session::{is_await, is_post};
+
+/// How many variables have the places of their answers kept. The place of another's is looked for where it is used.
+const MOST_PLACES: usize = 65_536;
 
 fn answers(thread: u32, number: u64, entry: &Entry) -> bool
     ensures { result ≡ answers thread number entry.now }
@@ -78,7 +82,7 @@ pub fn places_of(
 {
     let mut places = List::new(alloc);
     'each: for variable in 0..lines.len() {
-        if variable > 65_535 || assigning(lines, variable as u32).is_none() {
+        if variable >= MOST_PLACES || assigning(lines, variable as u32).is_none() {
             return Ok(places);
         }
         places.push(variable_place(lines, entries, variable as u32))?;
@@ -152,16 +156,10 @@ fn add_uses(
     }
 }
 
-fn number_of(call: &Call) -> u64
-    ensures { result ≡ number call.now POSTED }
+fn posts(posted: u64, entry: &Entry) -> bool
+    ensures { result ≡ posts posted entry.now }
 {
-    unsigned(call.args[POSTED])
-}
-
-fn posts(number: u64, entry: &Entry) -> bool
-    ensures { result ≡ posts number entry.now }
-{
-    matches!(entry.call.kind, Kind::Own(OwnKind::Post)) && number_of(&entry.call) == number
+    is_post(entry.call.kind) && number(&entry.call, POSTED) == posted
 }
 
 /// The first place at which a number is posted.
@@ -182,8 +180,8 @@ fn post_place(entries: &[Entry], number: u64) -> Option<u64>
 fn awaited_place(entries: &[Entry], call: &Call) -> Option<u64>
     ensures { result ≡ awaited_place entries.now call.now }
 {
-    if matches!(call.kind, Kind::Own(OwnKind::Await)) {
-        return post_place(entries, number_of(call));
+    if is_await(call.kind) {
+        return post_place(entries, number(call, POSTED));
     }
     None
 }
@@ -200,7 +198,7 @@ fn creates_sync(kind: Kind) -> bool
 {
     match kind {
         Kind::Egl(kind) => is_sync_creation(egl_role(kind)),
-        _ => false,
+        Kind::Gl(_) | Kind::Own(_) => false,
     }
 }
 
@@ -256,7 +254,8 @@ fn waited_as(role: Role, entry: &Entry) -> Option<i64>
     let has_waited = match role {
         Role::ClientWaits => is_satisfied(&entry.reply),
         Role::ServerWaits => is_done(entry.reply.outcome),
-        _ => false,
+        Role::Plain | Role::Creates(_) | Role::Destroys(_) | Role::Binds => false,
+        Role::Releases | Role::Deletes | Role::Flushes | Role::OwnState => false,
     };
     if has_waited {
         Some(entry.call.args[NAMED])
@@ -279,7 +278,9 @@ fn waited_by(entries: &[Entry], entry: &Entry) -> Option<i64>
                 None
             }
         }
-        _ => None,
+        Kind::Own(OwnKind::Post | OwnKind::Await | OwnKind::Halt) => None,
+        Kind::Own(OwnKind::Census | OwnKind::ReadFront | OwnKind::ReadBuffer) => None,
+        Kind::Gl(_) => None,
     }
 }
 

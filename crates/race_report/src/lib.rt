@@ -13,6 +13,5 @@ mod replays;
 mod reports;
 
 pub use events::Event;
-pub use journals::races_of;
 pub use replays::report;
 pub use reports::{Pair, races};

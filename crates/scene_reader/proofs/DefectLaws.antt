@@ -4,6 +4,10 @@ use Rattle.std.specs.Str.Lines.{lines}
 use Rattle.trace_reader.specs.declared.traces.Defect.{Defect}
 use Rattle.trace_reader.specs.declared.traces.Reason.{Reason}
 use Rattle.trace_reader.specs.declared.traces.Reason.TheVariants.{Header}
+use Rattle.trace_reader.specs.declared.traces.TraceError.{TraceError}
+use Rattle.trace_reader.specs.declared.body.LineError.{LineError}
+use Rattle.trace_reader.specs.declared.body.LineError.TheVariants.{Defective, NoMemory}
+use Rattle.trace_reader.specs.Reading.{FailsWith, error_at}
 use Rattle.trace_reader.specs.Words.{words}
 use Rattle.scene_reader.specs.declared.headers.Sides.{Sides}
 use Rattle.scene_reader.specs.declared.items.Item.{Item}
@@ -12,6 +16,7 @@ use Rattle.scene_reader.specs.Headers.{header_of}
 use Rattle.scene_reader.specs.Lines.{line_behind}
 use Rattle.scene_reader.specs.Grammar.{behind_header, line_then, read_items, scene, scene_of_lines, with_sides}
 use Rattle.scene_reader.specs.Laws.{IsFirstDefect}
+use Rattle.scene_reader.specs.Reading.{GivesItems}
 
 -- the first defect of the lines from the number n on, behind these items
 record IsFirstFrom (before : List Item) (n : ℕ) (ls : List (List ℕ)) (d : Defect) : Type 0 where
@@ -27,6 +32,15 @@ same_defect x d h = cc
 on_line : (before : List Item) (n : ℕ) (line : List ℕ) (said : Result (List Item) Reason) → line_behind before line ≡ said
     → (rest : List (List ℕ)) → read_items before n (line ∷ rest) ≡ line_then n said (λ items. read_items items (n + 1) rest)
 on_line before n line said e rest = ap (λ (s : Result (List Item) Reason). line_then n s (λ items. read_items items (n + 1) rest)) e
+
+-- a line that isn't taken
+pub items_refused : (before after : List Item) (n : ℕ) (line : List ℕ) (ls rest : List (List ℕ)) (said : Result (List Item) Defect) (e : LineError) (x : TraceError) → GivesItems (line_behind before line) before after (Err e) → ls ≡ line ∷ rest → read_items before n ls ≡ said → x ≡ error_at n e → FailsWith x said
+items_refused before after n line ls rest said (Defective r) x g l s a =
+    let P : TraceError → Type 0 = λ y. FailsWith y said in
+    subst P (sym a) (sym s ∙ ap (read_items before n) l ∙ on_line before n line (Err r) g rest)
+items_refused before after n line ls rest said NoMemory x g l s a =
+    let P : TraceError → Type 0 = λ y. FailsWith y said in
+    subst P (sym a) tt
 
 goes_front : (before items : List Item) (n : ℕ) (line : List ℕ) (rest : List (List ℕ)) (d : Defect) → ((r : List (List ℕ)) → read_items before n (line ∷ r) ≡ read_items items (n + 1) r) → IsFirstFrom items (n + 1) rest d
     → (k : ℕ) → n + k ≡ d.line → (more : List (List ℕ)) → read_items before n (take (suc k) (line ∷ rest) ++ more) ≡ Err d

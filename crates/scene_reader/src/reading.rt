@@ -37,6 +37,7 @@ fn take_line<'a>(
 }
 
 /// Reads the lines behind the first.
+#[tactic(auto, using(crate::proofs::DefectLaws::items_refused))]
 fn read_items(alloc: Global, bytes: &[u8]) -> Result<Progress, TraceError>
     requires { length bytes.now + 2 < 2 ^ 64 }
     ensures { Gives (λ p. p) result (read_items [] 2 (lines bytes.now)) }
@@ -48,13 +49,7 @@ fn read_items(alloc: Global, bytes: &[u8]) -> Result<Progress, TraceError>
     'each: while let Some((line, more)) = cut_line(rest) {
         match take_line(alloc, &mut progress, line, &mut parts) {
             Ok(()) => {}
-            Err(LineError::Defective(reason)) => {
-                return Err(TraceError::Malformed {
-                    line: number,
-                    reason,
-                });
-            }
-            Err(LineError::NoMemory) => return Err(TraceError::NoMemory),
+            Err(error) => return Err(error.at(number)),
         }
         number += 1;
         rest = more;

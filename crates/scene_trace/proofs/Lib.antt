@@ -1,3 +1,4 @@
+pub mod RoomLaws
 pub mod Spaced
 pub mod NumbersRead
 pub mod ArgumentsRead

@@ -24,8 +24,8 @@ use Rattle.trace_reader.specs.declared.traces.Defect.{Defect}
 use Rattle.trace_reader.specs.declared.traces.Line.{Line}
 use Rattle.journal_text.proofs.WordLaws.{From, from_all}
 use Rattle.sprite_scene.specs.Runs.{video_bytes}
-use Rattle.scene_trace.specs.Forms.{form_of}
 use Rattle.scene_trace.specs.Lines.{call_line, line_of, lines_from, trace_of}
+use Rattle.scene_trace.specs.Rows.{call_name}
 use Rattle.scene_trace.proofs.CallsRead.{Reads}
 use Rattle.scene_trace.proofs.Spaced.{AreWords, bare_line, call_words, from_spaced, line_first, line_is, words_spaced}
 
@@ -55,7 +55,7 @@ not_skipped c r = or_from (length (words (bare_line c)) == 0) _ (ap (λ (ws : Li
 assigns_none : (c : CallValue) → Reads c → assigned_in (bare_line c) ≡ None
 assigns_none c r =
     let ws = codes "0" ∷ call_words c in
-    let none : is_assignment ws ≡ false = and_left (begins_with 36 (form_of c.kind).name) (bytes_eq (word_at ws 2) (codes "=")) r.call in
+    let none : is_assignment ws ≡ false = and_left (begins_with 36 (call_name c.kind)) (bytes_eq (word_at ws 2) (codes "=")) r.call in
     by_words (bare_line c) ws refl (line_words c r) ∙ ap (λ (b : Bool). where_variable (if b then Some (word_at ws 1) else None)) none
 
 body : (c : CallValue) (n : ℕ) → Reads c → body_of 1 [] 0 n (words (bare_line c)) ≡ Ok (line_of n c)

@@ -1,5 +1,5 @@
 -- Numbers are read back as they are written.
-use Rattle.std.proofs.Common.{◌≡◌, ℕ, zero, suc, ℤ, pos, negsuc, ◌-◌, ◌≤◌, Bool, true, false, not, ◌&&◌, ◌==◌, nat_le, List, [], ◌∷◌, take, refl, sym, subst, ap, ◌∙◌, arith, Option, None, Some}
+use Rattle.std.proofs.Common.{◌≡◌, ℕ, zero, suc, ℤ, pos, negsuc, ◌≤◌, Bool, true, false, not, ◌&&◌, ◌==◌, nat_le, List, [], ◌∷◌, take, refl, sym, subst, ap, ◌∙◌, arith, Option, None, Some}
 use Rattle.std.proofs.lemmas.Bool.{and_left, and_parts, and_right, cond-false, leb-true, lt-leb, ne_eqb, or_from}
 use Rattle.std.proofs.lemmas.Int.{ints}
 use Rattle.std.specs.Prelude.{codes, if◌then◌else◌, int_lt, slice_get}
@@ -35,7 +35,7 @@ plain_at [] k w h g = absurd (let e : None ≡ Some w = g in cc)
 plain_at (x ∷ xs) zero w h g = let e : x ≡ w = cc in ap is_plain (sym e) ∙ (and_parts (is_plain x) (list_all is_plain xs) h).0
 plain_at (x ∷ xs) (suc k) w h g = plain_at xs k w (and_parts (is_plain x) (list_all is_plain xs) h).1 g
 
-not_from : (b : Bool) → not b ≡ true → b ≡ false
+pub not_from : (b : Bool) → not b ≡ true → b ≡ false
 not_from true h = absurd (let e : false ≡ true = h in cc)
 not_from false h = refl
 

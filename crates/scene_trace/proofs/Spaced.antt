@@ -1,7 +1,6 @@
 -- Words behind spaces, and lines.
-use Rattle.std.proofs.Common.{◌≡◌, ℕ, zero, suc, ℤ, ◌+◌, ◌-◌, ◌<◌, ◌≤◌, true, false, ◌==◌, List, [], ◌∷◌, ◌++◌, length, map, take, refl, sym, ap, ◌∙◌, arith, append_assoc}
+use Rattle.std.proofs.Common.{◌≡◌, ℕ, zero, suc, ◌+◌, ◌-◌, ◌<◌, ◌≤◌, true, false, ◌==◌, List, [], ◌∷◌, ◌++◌, length, refl, ap, ◌∙◌, arith}
 use Rattle.std.proofs.lemmas.Bool.{cond-false, ne_eqb}
-use Rattle.std.proofs.lemmas.Grind.{flat_map-append}
 use Rattle.std.proofs.lemmas.List.{append-nil}
 use Rattle.std.proofs.lemmas.List.Splits.{length-slice_split}
 use Rattle.std.specs.Prelude.{codes, filter, slice_index}
@@ -9,21 +8,15 @@ use Rattle.std.specs.Char.{is_newline}
 use Rattle.std.specs.List.{flat_map, slice_split}
 use Rattle.std.specs.Str.Lines.{lines, lines_of_parts, strip_carriage_return}
 use Rattle.egl_calls.specs.Calls.{CallValue}
-use Rattle.trace_model.specs.Recording.{list_text, number_text}
 use Rattle.trace_reader.specs.Words.{is_space, is_word, words}
 use Rattle.journal_text.proofs.WordLaws.{From, from_append, from_less, split_first, split_last}
-use Rattle.scene_trace.specs.Forms.{form_of}
-use Rattle.scene_trace.specs.Lines.{behind_text, call_line, payload_text, spaced_number}
-use Rattle.scene_trace.specs.declared.forms.Behind.{Behind}
-use Rattle.scene_trace.specs.declared.forms.Behind.TheVariants.{Nothing, Numbers, Bytes}
+use Rattle.scene_trace.specs.Lines.{argument_words, call_line, spaced}
+use Rattle.scene_trace.specs.Rows.{call_forms, call_name}
 
 -- texts without spaces, none of them empty
 abbrev pub AreWords : List (List ℕ) → Type 0
 AreWords [] = Unit {0}
 AreWords (w ∷ ws) = (is_word w ≡ true) × From 33 w × AreWords ws
-
-abbrev pub spaced : List ℕ → List ℕ
-spaced w = 32 ∷ w
 
 split_spaced : (w : List ℕ) (ws : List (List ℕ)) → From 33 w → AreWords ws → slice_split is_space (w ++ flat_map spaced ws) ≡ w ∷ ws
 split_spaced w [] f a = ap (slice_split is_space) (append-nil w) ∙ split_last 32 w f
@@ -69,38 +62,14 @@ line_first w rest f =
     ∙ ap (λ (x : List ℕ). x ∷ lines rest) (not_stripped w f)
 
 -- ---- The words of a call.
-abbrev pub behind_words : Behind → CallValue → List (List ℕ)
-behind_words Nothing c = []
-behind_words Numbers c = list_text c.list ∷ []
-behind_words Bytes c = payload_text c.bytes ∷ []
-
 -- those behind the thread
 abbrev pub call_words : CallValue → List (List ℕ)
-call_words c = (form_of c.kind).name ∷ (map number_text (take (form_of c.kind).numbers c.args) ++ behind_words (form_of c.kind).behind c)
+call_words c = call_name c.kind ∷ argument_words 0 (call_forms c.kind) c
 
 -- the line without its end
 abbrev pub bare_line : CallValue → List ℕ
 bare_line c = codes "0" ++ flat_map spaced (call_words c)
 
-numbers_spaced : (zs : List ℤ) → flat_map spaced (map number_text zs) ≡ flat_map spaced_number zs
-numbers_spaced [] = refl
-numbers_spaced (z ∷ zs) = ap (λ (r : List ℕ). spaced_number z ++ r) (numbers_spaced zs)
-
-behind_spaced : (b : Behind) (c : CallValue) → flat_map spaced (behind_words b c) ≡ behind_text b c
-behind_spaced Nothing c = refl
-behind_spaced Numbers c = append-nil (32 ∷ list_text c.list)
-behind_spaced Bytes c = append-nil (32 ∷ payload_text c.bytes)
-
 pub line_is : (c : CallValue) → call_line c ≡ bare_line c ++ codes "\n"
 unfolding call_line
-line_is c =
-    let name = (form_of c.kind).name in
-    let zs = take (form_of c.kind).numbers c.args in
-    let b = (form_of c.kind).behind in
-    let numbers = flat_map spaced_number zs in
-    let behind = behind_text b c in
-    let joined : flat_map spaced (map number_text zs ++ behind_words b c) ≡ numbers ++ behind =
-    flat_map-append spaced (map number_text zs) (behind_words b c)
-    ∙ ap (λ (r : List ℕ). r ++ flat_map spaced (behind_words b c)) (numbers_spaced zs)
-    ∙ ap (λ (r : List ℕ). numbers ++ r) (behind_spaced b c) in
-    ap (λ (r : List ℕ). 48 ∷ 32 ∷ (r ++ codes "\n")) (append_assoc name numbers behind ∙ ap (λ (r : List ℕ). name ++ r) (sym joined))
+line_is c = refl

@@ -3,8 +3,8 @@
 //! Its tests are in `play_rows`.
 #![tactic(auto)]
 
-mod forms;
 mod lines;
+mod rows;
 mod writing;
 
 pub use writing::{scene_text, text_is_read};

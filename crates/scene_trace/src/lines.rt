@@ -1,23 +1,14 @@
 //! The lines of calls.
-ghost use Rattle.std.specs.Prelude.{◌≡◌, ◌++◌, OnOk};
+ghost use Rattle.std.specs.Prelude.{◌≡◌, ◌≤◌, ◌++◌, IfOk, OnOk};
 ghost use Rattle.std.specs.List.{flat_map};
+ghost use Rattle.trace_reader.specs.Arguments.{place_behind};
 ghost use Rattle.scene_trace.specs.Lines as values;
 
-use crate::forms::{Behind, form_of};
+use crate::rows::{call_forms, call_name};
+use call_table::Form;
 use egl_calls::{Bytes, Call, NoMemory, Payload};
 use journal_text::texts::{put_byte, put_number, put_text};
 use journal_text::{put_hex, put_list};
-
-/// A space before each number.
-fn put_numbers(out: &mut Bytes, numbers: &[i64]) -> Result<(), NoMemory>
-    ensures { OnOk result (out.new ≡ out.old ++ flat_map values.spaced_number numbers.now) }
-{
-    'each: for z in numbers {
-        put_byte(out, b' ')?;
-        put_number(out, *z)?;
-    }
-    Ok(())
-}
 
 #[tactic(auto, unfolding(crate::specs::Lines::payload_text))]
 fn put_payload(out: &mut Bytes, bytes: &Option<Payload>) -> Result<(), NoMemory>
@@ -32,20 +23,39 @@ fn put_payload(out: &mut Bytes, bytes: &Option<Payload>) -> Result<(), NoMemory>
     }
 }
 
-fn put_behind(out: &mut Bytes, behind: Behind, call: &Call) -> Result<(), NoMemory>
-    ensures { OnOk result (out.new ≡ out.old ++ values.behind_text behind call.now) }
+/// An argument of this form, whose number has this place, behind a space. It answers the place behind it.
+fn put_argument(out: &mut Bytes, place: usize, form: Form, call: &Call) -> Result<usize, NoMemory>
+    requires { place_behind place form ≤ 8 }
+    ensures text { OnOk result (out.new ≡ out.old ++ values.spaced (values.argument_word place form call.now)) }
+    ensures behind { IfOk result (λ p. p ≡ place_behind place form) }
 {
-    match behind {
-        Behind::Nothing => Ok(()),
-        Behind::Numbers => {
-            put_byte(out, b' ')?;
-            put_list(out, call.list.as_slice())
+    put_byte(out, b' ')?;
+    match form {
+        Form::Number | Form::NumberOrVariable | Form::PostNumber | Form::Timeout => {
+            put_number(out, call.args[place])?;
+            Ok(place + 1)
         }
-        Behind::Bytes => {
-            put_byte(out, b' ')?;
-            put_payload(out, &call.bytes)
+        Form::AttributeList | Form::NumberList | Form::NameList => {
+            put_list(out, call.list.as_slice())?;
+            Ok(place)
+        }
+        Form::Payload => {
+            put_payload(out, &call.bytes)?;
+            Ok(place)
         }
     }
+}
+
+/// The arguments of a call that has these forms of them.
+fn put_arguments(out: &mut Bytes, forms: &[Form], call: &Call) -> Result<(), NoMemory>
+    requires { values.place_behind_all 0 forms.now ≤ 8 }
+    ensures { OnOk result (out.new ≡ out.old ++ flat_map values.spaced (values.argument_words 0 forms.now call.now)) }
+{
+    let mut place = 0;
+    'each: for form in forms {
+        place = put_argument(out, place, *form, call)?;
+    }
+    Ok(())
 }
 
 /// The line of a call of thread 0.
@@ -53,10 +63,8 @@ fn put_behind(out: &mut Bytes, behind: Behind, call: &Call) -> Result<(), NoMemo
 pub fn put_line(out: &mut Bytes, call: &Call) -> Result<(), NoMemory>
     ensures { OnOk result (out.new ≡ out.old ++ values.call_line call.now) }
 {
-    let form = form_of(call.kind);
     put_text(out, "0 ")?;
-    put_text(out, form.name)?;
-    put_numbers(out, &call.args[..form.numbers])?;
-    put_behind(out, form.behind, call)?;
+    put_text(out, call_name(call.kind))?;
+    put_arguments(out, call_forms(call.kind), call)?;
     put_byte(out, b'\n')
 }

@@ -1,22 +1,37 @@
 -- What a pick leaves.
-use Rattle.std.proofs.Common.{◌≡◌, ℕ, [], ◌∷◌, ◌++◌, refl, sym, ap, ◌∙◌, Option, None, Some}
+use Rattle.std.proofs.Common.{◌≡◌, ◌<◌, ℕ, false, List, [], ◌∷◌, ◌++◌, refl, sym, ap, subst, ◌∙◌, Option, None, Some}
+use Rattle.std.specs.Prelude as std
 use Rattle.std.proofs.lemmas.List.{append-nil}
 use Rattle.egl_calls.specs.Calls.{CallValue}
 use Rattle.egl_calls.specs.Journals.{are_halted}
+use Rattle.egl_calls.specs.declared.entries.Entry.{Entry}
 use Rattle.model_laws.specs.Frame.{AreOf}
+use Rattle.model_laws.specs.Hidden.{hide}
+use Rattle.egl_model.specs.History.{IsLegalFrom, replay_from}
 use Rattle.driver_core.specs.LateDraws.{IsLeft}
-use Rattle.driver_core.specs.Machine.{Machine}
+use Rattle.driver_core.specs.Machine.{Machine, outs}
 use Rattle.driver_core.specs.declared.drawings.Drawing.{Drawing}
 use Rattle.shared_driver.specs.declared.cores.Core.{Core}
 use Rattle.shared_driver.specs.declared.picks.Pick.{Pick}
 use Rattle.shared_driver.specs.declared.picks.Pick.TheVariants.{Call, Wait, Stop}
 use Rattle.shared_driver.specs.declared.picks.Picked.{Picked}
 use Rattle.shared_driver.specs.declared.picks.Picked.TheVariants.{Replied, Waited, Stopped}
-use Rattle.shared_driver.specs.Cores.{entry, of_number}
-use Rattle.shared_driver.specs.Picks.{IsAnswer, IsDone, halts, picked_entries}
+use Rattle.shared_driver.specs.Cores.{entry, of_number, origin}
+use Rattle.shared_driver.specs.Picks.{IsAnswer, IsAtTurn, IsDone, IsSeenAtTurn, halts, picked_entries}
+use Rattle.shared_driver.specs.Tokens.{Token}
 use Rattle.shared_driver.specs.Turns.{IsTurn}
 use Rattle.shared_driver.proofs.Owned.{or_false, own_one}
-use Rattle.shared_driver.proofs.Standing.{IsRoomed, turn_more, turn_same}
+use Rattle.shared_driver.proofs.Standing.{IsRoomed, has_part, turn_more, turn_same}
+
+-- what a picker sees once the token's own calls are handed in
+pub seen_at_turn : (f x : Core) (n : ℕ) (t : Token) → n ≡ t.number → IsTurn f x n [] → IsAtTurn t x.journal.entries → IsSeenAtTurn (origin f) t x.journal.entries x.driver
+seen_at_turn f x n t its turn at = record {
+  legal = subst (IsLegalFrom (origin f)) (append-nil x.journal.entries) turn.legal;
+  at_turn = at;
+  driver = turn.driver ∙ ap (λ (l : List Entry). hide (outs x.driver.away) (replay_from (origin f) l)) (append-nil x.journal.entries);
+  made = subst (λ k. k < x.driver.made) its (subst (λ k. n < k) turn.known turn.number);
+  part_in = subst (λ k. std.slice_index_or x.driver.away k false ≡ false) its (has_part f x n [] turn);
+}
 
 -- the turn goes on with the value y, in which the picked call was played, and has left no draw
 pub done : (f x y : Core) (n : ℕ) (p : Pick) (r : Picked) → IsTurn f x n [] → IsRoomed x y n → IsDone x n p r None y → IsTurn f y n []

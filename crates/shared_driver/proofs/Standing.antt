@@ -18,24 +18,24 @@ use Rattle.turn_lock.specs.Views.{AreOthers}
 use Rattle.turn_lock.specs.declared.view.View.{View}
 use Rattle.shared_driver.specs.declared.cores.Core.{Core}
 use Rattle.shared_driver.specs.declared.cores.TokenCount.{TokenCount}
-use Rattle.shared_driver.specs.Cores.{IsWithin, Kept, are_local, away_by, entry, meaning, origin, owed}
+use Rattle.shared_driver.specs.Cores.{IsWithin, LockedState, are_local, away_by, entry, meaning, origin, owed}
 use Rattle.shared_driver.specs.Turns.{IsTurn}
 use Rattle.shared_driver.proofs.Histories.{IsLate, comes_late, legal_first, legal_more, replay_more, ready_replay, stays_out}
 use Rattle.shared_driver.proofs.Rooms.{in_set, in_zero, is_out, out_again}
 
 -- ---- What entries lead to is the replay, and they are legal.
-leads_replay : (a c : Kept) (es : List Entry) → Leads meaning a es c → IsLegalFrom a.state es × (c.state ≡ replay_from a.state es) × (c.most ≡ a.most)
-leads_replay a c [] h = (tt, ap (λ (k : Kept). k.state) (sym h), ap (λ (k : Kept). k.most) (sym h))
+leads_replay : (a c : LockedState) (es : List Entry) → Leads meaning a es c → IsLegalFrom a.state es × (c.state ≡ replay_from a.state es) × (c.most ≡ a.most)
+leads_replay a c [] h = (tt, ap (λ (l : LockedState). l.state) (sym h), ap (λ (l : LockedState). l.most) (sym h))
 leads_replay a c (e ∷ es) h =
     let k = leads_replay h.0 c es h.2 in let s = h.1.1 in
-    ((h.1.0, subst (λ x. IsLegalFrom x es) (ap (λ (q : Kept). q.state) s) k.0), k.1 ∙ ap (λ (q : Kept). replay_from q.state es) s, k.2 ∙ ap (λ (q : Kept). q.most) s)
+    ((h.1.0, subst (λ x. IsLegalFrom x es) (ap (λ (q : LockedState). q.state) s) k.0), k.1 ∙ ap (λ (q : LockedState). replay_from q.state es) s, k.2 ∙ ap (λ (q : LockedState). q.most) s)
 
-abbrev keeping : State → ℕ → Kept
-keeping s most = record { state = s; most = most }
+abbrev locked : State → ℕ → LockedState
+locked s most = record { state = s; most = most }
 
-leads_from : (a : State) (most : ℕ) (es : List Entry) → IsLegalFrom a es → Leads meaning (keeping a most) es (keeping (replay_from a es) most)
+leads_from : (a : State) (most : ℕ) (es : List Entry) → IsLegalFrom a es → Leads meaning (locked a most) es (locked (replay_from a es) most)
 leads_from a most [] h = refl
-leads_from a most (e ∷ es) h = (keeping (step a e.thread e.call).state most, (h.0, refl), leads_from (step a e.thread e.call).state most es h.1)
+leads_from a most (e ∷ es) h = (locked (step a e.thread e.call).state most, (h.0, refl), leads_from (step a e.thread e.call).state most es h.1)
 
 -- ---- Limits of tokens.
 -- no more tokens were made
@@ -60,7 +60,7 @@ pub record IsCore (first x : Core) : Type 0 where
   pub within : IsWithin first.tokens.most x
 
 pub core_of : (first x : Core) → StandsFor meaning first x x.journal.entries → IsCore first x
-core_of first x s = let k = leads_replay (keeping (origin first) first.tokens.most) s.content x.journal.entries s.leads in
+core_of first x s = let k = leads_replay (locked (origin first) first.tokens.most) s.content x.journal.entries s.leads in
     record {
       legal = k.0;
       driver = s.keeps.driver ∙ ap (hide (outs x.driver.away)) k.1;
@@ -73,7 +73,7 @@ core_of first x s = let k = leads_replay (keeping (origin first) first.tokens.mo
 pub stands_of : (first x : Core) → IsCore first x → StandsFor meaning first x x.journal.entries
 stands_of first x c = record {
   is = refl;
-  content = keeping (replay_from (origin first) x.journal.entries) first.tokens.most;
+  content = locked (replay_from (origin first) x.journal.entries) first.tokens.most;
   leads = leads_from (origin first) first.tokens.most x.journal.entries c.legal;
   keeps = record { driver = c.driver; away = c.away; promised = c.promised; spare = c.spare; within = c.within };
 }

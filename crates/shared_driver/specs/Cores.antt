@@ -1,5 +1,5 @@
 -- What stands under the lock, and what it means.
-use Rattle.std.specs.Prelude.{map, not, ◌&&◌, ◌∷◌, ◌≡◌, ℕ, ◌-◌, ◌<◌, ◌≤◌, ◌==◌, Bool, true, false, List, [], Some, None, replicate, pos}
+use Rattle.std.specs.Prelude.{map, not, ◌&&◌, ◌∷◌, ◌≡◌, ℕ, ◌+◌, ◌-◌, ◌<◌, ◌≤◌, ◌==◌, Bool, true, false, List, [], Some, None, replicate, pos}
 use Rattle.std.specs.Prelude as std
 use Rattle.std.specs.List.{sum_by, filter}
 use Rattle.std.specs.declared.snapshot.Snapshot.{Snapshot}
@@ -57,6 +57,14 @@ abbrev pub room_for : Bool → ℕ
 room_for true = 1
 room_for false = 2
 
+-- how many calls a token may make without memory before it makes one that takes memory
+abbrev pub all_places : ℕ
+all_places = 256
+
+-- the room of a new token, all of whose places are free
+abbrev pub first_room : ℕ
+first_room = room_for false + all_places
+
 -- the place in the journal that is kept for the end of a wait which was begun
 abbrev pub place_for : Bool → ℕ
 place_for true = 1
@@ -70,8 +78,8 @@ owed rooms = sum_by (λ r. r - 1) rooms
 unfoldable pub away_by : List ℕ → List Bool
 away_by rooms = map (λ r. not (r == 0)) rooms
 
--- what there is to keep: the state, and how many tokens may be made, which no entry changes
-pub record Kept : Type 0 where
+-- what the lock's value stands for: the state, and how many tokens may be made, which no entry changes
+pub record LockedState : Type 0 where
   pub state : State
   pub most : ℕ
 
@@ -82,12 +90,12 @@ pub record IsWithin (most : ℕ) (x : Core) : Type 0 where
   pub few : most ≤ 65536
 
 -- the value keeps the state outside the parts that are out, and the limit of tokens, and its journal has room for all that is promised
-pub record Stands (x : Core) (k : Kept) : Type 0 where
-  pub driver : x.driver.state ≡ hide (outs x.driver.away) k.state
+pub record Stands (x : Core) (l : LockedState) : Type 0 where
+  pub driver : x.driver.state ≡ hide (outs x.driver.away) l.state
   pub away : x.driver.away ≡ away_by x.rooms.items
   pub promised : x.promised ≡ owed x.rooms.items
   pub spare : x.promised ≤ x.journal.spare
-  pub within : IsWithin k.most x
+  pub within : IsWithin l.most x
 
 -- the state before the first call, in the lock that begins with this value
 abbrev pub origin : Core → State
@@ -96,9 +104,9 @@ origin x = record (opening [] x.driver.state.video) { windows = x.driver.state.w
 -- the driver stands for the state outside the parts that are out, and an entry is a legal step
 abbrev pub meaning : Meaning Core Entry
 meaning = record {
-  Content = Kept;
-  Keeps = λ x k. Stands x k;
-  Acts = λ k e a. (e.reply ≡ (step k.state e.thread e.call).reply) × (a ≡ record k { state = (step k.state e.thread e.call).state });
+  Content = LockedState;
+  Keeps = λ x l. Stands x l;
+  Acts = λ l e a. (e.reply ≡ (step l.state e.thread e.call).reply) × (a ≡ record l { state = (step l.state e.thread e.call).state });
   opening = λ x. record { state = origin x; most = x.tokens.most };
   history = λ x. x.journal.entries;
   number = λ e. e.thread;

@@ -1,9 +1,13 @@
 -- What comes of picks.
-use Rattle.std.specs.Prelude.{◌≡◌, ℕ, Bool, false, List, [], ◌∷◌, ◌++◌, Option, None}
+use Rattle.std.specs.Prelude.{◌≡◌, ◌<◌, ℕ, Bool, false, List, [], ◌∷◌, ◌++◌, Option, None, slice_index_or}
 use Rattle.egl_calls.specs.Journals.{is_halt_kind}
 use Rattle.egl_calls.specs.declared.entries.Entry.{Entry}
+use Rattle.model_laws.specs.Hidden.{hide}
+use Rattle.egl_model.specs.History.{IsLegalFrom, replay_from}
+use Rattle.egl_model.specs.State.{State}
 use Rattle.egl_model.specs.Step.{step}
 use Rattle.driver_core.specs.LateDraws.{IsLeft}
+use Rattle.driver_core.specs.Machine.{Machine, outs}
 use Rattle.driver_core.specs.declared.drawings.Drawing.{Drawing}
 use Rattle.shared_driver.specs.declared.cores.Core.{Core}
 use Rattle.shared_driver.specs.declared.picks.Pick.{Pick}
@@ -11,7 +15,7 @@ use Rattle.shared_driver.specs.declared.picks.Pick.TheVariants.{Call, Wait, Stop
 use Rattle.shared_driver.specs.declared.picks.Picked.{Picked}
 use Rattle.shared_driver.specs.declared.picks.Picked.TheVariants.{Replied, Waited, Stopped}
 use Rattle.shared_driver.specs.Cores.{entry}
-use Rattle.shared_driver.specs.Tokens.{AreOthers, Token}
+use Rattle.shared_driver.specs.Tokens.{AreOthers, Token, mine}
 
 abbrev pub halts : Pick → Bool
 halts (Call mark call) = is_halt_kind call.kind
@@ -40,3 +44,17 @@ IsDone x n p r left y = ⊥
 -- the journal in a token's turn, in which it has handed in
 abbrev pub IsAtTurn : Token → List Entry → Type 0
 IsAtTurn t es = (between : List Entry) × AreOthers t between × (es ≡ (t.seen ++ between) ++ t.tail)
+
+-- the journal and the driver that a picker sees in a token's turn, in a lock that begins with this state: only the parts of other threads may be out
+pub record IsSeenAtTurn (s : State) (t : Token) (es : List Entry) (d : Machine) : Type 0 where
+  pub legal : IsLegalFrom s es
+  pub at_turn : IsAtTurn t es
+  pub driver : d.state ≡ hide (outs d.away) (replay_from s es)
+  pub made : t.number < d.made
+  pub part_in : slice_index_or d.away t.number false ≡ false
+
+-- the answer came by the pick, and the token, which was t, has now seen the journal of its turn and the pick's entries
+pub record ComesOf (t : Token) (es : List Entry) (p : Pick) (r : Picked) (u : Token) : Type 0 where
+  pub answer : IsAnswer p r
+  pub seen : u.seen ≡ es ++ picked_entries t.number p r
+  pub own : mine u ≡ mine t ++ picked_entries t.number p r

@@ -9,7 +9,7 @@ use Rattle.egl_model.specs.History.{replay_from}
 use Rattle.egl_model.specs.Parts.{part_of}
 use Rattle.egl_model.specs.State.{State}
 use Rattle.turn_lock.specs.Passes as passes
-use Rattle.shared_driver.specs.Cores.{entry, halt_call, has_halted, of_number, origin, start_in, takes_place, wait_end_call, wait_ended}
+use Rattle.shared_driver.specs.Cores.{all_places, entry, halt_call, has_halted, of_number, origin, start_in, takes_place, wait_end_call, wait_ended}
 use Rattle.shared_driver.specs.declared.tokens.Shared.{Shared}
 use Rattle.shared_driver.specs.declared.tokens.Thread.{Thread}
 
@@ -25,7 +25,7 @@ pub record Token : Type 0 where
   pub made : ℕ
   pub live : ℕ
   pub sole : Bool
-  -- how many of its 256 places are free
+  -- how many of its places are free
   pub places : ℕ
   -- the state that the history starts at
   pub start : State
@@ -83,7 +83,7 @@ may_be_local t c = is_local (part_of (state_of t) t.number) c && nat_lt 0 t.plac
 
 -- how many places are free after a shared call of this kind
 abbrev pub places_after : Kind → ℕ → ℕ
-places_after k free = if takes_place k && nat_lt 0 free then free - 1 else 256
+places_after k free = if takes_place k && nat_lt 0 free then free - 1 else all_places
 
 -- one of its own entries is a Halt
 abbrev pub has_given_up : Token → Bool
@@ -123,7 +123,7 @@ Halts t u = (r : ReplyValue) × Goes t (entry t.number 0 halt_call r ∷ []) u �
 
 -- The new token has seen what its maker has, and has nothing of its own. Its number is that of the tokens made before, and all its places are free
 abbrev pub IsNew : Token → Token → Type 0
-IsNew from t = (t.number + 1 ≡ from.made) × (from.made ≤ 65536) × (t.seen ≡ from.seen) × (t.tail ≡ []) × (t.ended ≡ []) × (t.sole ≡ false) × (t.places ≡ 256) × (t.start ≡ from.start)
+IsNew from t = (t.number + 1 ≡ from.made) × (from.made ≤ 65536) × (t.seen ≡ from.seen) × (t.tail ≡ []) × (t.ended ≡ []) × (t.sole ≡ false) × (t.places ≡ all_places) × (t.start ≡ from.start)
 
 -- its number is of none of the tokens that its maker had counted before, and is above each that its maker owns
 abbrev pub HasNewNumber : Token → Token → Token → Type 0

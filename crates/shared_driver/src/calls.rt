@@ -1,16 +1,15 @@
 //! What a thread does with its token.
-ghost use Rattle.std.specs.Prelude.{◌≡◌, ◌==◌, ◌≤◌, ◌<◌, ◌+◌, ◌||◌, ◌⊎◌, ◌∷◌, ◌++◌, [], true, false, slice_index_or, OnErr, OnOk, IfOk, IsOk, All, List};
+ghost use Rattle.std.specs.Prelude.{◌≡◌, ◌==◌, ◌≤◌, ◌<◌, ◌+◌, ◌||◌, ◌⊎◌, ◌∷◌, ◌++◌, [], true, false, OnErr, OnOk, IfOk, IsOk, All, List};
 ghost use Rattle.egl_calls.specs.Errors.{is_waiting};
 ghost use Rattle.surface_store.specs.Windows.{windows_ok};
 ghost use Rattle.egl_calls.specs.declared.entries.Entry.{Entry};
-ghost use Rattle.model_laws.specs.Hidden.{hide};
 ghost use Rattle.egl_model.specs.State.{opening};
 ghost use Rattle.egl_model.specs.Waits.{is_wait_end};
 ghost use Rattle.egl_model.specs.History.{IsLegalFrom, replay_from};
-ghost use Rattle.driver_core.specs.Machine.{Machine, outs};
+ghost use Rattle.driver_core.specs.Machine.{Machine};
 ghost use Rattle.shared_driver.specs.declared.picks.Pick.{Pick as ThePick};
-ghost use Rattle.shared_driver.specs.Cores.{entry, takes_place};
-ghost use Rattle.shared_driver.specs.Picks.{IsAnswer, IsAtTurn, picked_entries};
+ghost use Rattle.shared_driver.specs.Cores.{all_places, entry, takes_place};
+ghost use Rattle.shared_driver.specs.Picks.{ComesOf, IsSeenAtTurn};
 ghost use Rattle.shared_driver.specs.Tokens.{AnswersAfterWait, AnswersAtOnce, Goes, Halts, IsFrom, IsOf, IsSame, Learns, Owns, has_given_up, mine, most_of, opening_of, places_after, token_of};
 
 use crate::cores::{Core, MOST_TOKENS, PLACES, Played};
@@ -51,7 +50,7 @@ impl Shared {
         ensures owns { IfOk result (λ o. IsOf o.shared o.thread) }
         ensures opening { IfOk result (λ o. opening_of o.shared ≡ opening windows.now video) }
         ensures most { IfOk result (λ o. most_of o.shared ≡ 65536) }
-        ensures token { IfOk result (λ o. token_of o.thread ≡ record { number = 0; seen = []; tail = []; ended = []; made = 1; live = 1; sole = false; places = 256; start = opening windows.now video }) }
+        ensures token { IfOk result (λ o. token_of o.thread ≡ record { number = 0; seen = []; tail = []; ended = []; made = 1; live = 1; sole = false; places = all_places; start = opening windows.now video }) }
     {
         Shared::open_for(alloc, windows, video, MOST_TOKENS)
     }
@@ -69,7 +68,7 @@ impl Shared {
         ensures owns { IfOk result (λ o. IsOf o.shared o.thread) }
         ensures opening { IfOk result (λ o. opening_of o.shared ≡ opening windows.now video) }
         ensures most { IfOk result (λ o. most_of o.shared ≡ most) }
-        ensures token { IfOk result (λ o. token_of o.thread ≡ record { number = 0; seen = []; tail = []; ended = []; made = 1; live = 1; sole = false; places = 256; start = opening windows.now video }) }
+        ensures token { IfOk result (λ o. token_of o.thread ≡ record { number = 0; seen = []; tail = []; ended = []; made = 1; live = 1; sole = false; places = all_places; start = opening windows.now video }) }
     {
         // The core comes last, since whatever owns it drops it at each early exit.
         let tail = own_calls(alloc)?;
@@ -116,7 +115,7 @@ impl Shared {
         ensures mine { IfOk result (λ r. mine (token_of thread.new) ≡ mine (token_of thread.old) ++ entry (token_of thread.old).number mark call r ∷ []) }
         ensures place { IfOk result (λ r. thread.new.end_kept ≡ is_waiting r.outcome) }
         ensures err_place { OnErr result (thread.new.end_kept ≡ false) }
-        ensures places { OnOk result ((token_of thread.new).places ≡ 256) }
+        ensures places { OnOk result ((token_of thread.new).places ≡ all_places) }
         ensures err { OnErr result (Learns (token_of thread.old) (token_of thread.new)) }
         ensures err_mine { OnErr result (mine (token_of thread.new) ≡ mine (token_of thread.old)) }
         ensures err_places { OnErr result ((token_of thread.new).places ≡ (token_of thread.old).places) }
@@ -352,13 +351,13 @@ impl Shared {
         picker: &mut P,
     ) -> Result<Picked, NoMemory>
         requires owns { IsOf self.now thread.old }
-        requires may { (es : List Entry) (d : Machine) → IsLegalFrom (opening_of self.now) es → IsAtTurn (token_of thread.old) es → d.state ≡ hide (outs d.away) (replay_from (opening_of self.now) es) → (token_of thread.old).number < d.made → slice_index_or d.away (token_of thread.old).number false ≡ false → P.may picker.old es d }
+        requires may { (es : List Entry) (d : Machine) → IsSeenAtTurn (opening_of self.now) (token_of thread.old) es d → P.may picker.old es d }
         ensures owns { IsOf self.now thread.new }
         ensures same { IsSame (token_of thread.old) (token_of thread.new) }
         ensures sole { (token_of thread.new).sole ≡ (token_of thread.old).sole }
-        ensures ok { IfOk result (λ r. (es : List Entry) × (d : Machine) × (p : ThePick) × IsAtTurn (token_of thread.old) es × (d.state ≡ hide (outs d.away) (replay_from (opening_of self.now) es)) × P.picks picker.old es d p picker.new × IsAnswer p r × ((token_of thread.new).seen ≡ es ++ picked_entries (token_of thread.old).number p r) × (mine (token_of thread.new) ≡ mine (token_of thread.old) ++ picked_entries (token_of thread.old).number p r)) }
+        ensures ok { IfOk result (λ r. (es : List Entry) × (d : Machine) × (p : ThePick) × IsSeenAtTurn (opening_of self.now) (token_of thread.old) es d × P.picks picker.old es d p picker.new × ComesOf (token_of thread.old) es p r (token_of thread.new)) }
         ensures tail { OnOk result ((token_of thread.new).tail ≡ []) }
-        ensures places { OnOk result ((token_of thread.new).places ≡ 256) }
+        ensures places { OnOk result ((token_of thread.new).places ≡ all_places) }
         ensures err { OnErr result (Goes (token_of thread.old) [] (token_of thread.new)) }
         ensures err_mine { OnErr result (mine (token_of thread.new) ≡ mine (token_of thread.old)) }
         ensures err_places { OnErr result ((token_of thread.new).places ≡ (token_of thread.old).places) }

@@ -16,17 +16,14 @@ ghost use Rattle.driver_facts.specs.Memory.{takes_no_memory};
 ghost use Rattle.driver_core.specs.Parts.{FitsThread, HasBoundStill};
 ghost use Rattle.thread_part.specs.Private.{IsAllOrNothing};
 ghost use Rattle.thread_part.specs.Uploads.{upload_of};
-ghost use Rattle.shared_driver.specs.Cores.{entry, halt_call, owed, own_call, place_for, wait_end_call, wait_ended};
+ghost use Rattle.shared_driver.specs.Cores.{all_places, entry, first_room, halt_call, owed, own_call, place_for, wait_end_call, wait_ended};
 
 use driver_core::{Drawing, Driver, LateDraw};
 use egl_calls::{
     Call, Entry, Journal, Kind, NoMemory, Numbers, OwnKind, Reply, ReplyPair, is_waiting,
 };
-use ref_store::Steps;
 use std::alloc::Global;
 use std::collections::VecDeque;
-use std::marker::Brand;
-use std::sync::ledger::{Blank, Ledger};
 use surface_store::WindowSpec;
 use thread_part::{ThreadPart, Upload};
 use turn_lock::Replays;
@@ -73,7 +70,7 @@ pub const PLACES: u64 = 256;
 pub const MOST_TOKENS: u32 = 65_536;
 
 /// The room of a new token: it is live, it may halt, and all its places are free.
-pub const FIRST_ROOM: u64 = 258;
+pub const FIRST_ROOM: u64 = PLACES + 2;
 
 /// The place that a wait which was begun keeps for its end.
 fn place_for(waits: bool) -> u64
@@ -82,99 +79,7 @@ fn place_for(waits: bool) -> u64
     if waits { 1 } else { 0 }
 }
 
-// A step whose counter nobody reads.
-fn uncounted<L: Ledger>(
-    driver: &mut Driver,
-    alloc: Global,
-    thread: u32,
-    call: &Call,
-    blank: Blank,
-) -> Result<ReplyPair, NoMemory>
-    requires made { thread < driver.old.made }
-    requires name { blank.name ≡ L.name }
-    requires parts { blank.parts ≡ L.parts }
-    requires some { 0 < blank.parts }
-    ensures reply { IfOk result (λ r. r.reply ≡ (step driver.old.state thread call.now).reply) }
-    ensures state { OnOk result (driver.new ≡ record driver.old { state = (step driver.old.state thread call.now).state }) }
-    ensures err { OnErr result (driver.new ≡ driver.old) }
-    ensures memory { takes_no_memory call.now.kind ≡ true → IsOk result }
-{
-    driver.step_with_copy(alloc, thread, call, &mut Steps::<L>::open(blank))
-}
-
-fn stepped(
-    driver: &mut Driver,
-    alloc: Global,
-    thread: u32,
-    call: &Call,
-) -> Result<ReplyPair, NoMemory>
-    requires made { thread < driver.old.made }
-    ensures reply { IfOk result (λ r. r.reply ≡ (step driver.old.state thread call.now).reply) }
-    ensures state { OnOk result (driver.new ≡ record driver.old { state = (step driver.old.state thread call.now).state }) }
-    ensures err { OnErr result (driver.new ≡ driver.old) }
-    ensures memory { takes_no_memory call.now.kind ≡ true → IsOk result }
-{
-    uncounted::<Brand>(driver, alloc, thread, call, Blank::new(1))
-}
-
-// The same with what the call gives.
-fn uncounted_with_upload<L: Ledger>(
-    driver: &mut Driver,
-    alloc: Global,
-    thread: u32,
-    call: &Call,
-    upload: Upload,
-    blank: Blank,
-) -> Result<ReplyPair, NoMemory>
-    requires made { thread < driver.old.made }
-    requires upload { upload_of (part_of driver.old.state thread) call.now ≡ Some upload }
-    requires name { blank.name ≡ L.name }
-    requires parts { blank.parts ≡ L.parts }
-    requires some { 0 < blank.parts }
-    ensures reply { IfOk result (λ r. r.reply ≡ (step driver.old.state thread call.now).reply) }
-    ensures state { OnOk result (driver.new ≡ record driver.old { state = (step driver.old.state thread call.now).state }) }
-    ensures err { OnErr result (driver.new ≡ driver.old) }
-{
-    driver.step_with_upload(alloc, thread, call, upload, &mut Steps::<L>::open(blank))
-}
-
-fn stepped_with_upload(
-    driver: &mut Driver,
-    alloc: Global,
-    thread: u32,
-    call: &Call,
-    upload: Upload,
-) -> Result<ReplyPair, NoMemory>
-    requires made { thread < driver.old.made }
-    requires upload { upload_of (part_of driver.old.state thread) call.now ≡ Some upload }
-    ensures reply { IfOk result (λ r. r.reply ≡ (step driver.old.state thread call.now).reply) }
-    ensures state { OnOk result (driver.new ≡ record driver.old { state = (step driver.old.state thread call.now).state }) }
-    ensures err { OnErr result (driver.new ≡ driver.old) }
-{
-    uncounted_with_upload::<Brand>(driver, alloc, thread, call, upload, Blank::new(1))
-}
-
-// The same with what the call gives, if that was made before.
-fn stepped_by(
-    driver: &mut Driver,
-    alloc: Global,
-    thread: u32,
-    call: &Call,
-    upload: Option<Upload>,
-) -> Result<ReplyPair, NoMemory>
-    requires made { thread < driver.old.made }
-    requires upload { IfSome upload (λ u. upload_of (part_of driver.old.state thread) call.now ≡ Some u) }
-    ensures reply { IfOk result (λ r. r.reply ≡ (step driver.old.state thread call.now).reply) }
-    ensures state { OnOk result (driver.new ≡ record driver.old { state = (step driver.old.state thread call.now).state }) }
-    ensures err { OnErr result (driver.new ≡ driver.old) }
-{
-    match upload {
-        Some(upload) => stepped_with_upload(driver, alloc, thread, call, upload),
-        None => stepped(driver, alloc, thread, call),
-    }
-}
-
-/// The same of any call, with what it gives, if that was made before. A draw to the thread's own surface is left to be made.
+/// Plays a call, with what it gives, if that was made before. A draw to the thread's own surface is left to be made.
 fn stepped_late(
     driver: &mut Driver,
     alloc: Global,
@@ -191,7 +96,7 @@ fn stepped_late(
     if driver.is_late(thread, call) {
         return driver.step_late_draw(alloc, thread, call);
     }
-    let ReplyPair { reply, copy } = stepped_by(driver, alloc, thread, call, upload)?;
+    let ReplyPair { reply, copy } = driver.play_with_copy(alloc, thread, call, upload)?;
     Ok(LateDraw {
         reply,
         copy,
@@ -235,8 +140,8 @@ impl Core {
         requires windows { windows_ok windows.now ≡ true }
         requires video { video ≤ 1073741824 }
         ensures driver { IfOk result (λ x. (x.driver.state ≡ opening windows.now video) × (x.driver.made ≡ 1) × (x.driver.away ≡ false ∷ [])) }
-        ensures journal { IfOk result (λ x. (x.journal.entries ≡ []) × (257 ≤ x.journal.spare)) }
-        ensures rooms { IfOk result (λ x. (x.tokens ≡ record { live = 1; most = most }) × (x.rooms.items ≡ 258 ∷ []) × (x.promised ≡ 257)) }
+        ensures journal { IfOk result (λ x. (x.journal.entries ≡ []) × (first_room - 1 ≤ x.journal.spare)) }
+        ensures rooms { IfOk result (λ x. (x.tokens ≡ record { live = 1; most = most }) × (x.rooms.items ≡ first_room ∷ []) × (x.promised ≡ first_room - 1)) }
     {
         let mut journal = Journal::new(alloc);
         journal.reserve(FIRST_ROOM - 1)?;
@@ -404,7 +309,7 @@ impl Core {
         requires upload { IfSome upload (λ u. upload_of (part_of self.old.driver.state number) call ≡ Some u) }
         requires number { (number < self.old.driver.made) × (number < length self.old.rooms.items) }
         requires room { length tail.old.items < slice_index self.old.rooms.items number }
-        requires back { back ≤ 256 }
+        requires back { back ≤ all_places }
         requires owed { self.old.promised ≡ owed self.old.rooms.items }
         requires spare { self.old.promised ≤ self.old.journal.spare }
         ensures reply { IfOk result (λ p. p.reply ≡ (step self.old.driver.state number call).reply) }
@@ -452,7 +357,8 @@ impl Core {
         self.hand_in(number, tail);
         let room = self.rooms[number as usize];
         self.set_room(number, room - 1);
-        let Ok(ReplyPair { reply, copy }) = stepped(&mut self.driver, alloc, number, &call) else {
+        let Ok(ReplyPair { reply, copy }) = self.driver.play_with_copy(alloc, number, &call, None)
+        else {
             unreachable!()
         };
         self.journal.push(Entry {

@@ -2,7 +2,7 @@
 ghost use Rattle.std.specs.Prelude.{◌≡◌, ◌<◌, ◌∷◌, ◌++◌, [], false, slice_index, OnErr, OnOk, IfOk, IfErr};
 ghost use Rattle.turn_lock.specs.Passes as passes;
 ghost use Rattle.turn_lock.specs.Passes.{view_of, IsFree};
-ghost use Rattle.shared_driver.specs.Cores.{IsFull, of_number};
+ghost use Rattle.shared_driver.specs.Cores.{IsFull, all_places, of_number};
 ghost use Rattle.shared_driver.specs.Tokens.{AreDisjoint, Goes, HasNewNumber, Includes, IsNew, IsOf, IsSame, KnowsEnded, Learns, mine, most_of, token_of};
 ghost use Rattle.shared_driver.specs.Turns.{Holds, Retires};
 
@@ -28,7 +28,7 @@ impl Shared {
         ensures new_mine { IfOk result (λ t. mine (token_of t) ≡ []) }
         ensures new_number { IfOk result (λ t. HasNewNumber (token_of from.old) (token_of from.new) (token_of t)) }
         ensures below { IfOk result (λ t. (token_of t).number < most_of self.now) }
-        ensures places { OnOk result ((token_of from.new).places ≡ 256) × OnErr result ((token_of from.new).places ≡ (token_of from.old).places) }
+        ensures places { OnOk result ((token_of from.new).places ≡ all_places) × OnErr result ((token_of from.new).places ≡ (token_of from.old).places) }
         ensures full { IfErr result (IsFull (most_of self.now) (token_of from.new).made) }
     {
         let back = PLACES - from.places;

@@ -14,7 +14,7 @@ use egl_calls::{Call, Entry, NoMemory, Reply, ReplyPair};
 use std::alloc::Global;
 
 impl Thread {
-    /// Whether the thread's private part answers a call, and one of the token's 256 places is free for it.
+    /// Whether the thread's private part answers a call, and one of the token's places is free for it.
     pub fn is_local(&self, call: &Call) -> bool
         ensures { result ≡ may_be_local (token_of self.now) call.now }
     {

@@ -6,7 +6,7 @@ ghost use Rattle.model_laws.specs.Hidden.{hide};
 ghost use Rattle.egl_model.specs.Parts.{part_of};
 ghost use Rattle.egl_model.specs.State.{State};
 ghost use Rattle.driver_core.specs.Machine.{outs};
-ghost use Rattle.shared_driver.specs.Cores.{owed, IsFull};
+ghost use Rattle.shared_driver.specs.Cores.{all_places, first_room, owed, IsFull};
 
 use crate::cores::{Core, FIRST_ROOM, PLACES};
 use crate::tokens::AttachError;
@@ -26,7 +26,7 @@ pub struct Newcomer {
 /// Room for the own calls of a token.
 pub fn own_calls(alloc: Global) -> Result<VecDeque<Entry>, NoMemory>
     ensures items { IfOk result (λ q. q.items ≡ []) }
-    ensures capacity { IfOk result (λ q. 256 ≤ deque_capacity q) }
+    ensures capacity { IfOk result (λ q. all_places ≤ deque_capacity q) }
 {
     match VecDeque::with_capacity(alloc, PLACES as usize) {
         Ok(calls) => Ok(calls),
@@ -39,12 +39,12 @@ impl Core {
     fn enrol(&mut self, more: u64) -> Result<u32, NoMemory>
         requires made { self.old.driver.made < 65536 }
         requires live { self.old.tokens.live ≤ 65536 }
-        requires more { more ≤ 256 }
+        requires more { more ≤ all_places }
         requires owed { self.old.promised ≡ owed self.old.rooms.items }
         requires spare { self.old.promised ≤ self.old.journal.spare }
         ensures number { IfOk result (λ n. n ≡ self.old.driver.made) }
         ensures driver { OnOk result (self.new.driver ≡ record self.old.driver { made = self.old.driver.made + 1; away = self.old.driver.away ++ false ∷ [] }) }
-        ensures rooms { OnOk result ((self.new.tokens ≡ record self.old.tokens { live = self.old.tokens.live + 1 }) × (self.new.rooms.items ≡ self.old.rooms.items ++ 258 ∷ [])) }
+        ensures rooms { OnOk result ((self.new.tokens ≡ record self.old.tokens { live = self.old.tokens.live + 1 }) × (self.new.rooms.items ≡ self.old.rooms.items ++ first_room ∷ [])) }
         ensures room { OnOk result ((self.new.promised + more ≤ self.new.journal.spare) × (self.new.promised + more + 1 < 18446744073709551616)) }
         ensures err { OnErr result ((self.new.driver ≡ self.old.driver) × (self.new.tokens ≡ self.old.tokens) × (self.new.rooms.items ≡ self.old.rooms.items)) }
         ensures owed { self.new.promised ≡ owed self.new.rooms.items }
@@ -74,16 +74,16 @@ impl Core {
         requires known { (length self.old.rooms.items ≡ self.old.driver.made) × (length self.old.driver.away ≡ self.old.driver.made) }
         requires live { self.old.tokens.live ≤ 65536 }
         requires limit { (self.old.driver.made ≤ self.old.tokens.most) × (self.old.tokens.most ≤ 65536) }
-        requires back { back ≤ 256 }
+        requires back { back ≤ all_places }
         requires room { length tail.old.items < slice_index self.old.rooms.items from }
         requires owed { self.old.promised ≡ owed self.old.rooms.items }
         requires spare { self.old.promised ≤ self.old.journal.spare }
         ensures number { IfOk result (λ n. (n.number ≡ self.old.driver.made) × (n.number < 65536)) }
         ensures below { IfOk result (λ n. n.number < self.old.tokens.most) }
-        ensures its_tail { IfOk result (λ n. (n.tail.items ≡ []) × (256 ≤ deque_capacity n.tail)) }
+        ensures its_tail { IfOk result (λ n. (n.tail.items ≡ []) × (all_places ≤ deque_capacity n.tail)) }
         ensures part { (s : State) → IsReady s self.old.driver.made → self.old.driver.state ≡ hide (outs (self.old.driver.away ++ false ∷ [])) s → IfOk result (λ n. n.part ≡ part_of s n.number) × OnOk result (self.new.driver.state ≡ hide (outs self.new.driver.away) s) }
         ensures driver { OnOk result ((self.new.driver.made ≡ self.old.driver.made + 1) × (self.new.driver.away ≡ slice_set (self.old.driver.away ++ false ∷ []) self.old.driver.made true)) }
-        ensures rooms { OnOk result ((self.new.tokens ≡ record self.old.tokens { live = self.old.tokens.live + 1 }) × (self.new.rooms.items ≡ slice_set (self.old.rooms.items ++ 258 ∷ []) from (slice_index self.old.rooms.items from - length tail.old.items + back))) }
+        ensures rooms { OnOk result ((self.new.tokens ≡ record self.old.tokens { live = self.old.tokens.live + 1 }) × (self.new.rooms.items ≡ slice_set (self.old.rooms.items ++ first_room ∷ []) from (slice_index self.old.rooms.items from - length tail.old.items + back))) }
         ensures full { IfErr result (IsFull self.old.tokens.most self.old.driver.made) }
         ensures err { OnErr result ((self.new.driver ≡ self.old.driver) × (self.new.tokens ≡ self.old.tokens) × (self.new.rooms.items ≡ self.old.rooms.items) × (self.new.journal.entries ≡ self.old.journal.entries) × (tail.new.items ≡ tail.old.items)) }
         ensures added { OnOk result ((self.new.journal.entries ≡ self.old.journal.entries ++ tail.old.items) × (tail.new.items ≡ [])) }

@@ -5,7 +5,7 @@ ghost use Rattle.egl_calls.specs.Journals.{is_halt_kind};
 ghost use Rattle.egl_calls.specs.declared.entries.Entry.{Entry};
 ghost use Rattle.driver_core.specs.Machine.{Machine};
 ghost use Rattle.shared_driver.specs.declared.picks.Pick.{Pick as ThePick};
-ghost use Rattle.shared_driver.specs.Cores.{owed};
+ghost use Rattle.shared_driver.specs.Cores.{all_places, owed};
 ghost use Rattle.shared_driver.specs.Picks.{IsDone, halts};
 
 use crate::cores::{Core, Played};
@@ -85,7 +85,7 @@ impl Core {
         requires number { (number < self.old.driver.made) × (number < length self.old.rooms.items) }
         requires room { 0 < slice_index self.old.rooms.items number }
         requires tail { tail.old.items ≡ [] }
-        requires back { back ≤ 256 }
+        requires back { back ≤ all_places }
         requires owed { self.old.promised ≡ owed self.old.rooms.items }
         requires spare { self.old.promised ≤ self.old.journal.spare }
         ensures ok { IfOk result (λ r. (p : ThePick) × P.picks picker.old self.old.journal.entries self.old.driver p picker.new × IsDone self.old number p r.picked r.drawing self.new × (r.halts ≡ halts p)) }

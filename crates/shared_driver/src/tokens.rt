@@ -4,13 +4,14 @@ ghost use Rattle.std.specs.VecDeque.{deque_capacity};
 ghost use Rattle.model_laws.specs.Full.{IsWindow};
 ghost use Rattle.egl_model.specs.History.{replay_from};
 ghost use Rattle.turn_lock.specs.Passes.{view_of, IsFree};
-ghost use Rattle.shared_driver.specs.Cores.{IsLegalAt, are_local, has_halted, part_after, place_for, room_for, start_in};
+ghost use Rattle.shared_driver.specs.Cores.{IsLegalAt, all_places, are_local, has_halted, part_after, place_for, room_for, start_in};
 
 use crate::cores::Core;
 use crate::news::News;
 use driver_core::Driver;
 use egl_calls::{Entry, Journal};
 use std::collections::VecDeque;
+use thiserror::Error;
 use thread_part::ThreadPart;
 use turn_lock::{Pass, Turns};
 
@@ -35,7 +36,7 @@ pub(crate) struct Holding {
 /// The thread's private part is in its token, and so are the calls that the part alone answered. These enter the history directly before the thread's next shared call, or when they are handed in.
 pub struct Thread {
     pub(crate) hold: Holding,
-    // of the 256 calls that take no memory
+    // of its `PLACES`, those that are free
     pub(crate) places: u64,
     // an entry of its own is a Halt
     pub(crate) halted: bool,
@@ -54,8 +55,8 @@ pub struct Thread {
     ghost part: { hold.part ≡ Some (part_after (start_in (view_of hold.pass).first) hold.number ((view_of hold.pass).seen ++ hold.tail.items)) },
     ghost room: { slice_index (view_of hold.pass).rooms (view_of hold.pass).number ≡ room_for halt_used + places + length hold.tail.items + place_for end_kept },
     ghost used: { halt_used ≡ true → halted ≡ true },
-    ghost many: { places + length hold.tail.items ≤ 256 },
-    ghost spare: { 256 ≤ deque_capacity hold.tail },
+    ghost many: { places + length hold.tail.items ≤ all_places },
+    ghost spare: { all_places ≤ deque_capacity hold.tail },
     ghost halts: { halted ≡ has_halted (view_of hold.pass).number ((view_of hold.pass).seen ++ hold.tail.items) },
     ghost counted: { sole ≡ true → (view_of hold.pass).counts.live ≡ 1 },
 }
@@ -78,10 +79,11 @@ pub struct Closed {
 }
 
 /// Why there is no new token.
-#[derive(Drop)]
+#[derive(Clone, Copy, Debug, PartialEq, Eq, Drop, Error)]
 pub enum AttachError {
-    /// So many tokens were made, and no more can be.
+    /// As many tokens were made as the driver is for.
+    #[error("{made} tokens were made, and the driver is for no more")]
     Full { made: u32 },
-    /// Memory ran out.
+    #[error("no memory for a token")]
     NoMemory,
 }

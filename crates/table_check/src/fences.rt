@@ -1,4 +1,4 @@
-//! Numbers that name no context, no fence and no thread.
+//! Numbers that name no context, no fence and no thread, and a wait that begins and ends.
 use fence_sync::Fences;
 use std::process::Abort;
 
@@ -27,4 +27,16 @@ fn unknown_numbers_name_nothing(rt: HostRuntime) {
         assert!(rt; fences.is_signalled(sync) == is_signalled, "{sync}");
     }
     assert!(rt; fences.create(1) == Ok(2));
+}
+
+#[test]
+fn a_wait_ends_behind_a_flush(rt: HostRuntime) {
+    let mut fences = Fences::new(rt.alloc());
+    let sync = fences.create(7).expect(&rt, "memory is ample");
+    fences.wait_begin(3, sync).expect(&rt, "memory is ample");
+    assert!(rt; fences.wait_end(3) == None);
+    assert!(rt; fences.wait_of(3) == Some(sync));
+    fences.flush_context(7);
+    assert!(rt; fences.wait_end(3) == Some(sync));
+    assert!(rt; fences.wait_of(3) == None);
 }

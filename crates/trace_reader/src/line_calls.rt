@@ -1,5 +1,5 @@
 //! The calls of lines, in little memory.
-ghost use Rattle.std.specs.Prelude.{◌≡◌, ◌+◌, ◌≤◌, ◌++◌, length, take, drop, All, IfOk};
+ghost use Rattle.std.specs.Prelude.{◌≡◌, ◌+◌, ◌≤◌, [], ◌++◌, length, take, drop, All, None, IfOk, IsOk};
 ghost use Rattle.egl_calls.specs.Ranges.{IsNumber, AreArguments};
 ghost use Rattle.trace_reader.specs.Arguments.{padded};
 ghost use Rattle.trace_reader.specs.Payloads.{payload_bytes};
@@ -56,10 +56,14 @@ fn joined(alloc: Global, front: &[i64], list: &[i64]) -> Result<Numbers, NoMemor
     Ok(Numbers::from_vec(numbers))
 }
 
-/// An equal list.
+/// An equal list. An empty one takes no memory.
 fn copied(alloc: Global, items: &[i64]) -> Result<Numbers, NoMemory>
-    ensures { IfOk result (λ n. n ≡ items.now) }
+    ensures value { IfOk result (λ n. n ≡ items.now) }
+    ensures empty { items.now ≡ [] → IsOk result }
 {
+    if items.is_empty() {
+        return Ok(Numbers::new(alloc));
+    }
     match Vec::from_slice(alloc, items) {
         Ok(items) => Ok(Numbers::from_vec(items)),
         Err(_) => Err(NoMemory),
@@ -162,7 +166,8 @@ impl LineCall {
 
     /// The bytes, which are shared.
     fn bytes(&self) -> Result<Option<Payload>, NoMemory>
-        ensures { IfOk result (λ b. b ≡ self.now.bytes) }
+        ensures value { IfOk result (λ b. b ≡ self.now.bytes) }
+        ensures none { self.now.bytes ≡ None → IsOk result }
     {
         match &self.packed {
             Packed::Few(_, _, _, _, _) => Ok(None),
@@ -182,9 +187,10 @@ impl LineCall {
         }
     }
 
-    /// The call by itself, with the same bytes.
+    /// The call by itself, with the same bytes. It takes no memory where there is neither a list nor bytes.
     pub fn to_call(&self, alloc: Global) -> Result<Call, NoMemory>
-        ensures { IfOk result (λ c. c ≡ self.now) }
+        ensures value { IfOk result (λ c. c ≡ self.now) }
+        ensures plain { self.now.list ≡ [] → self.now.bytes ≡ None → IsOk result }
     {
         let list = copied(alloc, self.list())?;
         let bytes = self.bytes()?;

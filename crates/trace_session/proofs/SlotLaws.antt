@@ -1,5 +1,5 @@
 -- Answers without a list, and with a name alone.
-use Rattle.std.proofs.Common.{◌≡◌, ◌≢◌, ℕ, ◌≤◌, Bool, true, ℤ, List, [], ◌∷◌, length, get_or, refl, sym, ap, ◌∙◌, arith, Some}
+use Rattle.std.proofs.Common.{◌≡◌, ◌≢◌, ℕ, ◌≤◌, Bool, true, false, ℤ, List, [], ◌∷◌, length, get_or, refl, sym, ap, ◌∙◌, arith, Some}
 use Rattle.std.proofs.lemmas.Bool.Decides.{Decides-int_eq}
 use Rattle.std.proofs.lemmas.List.{get_or_past}
 use Rattle.std.proofs.lemmas.Slice.Eq.{slice_eq-Decides}
@@ -7,6 +7,7 @@ use Rattle.std.specs.Cmp.Lexicographic.{pointwise}
 use Rattle.std.specs.Ordering.{int_eq}
 use Rattle.std.specs.Prelude.{pos, slice_index_or}
 use Rattle.egl_calls.specs.Calls.{ReplyValue}
+use Rattle.egl_calls.specs.Errors.{is_done}
 use Rattle.egl_calls.specs.declared.errors.Outcome.{Outcome}
 use Rattle.egl_calls.specs.declared.errors.Outcome.TheVariants.{Done}
 use Rattle.trace_session.specs.Sessions.{kept_of}
@@ -40,11 +41,15 @@ no_bytes : (xs : List ℕ) → length xs ≡ 0 → xs ≡ []
 no_bytes [] h = refl
 no_bytes (x ∷ xs) h = absurd (omega (arith, h))
 
+done_is : (o : Outcome) → is_done o ≡ true → o ≡ Done
+done_is Done h = refl
+done_is o h = absurd (let f : false ≡ true = h in cc)
+
 -- what has the value and the list of a reply, and no bytes, is what is kept of it
-pub same_kept : (k r : ReplyValue) (equal : Bool) → k.outcome ≡ Done → length k.bytes ≡ 0 → k.value ≡ r.value → equal ≡ pointwise int_eq k.list r.list → equal ≡ true → k ≡ kept_of r
+pub same_kept : (k r : ReplyValue) (equal : Bool) → is_done k.outcome ≡ true → length k.bytes ≡ 0 → k.value ≡ r.value → equal ≡ pointwise int_eq k.list r.list → equal ≡ true → k ≡ kept_of r
 same_kept k r equal done none value compared is =
     let list : k.list ≡ r.list = (slice_eq-Decides Decides-int_eq k.list r.list equal compared).0 is in
-    ap (λ (o : Outcome). record { outcome = o; value = k.value; list = k.list; bytes = k.bytes }) done
+    ap (λ (o : Outcome). record { outcome = o; value = k.value; list = k.list; bytes = k.bytes }) (done_is k.outcome done)
     ∙ ap (λ (z : ℤ). record { outcome = Done; value = z; list = k.list; bytes = k.bytes }) value
     ∙ ap (λ (xs : List ℤ). record { outcome = Done; value = r.value; list = xs; bytes = k.bytes }) list
     ∙ ap (λ (bs : List ℕ). record { outcome = Done; value = r.value; list = r.list; bytes = bs }) (no_bytes k.bytes none)

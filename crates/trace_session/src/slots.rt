@@ -2,12 +2,11 @@
 ghost use Rattle.std.specs.Prelude.{◌≡◌, pos, Some, None, true, IfOk, IfSome, is_some, slice_index_or};
 ghost use Rattle.std.specs.Arc.{arc_value};
 ghost use Rattle.egl_calls.specs.Ranges.{IsNumber};
-ghost use Rattle.egl_calls.specs.declared.errors.Outcome.TheVariants.{Done};
 ghost use Rattle.trace_model.specs.Resolve.{item_of};
 ghost use Rattle.trace_session.specs.Sessions.{kept_of};
 ghost use Rattle.trace_session.specs.Slots.{named_answer, plain_answer};
 
-use egl_calls::{Bytes, NoMemory, Outcome, Reply};
+use egl_calls::{Bytes, NoMemory, Outcome, Reply, is_done};
 use once_cell::race::OnceBox;
 use std::alloc::Global;
 use std::marker::Model;
@@ -64,12 +63,6 @@ fn is_kept_of(kept: &Reply, reply: &Reply) -> bool
         return false;
     }
     kept.list.as_slice() == reply.list.as_slice()
-}
-
-fn is_done(outcome: Outcome) -> bool
-    ensures { result ≡ true → outcome ≡ Done }
-{
-    matches!(outcome, Outcome::Done)
 }
 
 /// The value of an answer, or a number of its list, which is 0 where it has none.

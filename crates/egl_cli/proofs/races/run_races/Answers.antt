@@ -6,12 +6,12 @@ use Rattle.egl_cli.proofs.ComposeLaws.{threads_below}
 use Rattle.egl_cli.proofs.RaceLaws.{races_ended, races_stalled}
 use Rattle.egl_cli.proofs.races.run_races.Goals as goal
 
-pub ended_races-requires : goal.ended_races-requires
-ended_races-requires c =
+pub journal_races-requires : goal.journal_races-requires
+journal_races-requires c =
     threads_below c.args.trace.now c.in-Ok.run'.journal.entries c.in_order.ensures c.in-Ok.ensures.complete.0.journal
 
-pub stalled_races-requires : goal.stalled_races-requires
-stalled_races-requires c =
+pub journal_races-requires-in-Err-Stalled : goal.journal_races-requires-in-Err-Stalled
+journal_races-requires-in-Err-Stalled c =
     let stalled = rw c.in-Err-Stalled.field-0-is at c.in-Err-Stalled.ensures.stalled in
     threads_below c.args.trace.now c.in-Err-Stalled.run'.journal.entries c.in_order.ensures stalled.0.journal
 
@@ -22,7 +22,7 @@ returns-in-Ok c =
     let complete = c.in-Ok.ensures.complete in
     let P : Answer → Type 0 = IsJournalRaces t run.journal.entries false in
     let Q : Answer → Type 0 = IsRacesAnswer t in
-    IfOk-weaker c.ended_races.result P Q (λ a p. races_ended t run.journal.entries run.driver.state complete.0 a complete.1 p) c.ended_races.ensures
+    IfOk-weaker c.journal_races.result P Q (λ a p. races_ended t run.journal.entries run.driver.state complete.0 a complete.1 p) c.journal_races.ensures
 
 pub returns-in-Err-Stalled : goal.returns-in-Err-Stalled
 returns-in-Err-Stalled c =
@@ -31,4 +31,4 @@ returns-in-Err-Stalled c =
     let stalled = rw c.in-Err-Stalled.field-0-is at c.in-Err-Stalled.ensures.stalled in
     let P : Answer → Type 0 = IsJournalRaces t run.journal.entries true in
     let Q : Answer → Type 0 = IsRacesAnswer t in
-    IfOk-weaker c.stalled_races.result P Q (λ a p. races_stalled t run.journal.entries run.driver.state stalled.0 a stalled.1 p) c.stalled_races.ensures
+    IfOk-weaker c.journal_races-in-Err-Stalled.result P Q (λ a p. races_stalled t run.journal.entries run.driver.state stalled.0 a stalled.1 p) c.journal_races-in-Err-Stalled.ensures

@@ -1,10 +1,18 @@
-use Rattle.std.proofs.Common.{◌≡◌, ◌∷◌, ◌++◌, ◌-◌, [], ap, ◌∙◌}
+use Rattle.std.proofs.Common.{◌≡◌, ◌∷◌, ◌++◌, ◌-◌, [], ap, ◌∙◌, Option, is_some}
 use Rattle.egl_calls.specs.Calls.{CallValue}
 use Rattle.trace_reader.specs.declared.traces.Line.{Line}
+use Rattle.trace_session.proofs.KnownLaws.{line_is}
 use Rattle.shared_driver.specs.Cores.{entry}
 use Rattle.shared_driver.specs.Tokens.{Token, mine, token_of}
 use Rattle.play_threads.proofs.WorkLaws.{lone_learnt_if_ok, lone_played}
 use Rattle.play_threads.proofs.lone_lines.play_line.Goals as goal
+
+pub learn_own-requires-clause-line : goal.learn_own-requires-clause-line
+learn_own-requires-clause-line c =
+    let p = c.args.picker.now in
+    let h = c.requires.learnt in
+    let lone = c.requires.lone h.learned h.knows in
+    ap (λ (o : Option Line). is_some o) (line_is p.session h.learned h.knows p.thread c.requires.below ∙ lone.next)
 
 pub returns-clause-lone : goal.returns-clause-lone
 returns-clause-lone c =

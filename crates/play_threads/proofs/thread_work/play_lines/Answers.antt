@@ -5,7 +5,7 @@ use Rattle.trace_model.specs.Follows.{PlaysAs}
 use Rattle.shared_driver.specs.Cores.{has_halted}
 use Rattle.shared_driver.specs.Tokens.{Token, token_of}
 use Rattle.play_threads.specs.Picks.{HasLearnt}
-use Rattle.play_threads.proofs.WorkLaws.{handed_in, keeps_lone, lone_as, may_look, none_lone, none_of, plays_without, turn_calm, turn_learnt, turn_over, turn_plays, turn_told}
+use Rattle.play_threads.proofs.WorkLaws.{handed_in, keeps_lone, lone_as, may_look, none_lone, none_of, plays_without, turn_calm, turn_learnt, turn_line, turn_over, turn_plays, turn_told}
 use Rattle.play_threads.proofs.thread_work.play_lines.Goals as goal
 
 pub returns-in_err-picker-clause-plays : goal.returns-in_err-picker-clause-plays
@@ -40,12 +40,12 @@ pub call_picked-outcome-requires-clause-owns : goal.call_picked-outcome-requires
 call_picked-outcome-requires-clause-owns g c = c.play_lone.ensures.owns c.args.shared.now c.turns.invariant.owns
 
 pub call_picked-outcome-requires-clause-may : goal.call_picked-outcome-requires-clause-may
-call_picked-outcome-requires-clause-may g c es d legal turn state made home =
+call_picked-outcome-requires-clause-may g c es d seen =
     let h = c.turns.invariant in
     let n = (token_of c.args.thread.now).number in
     let u : Token = token_of c.play_lone.new.thread in
     let same = c.play_lone.ensures.same.0.0 ∙ h.same.0 in
-    may_look u c.play_lone.new.picker c.args.trace.now n same (c.play_lone.ensures.picker.0 ∙ h.thread) (c.play_lone.ensures.picker.1 ∙ h.trace) c.requires.number c.in_ok-play_lone.ensures.learnt es d turn made
+    may_look u c.play_lone.new.picker c.args.trace.now n same (c.play_lone.ensures.picker.0 ∙ h.thread) (c.play_lone.ensures.picker.1 ∙ h.trace) c.requires.number c.in_ok-play_lone.ensures.learnt es d seen.at_turn seen.made
 
 pub returns-in_err-picked-clause-plays : goal.returns-in_err-picked-clause-plays
 returns-in_err-picked-clause-plays g c =
@@ -70,6 +70,25 @@ pub returns-in_err-picked-clause-calm : goal.returns-in_err-picked-clause-calm
 unfolding has_halted
 returns-in_err-picked-clause-calm g c = ap are_halted c.in_err-picked.ensures.err_mine ∙ c.play_lone.ensures.calm c.turns.invariant.calm
 
+pub learn_own-requires-clause-line : goal.learn_own-requires-clause-line
+learn_own-requires-clause-line g c =
+    let h = c.turns.invariant in
+    let t = c.args.trace.now in
+    let w : Token = token_of c.turns.thread in
+    let u : Token = token_of c.play_lone.new.thread in
+    let v : Token = token_of c.call_picked-outcome.new.thread in
+    let p = c.play_lone.new.picker in
+    let q = c.call_picked-outcome.new.picker in
+    let n = (token_of c.args.thread.now).number in
+    let played = c.play_lone.ensures in
+    let same = played.same.0.0 ∙ h.same.0 in
+    let own = played.picker.0 ∙ h.thread in
+    let of = played.picker.1 ∙ h.trace in
+    let plays = let P : List Entry → Type 0 = λ es. PlaysAs t n es in subst P (sym played.same.1) h.plays in
+    let lone = lone_as c.turns.picker.session.trace t c.turns.picker.thread n w.seen w.tail u.seen u.tail h.trace h.thread played.lone h.lone in
+    let calm = played.calm h.calm in
+    turn_line t c.in_order.ensures _ c.requires.opening n c.requires.number u v p q c.in_ok-picked.picked same plays lone calm own of c.in_ok-picked.ensures.ok c.in-Replied.reply c.in-Replied.is
+
 pub turns-preserved-in-Continue-branch-4 : goal.turns-preserved-in-Continue-branch-4
 turns-preserved-in-Continue-branch-4 g c =
     let h = c.turns.invariant in
@@ -93,8 +112,8 @@ turns-preserved-in-Continue-branch-4 g c =
       plays = turn_plays t c.in_order.ensures _ c.requires.opening n c.requires.number u v p q c.in_ok-picked.picked same plays lone calm own of c.in_ok-picked.ensures.ok c.in_ok-picked.ensures.tail c.what_a_token_has_seen_is_legal.ensures;
       lone = none_lone t n v c.in_ok-picked.ensures.tail;
       calm = turn_calm t c.in_order.ensures _ c.requires.opening n c.requires.number u v p q c.in_ok-picked.picked same plays lone calm own of c.in_ok-picked.ensures.ok;
-      thread = c.learn_own.ensures.same.0 ∙ c.in_ok-picked.ensures.ok.5.thread ∙ own;
-      trace = c.learn_own.ensures.same.1 ∙ c.in_ok-picked.ensures.ok.5.trace ∙ of;
+      thread = c.learn_own.ensures.same.0 ∙ c.in_ok-picked.ensures.ok.4.thread ∙ own;
+      trace = c.learn_own.ensures.same.1 ∙ c.in_ok-picked.ensures.ok.4.trace ∙ of;
       learnt = turn_told t c.in_order.ensures _ c.requires.opening n c.requires.number u v p q c.in_ok-picked.picked same plays lone calm own of c.in_ok-picked.ensures.ok c.in-Replied.reply c.in-Replied.is c.learn_own.new.self c.learn_own.ensures.same.0 c.learn_own.ensures.same.2 c.learn_own.ensures.same.3 c.in_ok-learn_own-in-Replied.ensures.knows;
     }
 
@@ -160,8 +179,8 @@ turns-preserved g c =
       plays = turn_plays t c.in_order.ensures _ c.requires.opening n c.requires.number u v p q c.in_ok-picked.picked same plays lone calm own of c.in_ok-picked.ensures.ok c.in_ok-picked.ensures.tail c.what_a_token_has_seen_is_legal.ensures;
       lone = none_lone t n v c.in_ok-picked.ensures.tail;
       calm = turn_calm t c.in_order.ensures _ c.requires.opening n c.requires.number u v p q c.in_ok-picked.picked same plays lone calm own of c.in_ok-picked.ensures.ok;
-      thread = c.in_ok-picked.ensures.ok.5.thread ∙ own;
-      trace = c.in_ok-picked.ensures.ok.5.trace ∙ of;
+      thread = c.in_ok-picked.ensures.ok.4.thread ∙ own;
+      trace = c.in_ok-picked.ensures.ok.4.trace ∙ of;
       learnt = turn_learnt t c.in_order.ensures _ c.requires.opening n c.requires.number u v p q c.in_ok-picked.picked same plays lone calm own of c.in_ok-picked.ensures.ok c.in-Waited.is;
     }
 

@@ -7,13 +7,13 @@ use Rattle.play_threads.specs.Plays.{IsThrough}
 use Rattle.play_threads.proofs.PlayLaws.{play_joined}
 use Rattle.play_threads.proofs.workers.gather.Goals as goal
 
-pub joining-preserved-then-wanted : goal.joining-preserved-then-wanted
-joining-preserved-then-wanted g c =
+pub joining-preserved-then-ran_out : goal.joining-preserved-then-ran_out
+joining-preserved-then-ran_out g c =
     let P : Worker → Type 0 = IsThrough c.args.trace.now c.args.shared.now in
     let rest = All-pop P c.joining.workers.items c.pop.new.self.items c.pop.result c.pop.ensures.items c.joining.invariant.through in
     record {
       owns = c.join.ensures.owns;
-      play = λ e. absurd (let f : true ≡ false = sym c.if-wanted.true ∙ e in cc);
+      play = λ e. absurd (let f : true ≡ false = sym c.if-ran_out.true ∙ e in cc);
       through = rest.0;
     }
 
@@ -28,6 +28,6 @@ joining-preserved g c =
     record {
       owns = joined.owns;
       play = λ e. play_joined t (token_of c.joining.thread) (token_of c.join.new.into) (token_of c.in-Some.worker.thread) joined.number joined.ended through.ended through.tail
-          through.number (through.plays e) joined.seen joined.other (c.joining.invariant.play c.if-wanted.false);
+          through.number (through.plays e) joined.seen joined.other (c.joining.invariant.play c.if-ran_out.false);
       through = rest.0;
     }

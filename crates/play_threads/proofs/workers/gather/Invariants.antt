@@ -7,7 +7,7 @@ use Rattle.play_threads.proofs.workers.gather.Given as goal
 abbrev pub invariant-joining : goal.invariant-joining
 invariant-joining g l = record {
   owns : IsOf l.shared l.thread;
-  play : l.wanted ≡ false → OwnersPlay l.trace (token_of l.thread);
+  play : l.ran_out ≡ false → OwnersPlay l.trace (token_of l.thread);
   through : All (IsThrough l.trace l.shared) l.workers.items;
 }
 

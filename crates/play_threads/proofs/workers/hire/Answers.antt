@@ -11,7 +11,7 @@ attaching-preserved g c =
     let h = c.attaching.invariant in
     let P : Worker → Type 0 = IsReady c.args.trace.now c.args.shared.now in
     let new = c.in-Ok.ensures in
-    let w : Worker = record { thread = c.in-Ok.thread; wanted = false } in
+    let w : Worker = record { thread = c.in-Ok.thread; ran_out = false } in
     let below : ℕ → Type 0 = λ m. (token_of c.in-Ok.thread).number < m in
     let ready : P w = record { owns = new.owns.1; number = subst below c.requires.most new.below; mine = new.new_mine; ended = new.new.4; tail = new.new.3 } in
     let Q : List Worker → Type 0 = λ ws. All P ws in

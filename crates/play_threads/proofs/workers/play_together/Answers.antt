@@ -11,7 +11,7 @@ run_all-requires-clause-ready g c κs within =
     let P : Worker → Type 0 = IsReady c.args.trace.now c.args.shared.now in
     let Q : List Worker → Type 0 = λ ws. All P ws in
     let hired = c.hire-hired.ensures in
-    let w : Worker = record { thread = c.hire-hired.new.first; wanted = not c.hire-hired.result } in
+    let w : Worker = record { thread = c.hire-hired.new.first; ran_out = not c.hire-hired.result } in
     let below : ℕ → Type 0 = λ n. n < c.args.trace.now.threads in
     let ready : P w = record { owns = hired.owns; number = subst below (sym hired.number) c.requires.number; mine = hired.mine; ended = hired.ended; tail = hired.tail } in
     subst Q (sym c.push_reserved.ensures.items) (All-push P c.hire-hired.new.workers.items w hired.workers ready)

@@ -11,7 +11,7 @@ pub returns-clause-reply : goal.returns-clause-reply
 returns-clause-reply g c =
     let kind = ap (λ (v : CallValue). v.kind) (sym c.call.view_is) ∙ c.in-Gl.is in
     let is = upload_step c.args.self.now.state c.args.thread c.in-Gl.kind c.args.call.now c.args.upload kind c.requires.upload in
-    subst (λ (x : Stepped). IfOk c.gl_step_with_upload.result (λ r. r.reply ≡ x.reply)) (sym is) c.gl_step_with_upload.ensures.reply
+    subst (λ (x : Stepped). IfOk c.gl_step_with_upload.result (λ r. g.R.Replies.reply r ≡ x.reply)) (sym is) c.gl_step_with_upload.ensures.reply
 
 pub returns-clause-state : goal.returns-clause-state
 returns-clause-state g c =

@@ -1,27 +1,23 @@
-use Rattle.std.proofs.Common.{◌≡◌, ◌≤◌, ◌<◌, ◌+◌, ◌-◌, ◌||◌, ◌∙◌, ◌++◌, [], ℕ, false, List, arith, refl, ap, sym, subst, length}
+use Rattle.std.proofs.Common.{◌≡◌, ◌≤◌, ◌<◌, ◌+◌, ◌-◌, ◌||◌, ◌∙◌, ◌++◌, [], ℕ, List, arith, refl, ap, sym, subst, length}
 use Rattle.std.specs.Prelude.{slice_index}
-use Rattle.std.specs.Prelude as std
 use Rattle.std.specs.VecDeque.{deque_capacity}
-use Rattle.std.proofs.lemmas.List.{append-nil, append_assoc, get_or-set_same}
+use Rattle.std.proofs.lemmas.List.{append_assoc, get_or-set_same}
 use Rattle.egl_calls.specs.Journals.{are_halted}
 use Rattle.egl_calls.specs.declared.entries.Entry.{Entry}
-use Rattle.model_laws.specs.Hidden.{hide}
-use Rattle.egl_model.specs.History.{IsLegalFrom, replay_from}
-use Rattle.driver_core.specs.Machine.{Machine, outs}
+use Rattle.driver_core.specs.Machine.{Machine}
 use Rattle.turn_lock.specs.Passes.{first_of, view_of}
 use Rattle.turn_lock.specs.declared.view.View.{View}
 use Rattle.shared_driver.specs.declared.cores.Core.{Core}
-use Rattle.shared_driver.specs.Cores.{origin, place_for, room_for}
+use Rattle.shared_driver.specs.Cores.{place_for, room_for}
 use Rattle.shared_driver.specs.Picks.{picked_entries}
 use Rattle.shared_driver.proofs.Histories.{of_thread}
 use Rattle.shared_driver.proofs.Owned.{halted_more, halted_same, mine_goes, own_append}
-use Rattle.shared_driver.proofs.Standing.{has_part}
 use Rattle.shared_driver.proofs.Rooms.{set_twice}
 use Rattle.shared_driver.proofs.Turning.{after, hands_ends, hands_goes, hands_mine, hands_turn, lent_begun, many_now, room_found, room_hands, room_now, room_picks, tok}
 use Rattle.std.proofs.Common.{set}
-use Rattle.shared_driver.specs.Tokens.{Goes, mine}
+use Rattle.shared_driver.specs.Tokens.{Goes, mine, token_of}
 use Rattle.shared_driver.proofs.Owned.{all_own}
-use Rattle.shared_driver.proofs.Picking.{adds, answers, picked_halts, picked_of}
+use Rattle.shared_driver.proofs.Picking.{adds, answers, picked_halts, picked_of, seen_at_turn}
 use Rattle.shared_driver.proofs.LateTurns.{picks_with}
 use Rattle.shared_driver.proofs.tokens.Shared.call_picked.Goals as goal
 
@@ -38,9 +34,7 @@ pick-requires-clause-may g c =
     let n = u.number in
     let handed = hands_turn f h u z m _ b q.kept.0 q.entries q.rooms q.owed (omega (arith, q.promised, q.spare, b.turn.spare)) in
     let its : n ≡ (view_of h.pass).number = b.numbered ∙ ap (λ (v : View Core Entry). v.number) b.view in
-    c.requires.may m.journal.entries m.driver (subst (IsLegalFrom (origin f)) (append-nil m.journal.entries) handed.legal) (b.between, b.others, q.entries ∙ (λ j. b.entries j ++ (b.same_tail j).items))
-    (handed.driver ∙ ap (λ (l : List Entry). hide (outs m.driver.away) (replay_from (origin f) l)) (append-nil m.journal.entries))
-    (subst (λ k. k < m.driver.made) its (subst (λ k. n < k) handed.known handed.number)) (subst (λ k. std.slice_index_or m.driver.away k false ≡ false) its (has_part f m n [] handed))
+    c.requires.may m.journal.entries m.driver (seen_at_turn f m n (token_of t) its handed (b.between, b.others, q.entries ∙ (λ j. b.entries j ++ (b.same_tail j).items)))
 
 pub end_turn_with-requires-clause-ends : goal.end_turn_with-requires-clause-ends
 end_turn_with-requires-clause-ends g c =
@@ -190,12 +184,13 @@ returns-in-Ok-clause-ok g c =
       m.journal.entries,
       m.driver,
       p.ok.0,
-      (b.between, b.others, q.entries ∙ (λ j. b.entries j ++ (b.same_tail j).items)),
-      handed.driver ∙ ap (λ (l : List Entry). hide (outs m.driver.away) (replay_from (origin f) l)) (append-nil m.journal.entries),
+      seen_at_turn f m n (token_of t) its handed (b.between, b.others, q.entries ∙ (λ j. b.entries j ++ (b.same_tail j).items)),
       p.ok.1,
-      answers m y n p.ok.0 r c.in-Ok.field-0.drawing p.ok.2,
-      a.seen ∙ adds m y n p.ok.0 r c.in-Ok.field-0.drawing p.ok.2 ∙ ap (λ k. m.journal.entries ++ picked_entries k p.ok.0 r) its,
-      own,
+      record {
+        answer = answers m y n p.ok.0 r c.in-Ok.field-0.drawing p.ok.2;
+        seen = a.seen ∙ adds m y n p.ok.0 r c.in-Ok.field-0.drawing p.ok.2 ∙ ap (λ k. m.journal.entries ++ picked_entries k p.ok.0 r) its;
+        own = own;
+      },
     )
 
 pub returns-in-Err-clause-err_mine : goal.returns-in-Err-clause-err_mine

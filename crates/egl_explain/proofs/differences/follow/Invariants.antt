@@ -1,5 +1,0 @@
-use Rattle.std.proofs.Common.{◌≤◌}
-use Rattle.egl_explain.proofs.differences.follow.Given as goal
-
-abbrev pub invariant-each : goal.invariant-each
-invariant-each l = l.session.trace.threads ≤ l.driver.made
