@@ -1,6 +1,7 @@
 -- How the variables of a trace are kept, so that one is found at once. No meaning of a trace stands on it.
-use Rattle.std.specs.Prelude.{◌≡◌, ℕ, zero, suc, ◌+◌, ◌-◌, ◌*◌, ◌/◌, ◌%◌, ◌<◌, ◌≤◌, Bool, ◌&&◌, ◌==◌, nat_lt, List, [], ◌∷◌, if◌then◌else◌, length, slice_index_or, Option, None, Some}
+use Rattle.std.specs.Prelude.{◌≡◌, ℕ, zero, suc, ◌+◌, ◌-◌, ◌*◌, ◌/◌, ◌%◌, ◌^◌, ◌<◌, ◌≤◌, Bool, ◌&&◌, ◌==◌, nat_lt, List, [], ◌∷◌, if◌then◌else◌, length, slice_index_or, Option, None, Some}
 use Rattle.std.specs.Str.{bytes_eq}
+use Rattle.trace_reader.specs.declared.variables.TheConstants.{MIXER, PROBES}
 use Rattle.trace_reader.specs.declared.variables.Met.{Met}
 use Rattle.trace_reader.specs.declared.variables.Met.TheVariants.{Named, Free, Taken}
 use Rattle.trace_reader.specs.Variables.{is_number, variable_in}
@@ -13,15 +14,15 @@ pub record AreNumbered (names : List (List ℕ)) (number_of : List ℕ → Optio
 -- a number that bytes give behind another one
 abbrev pub hash_behind : ℕ → List ℕ → ℕ
 hash_behind h [] = h
-hash_behind h (b ∷ bs) = hash_behind ((h + b) * 6364136223846793005 % 18446744073709551616) bs
+hash_behind h (b ∷ bs) = hash_behind ((h + b) * MIXER % 2 ^ 64) bs
 
 -- the first of the places of a name, where so many names' places differ
 unfoldable pub first_place : ℕ → List ℕ → ℕ
-first_place homes w = hash_behind 0 w / 4294967296 % homes
+first_place homes w = hash_behind 0 w / 2 ^ 32 % homes
 
 -- how many places behind one another a name has
 abbrev pub probes : ℕ
-probes = 8
+probes = PROBES
 
 -- the name with this number is this one
 abbrev pub is_name_at : List (List ℕ) → ℕ → List ℕ → Bool
