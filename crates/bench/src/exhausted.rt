@@ -253,16 +253,25 @@ fn word(is_played: bool) -> &'static str {
     if is_played { "played" } else { "no memory" }
 }
 
-/// Prints of each call whether it was played.
-pub fn run<R: Files + Print + AllocGlobal + Wait>(rt: &R) -> Result<()> {
-    let mut file = fs::open(rt, EMPTY)?;
+fn tell_tokens<R: Files + Print + AllocGlobal + Wait>(rt: &R, file: &mut R::File) -> Result<()> {
     'tokens: for text in OF_TOKENS {
-        let word = word(token(rt, &mut file, text)?);
+        let word = word(token(rt, file, text)?);
         println!(rt; "by a token, {text}: {word}")?;
     }
+    Ok(())
+}
+
+fn tell_drivers<R: Files + Print + AllocGlobal>(rt: &R, file: &mut R::File) -> Result<()> {
     'drivers: for (before, text, name) in OF_DRIVERS {
-        let word = word(driver(rt, &mut file, before, text)?);
+        let word = word(driver(rt, file, before, text)?);
         println!(rt; "by a driver, {name}: {word}")?;
     }
     Ok(())
+}
+
+/// Prints of each call whether it was played.
+pub fn run<R: Files + Print + AllocGlobal + Wait>(rt: &R) -> Result<()> {
+    let mut file = fs::open(rt, EMPTY)?;
+    tell_tokens(rt, &mut file)?;
+    tell_drivers(rt, &mut file)
 }

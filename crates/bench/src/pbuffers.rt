@@ -56,6 +56,35 @@ fn turns(alloc: Global, driver: &mut Driver, create: &Call, count: u32) -> bool
     true
 }
 
+// Makes a hundred, and says so.
+fn make_little<R: Print + AllocGlobal>(rt: &R, driver: &mut Driver, create: &Call) -> Result<()>
+    requires { 0 < driver.old.made }
+{
+    let done = turns(rt.alloc(), driver, create, LITTLE);
+    ensure!(done, "a call was refused");
+    println!(rt; "100 pbuffers: made and destroyed")?;
+    Ok(())
+}
+
+// Makes ten million, and tells the memory after the first thousand and at the end.
+fn make_all<R: Files + Print + AllocGlobal>(
+    rt: &R,
+    driver: &mut Driver,
+    create: &Call,
+) -> Result<()>
+    requires { 0 < driver.old.made }
+{
+    let begun = turns(rt.alloc(), driver, create, FIRST);
+    let first = kilobytes(rt, RESIDENT)?;
+    let done = turns(rt.alloc(), driver, create, REST);
+    let last = kilobytes(rt, RESIDENT)?;
+    ensure!(begun && done, "a call was refused");
+    println!(rt;
+        "10,000,000 pbuffers one after another\nmemory: {first} kB after the first thousand, {last} kB at the end"
+    )?;
+    Ok(())
+}
+
 fn measure<R: Files + Print + AllocGlobal>(
     rt: &R,
     extent: Extent,
@@ -74,21 +103,10 @@ fn measure<R: Files + Print + AllocGlobal>(
         bail!("no memory for a call");
     };
     value(rt.alloc(), driver, &initialize);
-    if extent == Extent::Little {
-        let done = turns(rt.alloc(), driver, &create, LITTLE);
-        ensure!(done, "a call was refused");
-        println!(rt; "100 pbuffers: made and destroyed")?;
-        return Ok(());
+    match extent {
+        Extent::Little => make_little(rt, driver, &create),
+        Extent::Full => make_all(rt, driver, &create),
     }
-    let begun = turns(rt.alloc(), driver, &create, FIRST);
-    let first = kilobytes(rt, RESIDENT)?;
-    let done = turns(rt.alloc(), driver, &create, REST);
-    let last = kilobytes(rt, RESIDENT)?;
-    ensure!(begun && done, "a call was refused");
-    println!(rt;
-        "10,000,000 pbuffers one after another\nmemory: {first} kB after the first thousand, {last} kB at the end"
-    )?;
-    Ok(())
 }
 
 /// Makes a hundred and says so. Or makes ten million, and prints the memory after the first thousand and at the end.

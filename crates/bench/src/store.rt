@@ -135,28 +135,41 @@ fn least<R: Clock + Files + AllocGlobal>(rt: &R, shape: Shape, nodes: u32) -> Re
     Ok(least / u128::from(nodes.max(1)))
 }
 
+fn free_little<R: Clock + Files + Print + AllocGlobal>(rt: &R, shape: Shape) -> Result<()> {
+    done(rt, Job::Free(shape, 1_000))?;
+    println!(rt; "{} 1000: freed", shape.name)?;
+    Ok(())
+}
+
+fn free_all<R: Clock + Files + Print + AllocGlobal>(rt: &R, shape: Shape) -> Result<()> {
+    for nodes in [1_000, 10_000, 100_000] {
+        let each = least(rt, shape, nodes)?;
+        println!(rt; "{} {nodes}: {each} ns a node", shape.name)?;
+    }
+    Ok(())
+}
+
+fn tell_passing<R: Clock + Files + Print + AllocGlobal>(rt: &R) -> Result<()> {
+    let Took { time, first, last } = done(rt, Job::Pass)?;
+    let each = time.as_nanos() / u128::from(PASSING);
+    println!(rt;
+        "10,000,000 one after another: {each} ns a node\nmemory: {first} kB after the first thousand, {last} kB at the end"
+    )?;
+    Ok(())
+}
+
 /// Frees 1,000 nodes of each shape and says so. Or frees 1,000, 10,000 and 100,000, and prints the nanoseconds a node in the
 /// fastest of five runs; then it makes ten million nodes and lets each go before the next, and prints how long each took,
 /// and the memory after the first thousand and at the end.
 pub fn run<R: Clock + Files + Print + AllocGlobal>(rt: &R, extent: Extent) -> Result<()> {
     for shape in [CHAINS, FAN] {
-        let name = shape.name;
-        if extent == Extent::Little {
-            done(rt, Job::Free(shape, 1_000))?;
-            println!(rt; "{name} 1000: freed")?;
-        } else {
-            for nodes in [1_000, 10_000, 100_000] {
-                let each = least(rt, shape, nodes)?;
-                println!(rt; "{name} {nodes}: {each} ns a node")?;
-            }
+        match extent {
+            Extent::Little => free_little(rt, shape)?,
+            Extent::Full => free_all(rt, shape)?,
         }
     }
-    if extent == Extent::Full {
-        let Took { time, first, last } = done(rt, Job::Pass)?;
-        let each = time.as_nanos() / u128::from(PASSING);
-        println!(rt;
-            "10,000,000 one after another: {each} ns a node\nmemory: {first} kB after the first thousand, {last} kB at the end"
-        )?;
+    match extent {
+        Extent::Little => Ok(()),
+        Extent::Full => tell_passing(rt),
     }
-    Ok(())
 }

@@ -10,6 +10,8 @@ mod crowds;
 #[cfg(test)]
 mod cut_runs;
 #[cfg(test)]
+mod drawing;
+#[cfg(test)]
 mod draws;
 #[cfg(test)]
 mod faults;
@@ -26,6 +28,8 @@ mod local_lines;
 #[cfg(test)]
 mod parts;
 #[cfg(test)]
+mod passing;
+#[cfg(test)]
 mod places;
 #[cfg(test)]
 mod readings;
@@ -33,6 +37,12 @@ mod readings;
 mod recordings;
 #[cfg(test)]
 mod replays;
+#[cfg(test)]
+mod scenes;
+#[cfg(test)]
+mod screens;
+#[cfg(test)]
+mod screens_at_once;
 #[cfg(test)]
 mod shared_texture;
 #[cfg(test)]

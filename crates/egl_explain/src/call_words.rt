@@ -1,7 +1,6 @@
 //! The words for the calls and for their arguments.
 use crate::pages::Page;
 use call_table::{EGL_CALLS, Form, GL_CALLS, OWN_CALLS};
-use egl_calls::NoMemory;
 
 /// A call: its name, the forms of its arguments, and a word for each.
 #[derive(Clone, Copy, Drop)]
@@ -59,11 +58,11 @@ fn marks(form: Form) -> (&'static str, &'static str) {
 
 impl Argument {
     /// Puts the word, with the marks of its form.
-    pub fn put(self, page: &mut Page) -> Result<(), NoMemory> {
+    pub fn put(self, page: &mut Page) {
         let (before, behind) = marks(self.form);
-        page.put(before)?;
-        page.put(self.word)?;
-        page.put(behind)
+        page.put(before);
+        page.put(self.word);
+        page.put(behind);
     }
 }
 

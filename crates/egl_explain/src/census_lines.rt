@@ -1,7 +1,6 @@
 //! The census by names.
 use crate::pages::{Ink, Page};
 use crate::source_lines::put_bar;
-use egl_calls::NoMemory;
 
 /// The name of one object of each kind, and of more, in the order of the census.
 const NAMES: [(&str, &str); 10] = [
@@ -18,9 +17,9 @@ const NAMES: [(&str, &str); 10] = [
 ];
 
 /// How many objects of a kind there are.
-fn put_count(page: &mut Page, count: u64, one: &str, more: &str) -> Result<(), NoMemory> {
-    page.put_decimal(count)?;
-    page.put(" ")?;
+fn put_count(page: &mut Page, count: u64, one: &str, more: &str) {
+    page.put_decimal(count);
+    page.put(" ");
     if count == 1 {
         page.put(one)
     } else {
@@ -29,34 +28,34 @@ fn put_count(page: &mut Page, count: u64, one: &str, more: &str) -> Result<(), N
 }
 
 /// Those kinds of which there are objects.
-fn put_counts(page: &mut Page, counts: &[u64]) -> Result<bool, NoMemory> {
+fn put_counts(page: &mut Page, counts: &[u64]) -> bool {
     let mut some = false;
     'each: for (count, (one, more)) in counts.iter().zip(NAMES.iter()) {
         if *count > 0 {
             if some {
-                page.put(", ")?;
+                page.put(", ");
             }
-            put_count(page, *count, one, more)?;
+            put_count(page, *count, one, more);
             some = true;
         }
     }
-    Ok(some)
+    some
 }
 
 /// The line of a census: what there is, and the bytes of pixels and buffers.
-pub fn put_census(page: &mut Page, census: &[u64; 11]) -> Result<(), NoMemory> {
-    put_bar(page)?;
-    page.put_in(Ink::Pale, "  there are: ")?;
-    if put_counts(page, census.as_slice())? {
-        page.put("; ")?;
+pub fn put_census(page: &mut Page, census: &[u64; 11]) {
+    put_bar(page);
+    page.put_in(Ink::Pale, "  there are: ");
+    if put_counts(page, census.as_slice()) {
+        page.put("; ");
         put_count(
             page,
             census[10],
             "byte of pixels and buffers",
             "bytes of pixels and buffers",
-        )?;
+        );
     } else {
-        page.put("no objects")?;
+        page.put("no objects");
     }
-    page.end_line()
+    page.end_line();
 }

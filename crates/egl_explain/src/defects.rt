@@ -27,51 +27,50 @@ fn column_of(line: &[u8], word: usize) -> usize {
 }
 
 /// The mark under a word.
-fn put_mark(page: &mut Page, column: usize, width: usize) -> Result<(), NoMemory> {
-    put_bar(page)?;
-    page.put_spaces(column)?;
-    page.begin(Ink::Fault)?;
+fn put_mark(page: &mut Page, column: usize, width: usize) {
+    put_bar(page);
+    page.put_spaces(column);
+    page.begin(Ink::Fault);
     'each: for _ in 0..width.max(1) {
-        page.put("^")?;
+        page.put("^");
     }
-    page.end()?;
-    page.end_line()
+    page.end();
+    page.end_line();
 }
 
 /// What should stand in the place of a word or a line.
-fn put_expected(page: &mut Page, expected: ExpectedWord) -> Result<(), NoMemory> {
-    put_bar(page)?;
-    page.put("  expected here: ")?;
+fn put_expected(page: &mut Page, expected: ExpectedWord) {
+    put_bar(page);
+    page.put("  expected here: ");
     match expected {
-        ExpectedWord::Argument(argument) => argument.put(page)?,
-        ExpectedWord::Other(text) => page.put(text)?,
+        ExpectedWord::Argument(argument) => argument.put(page),
+        ExpectedWord::Other(text) => page.put(text),
     }
-    page.end_line()
+    page.end_line();
 }
 
 /// What the arguments of a call are.
-fn put_call(page: &mut Page, call: CallWords) -> Result<(), NoMemory> {
-    put_bar(page)?;
-    page.put("  the call is: ")?;
-    page.put(call.name)?;
+fn put_call(page: &mut Page, call: CallWords) {
+    put_bar(page);
+    page.put("  the call is: ");
+    page.put(call.name);
     'each: for (form, word) in call.forms.iter().zip(call.words) {
-        page.put(" ")?;
-        Argument { form: *form, word }.put(page)?;
+        page.put(" ");
+        Argument { form: *form, word }.put(page);
     }
-    page.end_line()
+    page.end_line();
 }
 
 /// The call of a line whose arguments are at fault.
-fn put_called(page: &mut Page, words: &[&[u8]], reason: Reason) -> Result<(), NoMemory> {
+fn put_called(page: &mut Page, words: &[&[u8]], reason: Reason) {
     if !matches!(reason, Reason::Argument) {
-        return Ok(());
+        return;
     }
     'each: for word in words {
         if let Some(call) = call_of(word) {
             return put_call(page, call);
         }
     }
-    Ok(())
 }
 
 /// The part of a word that is no name; else the word.
@@ -83,28 +82,22 @@ fn unknown_part_of(word: &[u8]) -> &[u8] {
 }
 
 /// The word at fault with a mark under it, what should stand there, and the nearest name.
-fn put_suspect(
-    page: &mut Page,
-    line: &[u8],
-    words: &[&[u8]],
-    found: Suspect,
-) -> Result<(), NoMemory> {
+fn put_suspect(page: &mut Page, line: &[u8], words: &[&[u8]], found: Suspect) {
     put_mark(
         page,
         column_of(line, found.word),
         word_at(words, found.word).len(),
-    )?;
-    put_expected(page, found.expected)?;
+    );
+    put_expected(page, found.expected);
     if let Some(nearest) = found.nearest {
-        put_bar(page)?;
-        page.put("  ")?;
-        page.put_bytes(unknown_part_of(word_at(words, found.word)))?;
-        page.put(": did you mean ")?;
-        page.put_in(Ink::Answer, nearest)?;
-        page.put("?")?;
-        page.end_line()?;
+        put_bar(page);
+        page.put("  ");
+        page.put_bytes(unknown_part_of(word_at(words, found.word)));
+        page.put(": did you mean ");
+        page.put_in(Ink::Answer, nearest);
+        page.put("?");
+        page.end_line();
     }
-    Ok(())
 }
 
 /// The lines in front of one with a number.
@@ -115,13 +108,13 @@ fn lines_before<'a, 'b>(lines: &'b [&'a [u8]], number: u64) -> &'b [&'a [u8]] {
 }
 
 /// The heading of a defect, and its line.
-fn put_head(page: &mut Page, lines: &[&[u8]], number: u64, reason: Reason) -> Result<(), NoMemory> {
-    page.put_in(Ink::Fault, "malformed: ")?;
-    page.put(reason.name())?;
-    page.put(" in line ")?;
-    page.put_decimal(number)?;
-    page.end_line()?;
-    put_line(page, lines, number)
+fn put_head(page: &mut Page, lines: &[&[u8]], number: u64, reason: Reason) {
+    page.put_in(Ink::Fault, "malformed: ");
+    page.put(reason.name());
+    page.put(" in line ");
+    page.put_decimal(number);
+    page.end_line();
+    put_line(page, lines, number);
 }
 
 /// What is wrong with a line of these words.
@@ -133,13 +126,14 @@ fn put_words(
     reason: Reason,
     words: &[&[u8]],
 ) -> Result<(), NoMemory> {
-    put_head(page, lines, number, reason)?;
+    put_head(page, lines, number, reason);
     let before = lines_before(lines, number);
     match word_at_fault(alloc, lines, before, words, reason)? {
-        Some(found) => put_suspect(page, line_at(lines, number), words, found)?,
-        None => put_expected(page, ExpectedWord::Other(expected_line(reason)))?,
+        Some(found) => put_suspect(page, line_at(lines, number), words, found),
+        None => put_expected(page, ExpectedWord::Other(expected_line(reason))),
     }
-    put_called(page, words, reason)
+    put_called(page, words, reason);
+    Ok(())
 }
 
 /// The first line that isn't in its form: the line, the word at fault with a mark under it, and what should stand there.

@@ -74,36 +74,34 @@ fn judge_next(
 }
 
 /// The line that should stand at a place, or the one that stands there.
-fn put_recorded(page: &mut Page, title: &str, text: &[u8], ink: Ink) -> Result<(), NoMemory> {
-    page.put(title)?;
-    page.begin(ink)?;
-    page.put_bytes(text)?;
-    page.end()?;
-    page.end_line()
+fn put_recorded(page: &mut Page, title: &str, text: &[u8], ink: Ink) {
+    page.put(title);
+    page.begin(ink);
+    page.put_bytes(text);
+    page.end();
+    page.end_line();
 }
 
 /// The line of the trace that a recording answers otherwise, and what the specification gives there.
-fn put_entry(page: &mut Page, lines: &[&[u8]], judged: &JudgedEntry) -> Result<(), NoMemory> {
+fn put_entry(page: &mut Page, lines: &[&[u8]], judged: &JudgedEntry) {
     let entry = &judged.entry;
-    put_line(page, lines, entry.mark)?;
-    put_outcome(page, entry.call.kind, &entry.reply, &judged.refusals)
+    put_line(page, lines, entry.mark);
+    put_outcome(page, entry.call.kind, &entry.reply, &judged.refusals);
 }
 
 /// What there is behind all entries.
-fn put_rest(page: &mut Page, driver: &Driver) -> Result<(), NoMemory> {
-    put_bar(page)?;
-    page.put("  behind all entries")?;
-    page.end_line()?;
-    put_census(page, &driver.census())
+fn put_rest(page: &mut Page, driver: &Driver) {
+    put_bar(page);
+    page.put("  behind all entries");
+    page.end_line();
+    put_census(page, &driver.census());
 }
 
 /// That a thread has no entry.
-fn put_none(page: &mut Page) -> Result<(), NoMemory> {
-    put_bar(page)?;
-    page.put(
-        "  the thread has no entry there: the trace hasn't it, it is at its end, or it waits",
-    )?;
-    page.end_line()
+fn put_none(page: &mut Page) {
+    put_bar(page);
+    page.put("  the thread has no entry there: the trace hasn't it, it is at its end, or it waits");
+    page.end_line();
 }
 
 /// Plays the entries of some lines, and says what came of the last, where the last line is an entry's; else what there is behind all entries.
@@ -120,14 +118,16 @@ fn put_followed(
     if let [front @ .., last] = recorded {
         if let Some(thread) = last.thread {
             play_lines(alloc, driver, session, front)?;
-            return match judge_next(alloc, driver, session, thread)? {
+            match judge_next(alloc, driver, session, thread)? {
                 Some(judged) => put_entry(page, lines, &judged),
                 None => put_none(page),
-            };
+            }
+            return Ok(());
         }
     }
     play_lines(alloc, driver, session, recorded)?;
-    put_rest(page, driver)
+    put_rest(page, driver);
+    Ok(())
 }
 
 /// Why a recording should have another line at a place.
@@ -148,23 +148,23 @@ fn put_reason(
 }
 
 /// The first line that differs, and the one that should stand there.
-fn put_both(page: &mut Page, place: u64, expected: &[u8], found: &[u8]) -> Result<(), NoMemory> {
-    page.put_in(Ink::Fault, "the recording differs")?;
-    page.put(" in its line ")?;
-    page.put_decimal(place)?;
-    page.end_line()?;
-    put_recorded(page, "found    ", found, Ink::Fault)?;
-    put_recorded(page, "expected ", expected, Ink::Answer)
+fn put_both(page: &mut Page, place: u64, expected: &[u8], found: &[u8]) {
+    page.put_in(Ink::Fault, "the recording differs");
+    page.put(" in its line ");
+    page.put_decimal(place);
+    page.end_line();
+    put_recorded(page, "found    ", found, Ink::Fault);
+    put_recorded(page, "expected ", expected, Ink::Answer);
 }
 
 /// The next line of a thread that isn't at its end.
-fn put_open(page: &mut Page, lines: &[&[u8]], thread: u32, line: u64) -> Result<(), NoMemory> {
-    page.put_in(Ink::Fault, "the recording ends too early")?;
-    page.put(": thread ")?;
-    page.put_decimal(u64::from(thread))?;
-    page.put(" isn't at its end")?;
-    page.end_line()?;
-    put_line(page, lines, line)
+fn put_open(page: &mut Page, lines: &[&[u8]], thread: u32, line: u64) {
+    page.put_in(Ink::Fault, "the recording ends too early");
+    page.put(": thread ");
+    page.put_decimal(u64::from(thread));
+    page.put(" isn't at its end");
+    page.end_line();
+    put_line(page, lines, line);
 }
 
 /// What a verdict says. It answers whether the recording holds.
@@ -178,8 +178,8 @@ fn put_verdict(
 ) -> Result<bool, NoMemory> {
     match verdict {
         Verdict::Holds => {
-            page.put_in(Ink::Answer, "the recording holds")?;
-            page.end_line()?;
+            page.put_in(Ink::Answer, "the recording holds");
+            page.end_line();
             Ok(true)
         }
         Verdict::Differs {
@@ -187,12 +187,12 @@ fn put_verdict(
             expected,
             found,
         } => {
-            put_both(page, *place, expected.as_slice(), found.as_slice())?;
+            put_both(page, *place, expected.as_slice(), found.as_slice());
             put_reason(alloc, page, lines, trace, recording.lines(), *place)?;
             Ok(false)
         }
         Verdict::Incomplete { thread, line } => {
-            put_open(page, lines, *thread, *line)?;
+            put_open(page, lines, *thread, *line);
             Ok(false)
         }
     }

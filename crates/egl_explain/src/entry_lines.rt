@@ -3,7 +3,7 @@ use crate::pages::{Ink, Page};
 use crate::row_words::row_words;
 use crate::source_lines::put_bar;
 use driver_core::Refusals;
-use egl_calls::{EglKind, Kind, NoMemory, Outcome, OwnKind, Reply};
+use egl_calls::{EglKind, Kind, Outcome, OwnKind, Reply};
 use egl_names::name_of;
 use refusal_rows::MOST_ROWS;
 
@@ -39,80 +39,74 @@ fn error_name(code: u32) -> &'static str {
 }
 
 /// A row that holds: its error, and its condition in words. The row that decides is marked.
-fn put_row(page: &mut Page, decides: bool, code: u32, words: Option<&str>) -> Result<(), NoMemory> {
-    put_bar(page)?;
+fn put_row(page: &mut Page, decides: bool, code: u32, words: Option<&str>) {
+    put_bar(page);
     if decides {
-        page.begin(Ink::Fault)?;
-        page.put("> ")?;
+        page.begin(Ink::Fault);
+        page.put("> ");
     } else {
-        page.begin(Ink::Pale)?;
-        page.put("  ")?;
+        page.begin(Ink::Pale);
+        page.put("  ");
     }
-    page.put(error_name(code))?;
+    page.put(error_name(code));
     if let Some(words) = words {
-        page.put(": ")?;
-        page.put(words)?;
+        page.put(": ");
+        page.put(words);
     }
-    page.end()?;
-    page.end_line()
+    page.end();
+    page.end_line();
 }
 
 /// Each row that holds, of which the first decides.
-fn put_rows(page: &mut Page, kind: Kind, codes: &[Option<u32>]) -> Result<(), NoMemory> {
+fn put_rows(page: &mut Page, kind: Kind, codes: &[Option<u32>]) {
     let mut decides = true;
     'rows: for (place, code) in codes.iter().enumerate() {
         if let Some(code) = code {
-            put_row(page, decides, *code, row_words(kind, place))?;
+            put_row(page, decides, *code, row_words(kind, place));
             decides = false;
         }
     }
-    Ok(())
 }
 
 /// The numbers of a reply's list, joined by commas.
-fn put_list(page: &mut Page, numbers: &[i64]) -> Result<(), NoMemory> {
-    page.put(" [")?;
+fn put_list(page: &mut Page, numbers: &[i64]) {
+    page.put(" [");
     'each: for (k, number) in numbers.iter().enumerate() {
         if k > 0 {
-            page.put(",")?;
+            page.put(",");
         }
-        page.put_number(*number)?;
+        page.put_number(*number);
     }
-    page.put("]")
+    page.put("]");
 }
 
 /// What was answered: the value, and the list and the bytes where there are any.
-fn put_reply(page: &mut Page, word: &str, reply: &Reply) -> Result<(), NoMemory> {
-    put_bar(page)?;
-    page.put("  ")?;
-    page.put_in(Ink::Answer, word)?;
-    page.put(" ")?;
-    page.put_number(reply.value)?;
+fn put_reply(page: &mut Page, word: &str, reply: &Reply) {
+    put_bar(page);
+    page.put("  ");
+    page.put_in(Ink::Answer, word);
+    page.put(" ");
+    page.put_number(reply.value);
     if reply.list.len() > 0 {
-        put_list(page, reply.list.as_slice())?;
+        put_list(page, reply.list.as_slice());
     }
     if reply.bytes.len() > 0 {
-        page.put(" ")?;
-        page.put_digits(reply.bytes.as_slice())?;
+        page.put(" ");
+        page.put_digits(reply.bytes.as_slice());
     }
-    page.end_line()
+    page.end_line();
 }
 
 /// A call that isn't refused and not done.
-fn put_state(page: &mut Page, text: &str) -> Result<(), NoMemory> {
-    put_bar(page)?;
-    page.put("  ")?;
-    page.put_in(Ink::Answer, text)?;
-    page.end_line()
+fn put_state(page: &mut Page, text: &str) {
+    put_bar(page);
+    page.put("  ");
+    page.put_in(Ink::Answer, text);
+    page.end_line();
 }
 
 /// How a call came out, and where it was refused each row that holds.
-pub fn put_outcome(
-    page: &mut Page,
-    kind: Kind,
-    reply: &Reply,
-    refusals: &Refusals,
-) -> Result<(), NoMemory> {
+pub fn put_outcome(page: &mut Page, kind: Kind, reply: &Reply, refusals: &Refusals) {
     match reply.outcome {
         Outcome::Done => put_reply(page, "ok", reply),
         Outcome::Egl(_) | Outcome::Gl(_) => put_rows(page, kind, &codes_of(refusals)),

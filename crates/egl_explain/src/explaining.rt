@@ -31,19 +31,12 @@ pub struct Explained {
 }
 
 /// The lines behind those that were shown and in front of one that say nothing, or stand before the first call.
-fn put_between(
-    page: &mut Page,
-    lines: &[&[u8]],
-    first: u64,
-    shown: u64,
-    number: u64,
-) -> Result<(), NoMemory> {
+fn put_between(page: &mut Page, lines: &[&[u8]], first: u64, shown: u64, number: u64) {
     'each: for k in shown..number {
         if k > shown && (k < first || says_nothing(line_at(lines, k))) {
-            put_line(page, lines, k)?;
+            put_line(page, lines, k);
         }
     }
-    Ok(())
 }
 
 /// What there is in a driver: the census, and where few enough references were looked at before, the objects. It answers how many more may be looked at.
@@ -54,11 +47,11 @@ fn put_inventory(
     births: &[Birth],
     left: u64,
 ) -> Result<u64, NoMemory> {
-    put_census(page, &driver.census())?;
+    put_census(page, &driver.census());
     if left == 0 {
-        put_bar(page)?;
-        page.put("    what leads to the objects stands at the end")?;
-        page.end_line()?;
+        put_bar(page);
+        page.put("    what leads to the objects stands at the end");
+        page.end_line();
         return Ok(0);
     }
     Ok(left.saturating_sub(put_objects(alloc, page, driver, births)?))
@@ -75,9 +68,10 @@ fn put_entry(
     requires { entry.now.thread < driver.old.made }
     ensures { OnOk result (driver.new ≡ record driver.old { state = (step driver.old.state entry.now.thread entry.now.call).state }) }
 {
-    put_line(page, lines, entry.mark)?;
+    put_line(page, lines, entry.mark);
     let told = play_told(alloc, driver, entry.thread, &entry.call)?;
-    put_outcome(page, entry.call.kind, &told.reply, &told.refusals)
+    put_outcome(page, entry.call.kind, &told.reply, &told.refusals);
+    Ok(())
 }
 
 /// Each entry of a run behind its line, with the lines that say nothing where the run first passes them. A driver plays the entries again, and behind an entry tells what there is then.
@@ -96,7 +90,7 @@ fn put_entries(
     let mut shown = 0u64;
     let mut left = MOST_LOOKS;
     'each: for entry in entries {
-        put_between(page, lines, first, shown, entry.mark)?;
+        put_between(page, lines, first, shown, entry.mark);
         shown = shown.max(entry.mark);
         put_entry(alloc, page, lines, driver, entry)?;
         note_births(births, entry, driver.object_count())?;
@@ -116,18 +110,17 @@ fn first_call(trace: &Trace) -> u64 {
 }
 
 /// The line at which each thread waits that isn't at its end.
-fn put_threads(page: &mut Page, lines: &[&[u8]], session: &Session) -> Result<(), NoMemory> {
+fn put_threads(page: &mut Page, lines: &[&[u8]], session: &Session) {
     'each: for thread in 0..session.threads() {
         if let Some(number) = session.next(thread) {
-            page.put_in(Ink::Fault, "stalled: ")?;
-            page.put("thread ")?;
-            page.put_decimal(u64::from(thread))?;
-            page.put(" waits at")?;
-            page.end_line()?;
-            put_line(page, lines, number)?;
+            page.put_in(Ink::Fault, "stalled: ");
+            page.put("thread ");
+            page.put_decimal(u64::from(thread));
+            page.put(" waits at");
+            page.end_line();
+            put_line(page, lines, number);
         }
     }
-    Ok(())
 }
 
 /// The line at which each thread of a run waits that isn't at its end.
@@ -140,7 +133,8 @@ fn put_waiting(
 ) -> Result<(), NoMemory> {
     let chains = Chains::new(alloc, trace)?;
     let session = Session::behind(alloc, trace, &chains, &run.journal)?;
-    put_threads(page, lines, &session)
+    put_threads(page, lines, &session);
+    Ok(())
 }
 
 /// The text of a run: its entries, and what there is behind them.
@@ -164,8 +158,8 @@ fn put_run(
         &mut births,
         run.journal.as_slice(),
     )?;
-    page.put("at the end")?;
-    page.end_line()?;
+    page.put("at the end");
+    page.end_line();
     put_inventory(alloc, page, &driver, &births, MOST_LOOKS)?;
     Ok(())
 }
@@ -317,7 +311,7 @@ pub fn explain(alloc: Global, bytes: &[u8], look: Look) -> Result<Explained, NoM
     let mut page = Page::new(alloc, look);
     let status = put_input(alloc, &mut page, &lines, bytes)?;
     Ok(Explained {
-        text: page.into_text(),
+        text: page.into_text()?,
         status,
     })
 }

@@ -1,6 +1,6 @@
 //! Tells people about a trace: why its calls are refused, what is left of its objects and what leads to it, what is wrong with a line, and where a recording differs.
 //!
-//! Its tests are the texts of `explain_rows`.
+//! Its tests are the texts of `play_rows`.
 #![tactic(auto)]
 
 mod call_words;

@@ -150,34 +150,22 @@ fn use_words(use_of: Use) -> &'static str {
 }
 
 /// An object by its kind and the line that made it.
-fn put_object(
-    page: &mut Page,
-    driver: &Driver,
-    births: &[Birth],
-    number: u64,
-) -> Result<(), NoMemory> {
+fn put_object(page: &mut Page, driver: &Driver, births: &[Birth], number: u64) {
     if let Some(object) = driver.object(number) {
-        page.put(kind_name(object.kind()))?;
+        page.put(kind_name(object.kind()));
     }
     if let Some(birth) = births.get(number as usize) {
-        page.put(" of line ")?;
-        page.put_decimal(birth.line)?;
+        page.put(" of line ");
+        page.put_decimal(birth.line);
     }
-    Ok(())
 }
 
 /// The name that an object has in a group.
-fn put_name(
-    page: &mut Page,
-    driver: &Driver,
-    births: &[Birth],
-    group: u64,
-    object: u64,
-) -> Result<(), NoMemory> {
+fn put_name(page: &mut Page, driver: &Driver, births: &[Birth], group: u64, object: u64) {
     match name_in(driver, births, group, object) {
         Some(found) => {
-            page.put(named_object_word(found.kind))?;
-            page.put(" name ")?;
+            page.put(named_object_word(found.kind));
+            page.put(" name ");
             page.put_decimal(u64::from(found.name))
         }
         None => page.put("a name"),
@@ -192,53 +180,47 @@ fn put_role(
     holder: u64,
     role: LinkRole,
     object: u64,
-) -> Result<(), NoMemory> {
+) {
     match role {
         LinkRole::Group => page.put("the group of the "),
         LinkRole::OwnTexture => page.put("texture 0 of the "),
         LinkRole::Bound(target) => {
-            page.put("bound to ")?;
-            page.put(target_name(target))?;
+            page.put("bound to ");
+            page.put(target_name(target));
             page.put(" in the ")
         }
         LinkRole::Named => {
-            put_name(page, driver, births, holder, object)?;
+            put_name(page, driver, births, holder, object);
             page.put(" in the ")
         }
         LinkRole::Level(level) => {
-            page.put("level ")?;
-            page.put_decimal(level as u64)?;
+            page.put("level ");
+            page.put_decimal(level as u64);
             page.put(" of the ")
         }
         LinkRole::Pixels => page.put("the pixels of the "),
         LinkRole::Attached(point) => {
-            page.put(point_name(point))?;
+            page.put(point_name(point));
             page.put(" of the ")
         }
     }
 }
 
 /// Something that leads to an object.
-fn put_holder(
-    page: &mut Page,
-    driver: &Driver,
-    births: &[Birth],
-    holder: Holder,
-    object: u64,
-) -> Result<(), NoMemory> {
+fn put_holder(page: &mut Page, driver: &Driver, births: &[Birth], holder: Holder, object: u64) {
     match holder {
         Holder::Handle(number, display) => {
-            page.put("handle ")?;
-            page.put_decimal(u64::from(number))?;
-            page.put(" of display ")?;
+            page.put("handle ");
+            page.put_decimal(u64::from(number));
+            page.put(" of display ");
             page.put_decimal(display)
         }
         Holder::Thread(thread, use_of) => {
-            page.put(use_words(use_of))?;
+            page.put(use_words(use_of));
             page.put_decimal(thread as u64)
         }
         Holder::Object(holder, role) => {
-            put_role(page, driver, births, holder, role, object)?;
+            put_role(page, driver, births, holder, role, object);
             put_object(page, driver, births, holder)
         }
     }
@@ -250,14 +232,13 @@ fn put_holders(
     births: &[Birth],
     holders: &[Holder],
     object: u64,
-) -> Result<(), NoMemory> {
+) {
     'each: for (k, holder) in holders.iter().enumerate() {
         if k > 0 {
-            page.put("; ")?;
+            page.put("; ");
         }
-        put_holder(page, driver, births, *holder, object)?;
+        put_holder(page, driver, births, *holder, object);
     }
-    Ok(())
 }
 
 /// The line of an object, with all that refers to it.
@@ -269,15 +250,16 @@ fn put_line(
     references: &[ObjectReference],
     number: u64,
 ) -> Result<(), NoMemory> {
-    put_bar(page)?;
-    page.put("    ")?;
-    page.begin(Ink::Answer)?;
-    put_object(page, driver, births, number)?;
-    page.end()?;
-    page.put(": ")?;
+    put_bar(page);
+    page.put("    ");
+    page.begin(Ink::Answer);
+    put_object(page, driver, births, number);
+    page.end();
+    page.put(": ");
     let holders = holders_of(alloc, references, number)?;
-    put_holders(page, driver, births, &holders, number)?;
-    page.end_line()
+    put_holders(page, driver, births, &holders, number);
+    page.end_line();
+    Ok(())
 }
 
 /// The objects that references tell of, a hundred at most.
@@ -292,9 +274,10 @@ fn put_lines(
     'each: for number in 0..driver.object_count() {
         if driver.object(number).is_some() {
             if told >= MOST_TOLD {
-                put_bar(page)?;
-                page.put("    and more")?;
-                return page.end_line();
+                put_bar(page);
+                page.put("    and more");
+                page.end_line();
+                return Ok(());
             }
             told = told.saturating_add(1);
             put_line(alloc, page, driver, births, references, number)?;

@@ -27,10 +27,11 @@ pub enum Ink {
     Pale,
 }
 
-/// A text that grows, and where it is shown.
+/// A text that grows, and where it is shown. Where memory runs out for a piece, the text lacks it, and nobody gets the text.
 #[derive(Drop)]
 pub struct Page {
     text: Bytes,
+    is_whole: bool,
     look: Look,
 }
 
@@ -38,83 +39,102 @@ impl Page {
     pub fn new(alloc: Global, look: Look) -> Page {
         Page {
             text: Bytes::new(alloc),
+            is_whole: true,
             look,
         }
     }
 
-    pub fn into_text(self) -> Bytes {
-        self.text
+    /// The text, where there was memory for each piece of it.
+    pub fn into_text(self) -> Result<Bytes, NoMemory> {
+        if self.is_whole {
+            Ok(self.text)
+        } else {
+            Err(NoMemory)
+        }
     }
 
-    pub fn put(&mut self, text: &str) -> Result<(), NoMemory> {
-        put_text(&mut self.text, text)
+    // Notes whether a piece was put.
+    fn note(&mut self, put: Result<(), NoMemory>) {
+        self.is_whole &= put.is_ok();
     }
 
-    pub fn put_decimal(&mut self, n: u64) -> Result<(), NoMemory> {
-        put_decimal(&mut self.text, n)
+    pub fn put(&mut self, text: &str) {
+        let put = put_text(&mut self.text, text);
+        self.note(put);
+    }
+
+    pub fn put_decimal(&mut self, n: u64) {
+        let put = put_decimal(&mut self.text, n);
+        self.note(put);
     }
 
     /// A number by its name where it has one.
-    pub fn put_number(&mut self, z: i64) -> Result<(), NoMemory> {
-        put_number(&mut self.text, z)
+    pub fn put_number(&mut self, z: i64) {
+        let put = put_number(&mut self.text, z);
+        self.note(put);
     }
 
     /// Bytes as they are, the first of them where wide lines are cut.
-    pub fn put_bytes(&mut self, bytes: &[u8]) -> Result<(), NoMemory> {
+    pub fn put_bytes(&mut self, bytes: &[u8]) {
         if self.look.cut && bytes.len() > WIDEST {
             let (front, _) = bytes.split_at(WIDEST);
-            self.text.extend(front)?;
-            return self.put("..");
+            let put = self.text.extend(front);
+            self.note(put);
+            self.put("..");
+        } else {
+            let put = self.text.extend(bytes);
+            self.note(put);
         }
-        self.text.extend(bytes)
     }
 
     /// Two digits for each byte, the first bytes where wide lines are cut.
-    pub fn put_digits(&mut self, bytes: &[u8]) -> Result<(), NoMemory> {
+    pub fn put_digits(&mut self, bytes: &[u8]) {
         if self.look.cut && bytes.len() > WIDEST / 2 {
             let (front, _) = bytes.split_at(WIDEST / 2);
-            put_hex(&mut self.text, front)?;
-            return self.put("..");
+            let put = put_hex(&mut self.text, front);
+            self.note(put);
+            self.put("..");
+        } else {
+            let put = put_hex(&mut self.text, bytes);
+            self.note(put);
         }
-        put_hex(&mut self.text, bytes)
     }
 
     /// So many spaces.
-    pub fn put_spaces(&mut self, count: usize) -> Result<(), NoMemory> {
+    pub fn put_spaces(&mut self, count: usize) {
         'each: for _ in 0..count {
-            put_byte(&mut self.text, b' ')?;
+            let put = put_byte(&mut self.text, b' ');
+            self.note(put);
         }
-        Ok(())
     }
 
     /// Begins a piece of this kind, where there are colours.
-    pub fn begin(&mut self, ink: Ink) -> Result<(), NoMemory> {
-        if !self.look.coloured {
-            return Ok(());
-        }
-        match ink {
-            Ink::Answer => self.put("\x1b[32m"),
-            Ink::Fault => self.put("\x1b[1;31m"),
-            Ink::Pale => self.put("\x1b[2m"),
+    pub fn begin(&mut self, ink: Ink) {
+        if self.look.coloured {
+            match ink {
+                Ink::Answer => self.put("\x1b[32m"),
+                Ink::Fault => self.put("\x1b[1;31m"),
+                Ink::Pale => self.put("\x1b[2m"),
+            }
         }
     }
 
     /// Ends a piece.
-    pub fn end(&mut self) -> Result<(), NoMemory> {
+    pub fn end(&mut self) {
         if self.look.coloured {
-            return self.put("\x1b[0m");
+            self.put("\x1b[0m");
         }
-        Ok(())
     }
 
     /// Text of this kind.
-    pub fn put_in(&mut self, ink: Ink, text: &str) -> Result<(), NoMemory> {
-        self.begin(ink)?;
-        self.put(text)?;
-        self.end()
+    pub fn put_in(&mut self, ink: Ink, text: &str) {
+        self.begin(ink);
+        self.put(text);
+        self.end();
     }
 
-    pub fn end_line(&mut self) -> Result<(), NoMemory> {
-        put_byte(&mut self.text, b'\n')
+    pub fn end_line(&mut self) {
+        let put = put_byte(&mut self.text, b'\n');
+        self.note(put);
     }
 }

@@ -53,23 +53,23 @@ fn digit_count(number: u64) -> usize {
 }
 
 /// The number of a line, and the bar behind it.
-pub fn put_number(page: &mut Page, number: u64) -> Result<(), NoMemory> {
-    page.put_spaces(NUMBER_WIDTH.saturating_sub(digit_count(number)))?;
-    page.begin(Ink::Pale)?;
-    page.put_decimal(number)?;
-    page.put(" | ")?;
-    page.end()
+pub fn put_number(page: &mut Page, number: u64) {
+    page.put_spaces(NUMBER_WIDTH.saturating_sub(digit_count(number)));
+    page.begin(Ink::Pale);
+    page.put_decimal(number);
+    page.put(" | ");
+    page.end();
 }
 
 /// A bar without a number.
-pub fn put_bar(page: &mut Page) -> Result<(), NoMemory> {
-    page.put_spaces(NUMBER_WIDTH)?;
-    page.put_in(Ink::Pale, " | ")
+pub fn put_bar(page: &mut Page) {
+    page.put_spaces(NUMBER_WIDTH);
+    page.put_in(Ink::Pale, " | ");
 }
 
 /// A line with its number.
-pub fn put_line(page: &mut Page, lines: &[&[u8]], number: u64) -> Result<(), NoMemory> {
-    put_number(page, number)?;
-    page.put_bytes(line_at(lines, number))?;
-    page.end_line()
+pub fn put_line(page: &mut Page, lines: &[&[u8]], number: u64) {
+    put_number(page, number);
+    page.put_bytes(line_at(lines, number));
+    page.end_line();
 }

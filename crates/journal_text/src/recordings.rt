@@ -25,9 +25,15 @@ pub struct RecordedLine {
 }
 
 /// A recording: its lines behind the first, the last of which is `end`.
-#[derive(Drop)]
 pub struct Recording {
     lines: Vec<RecordedLine>,
+}
+
+// Written out, so that no crate above proves the drops of what it owns.
+impl Drop for Recording {
+    fn drop(self) {
+        let Recording { lines: _ } = self;
+    }
 }
 
 impl Model for Recording {

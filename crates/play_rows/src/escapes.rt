@@ -1,14 +1,21 @@
 //! Bytes that a line of text can't show.
-ghost use Rattle.std.specs.Prelude.{◌<◌, IfOk};
+ghost use Rattle.std.specs.Prelude.{◌<◌, IfSome};
 
 use anyhow::{Result, bail};
 
-fn digit_of(c: u8) -> Result<u8>
-    ensures { IfOk result (λ d. d < 16) }
+fn digit_of(c: u8) -> Option<u8>
+    ensures { IfSome result (λ d. d < 16) }
 {
     match c {
-        b'0'..=b'9' => Ok(c - b'0'),
-        b'a'..=b'f' => Ok(c - b'a' + 10),
+        b'0'..=b'9' => Some(c - b'0'),
+        b'a'..=b'f' => Some(c - b'a' + 10),
+        _ => None,
+    }
+}
+
+fn byte_of(high: u8, low: u8) -> Result<u8> {
+    match (digit_of(high), digit_of(low)) {
+        (Some(high), Some(low)) => Ok(high * 16 + low),
         _ => bail!("an escape by `\\x` has two of 0-9 and a-f"),
     }
 }
@@ -19,7 +26,7 @@ fn push_escape(bytes: &mut Vec<u8>, piece: &[u8]) -> Result<()> {
         [b'r', rest @ ..] => (b'\r', rest),
         [b't', rest @ ..] => (b'\t', rest),
         [b'0', rest @ ..] => (0, rest),
-        [b'x', high, low, rest @ ..] => (digit_of(*high)? * 16 + digit_of(*low)?, rest),
+        [b'x', high, low, rest @ ..] => (byte_of(*high, *low)?, rest),
         _ => bail!("an escape is none of `\\r`, `\\t`, `\\0` and `\\xNN`"),
     };
     bytes.push(byte)?;

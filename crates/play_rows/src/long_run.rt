@@ -7,15 +7,23 @@ use std::alloc::Global;
 use std::sync::Wait;
 use std::thread::Threads;
 
+/// The names between braces: how many times the number of a turn is taken, modulo what, and what is added to that. Any other name stands for the turn's number.
+const NAMES: [(&str, u64, u64, u64); 4] = [
+    ("red", 257, 65_537, 0),
+    ("level", 1, 11, 0),
+    ("config", 1, 8, 1),
+    ("next", 1, u64::MAX, 1),
+];
+
 /// The number of a turn for which a name between braces stands.
 fn number(name: &str, turn: u64) -> u64 {
-    match name {
-        "red" => 257u64.wrapping_mul(turn) % 65_537,
-        "level" => turn % 11,
-        "config" => turn % 8 + 1,
-        "next" => turn.wrapping_add(1),
-        _ => turn,
+    for (word, times, modulus, more) in &NAMES {
+        if *word == name {
+            let rest = times.wrapping_mul(turn) % (*modulus).max(1);
+            return rest.wrapping_add(*more);
+        }
     }
+    turn
 }
 
 /// Adds lines with the numbers of a turn.

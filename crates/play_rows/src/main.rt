@@ -6,6 +6,7 @@
 //!   found.
 //! - `read` prints each example as it is read.
 //! - `refused` compares why each text of the file is no file of examples.
+//! - `explained` compares what `egl_explain` tells of a file's input with the text behind it, and `show` prints it.
 //! - `long_run` plays the 100,000 lines of a file of turns, and prints the sum of their recording.
 //!
 //! The word `stdin` names no file, and does what the program does with `serial`. At the end stands how many were played
@@ -15,6 +16,7 @@
 
 mod drafts;
 mod escapes;
+mod explaining;
 mod long_run;
 mod playing;
 mod reading;
@@ -22,6 +24,7 @@ mod reading;
 use anyhow::{Context, Result, ensure};
 use drafts::Example;
 use escapes::push_unescaped;
+use explaining::{is_explained, show};
 use long_run::long_run;
 use playing::{PICTURES, is_as_wanted, play_stdin};
 use reading::examples_of;
@@ -40,6 +43,10 @@ enum Task {
     Read,
     /// Its texts are refused.
     Refuse,
+    /// Its input is explained as it says.
+    Explain,
+    /// What its input is explained as is printed.
+    Show,
     /// Its turns are played.
     LongRun,
 }
@@ -138,6 +145,12 @@ fn do_file<R: Files + Print + AllocGlobal + Threads + Wait + Sync>(
     match task {
         Task::LongRun => return long_run(rt, text.as_str()),
         Task::Refuse => return refuse(rt, name, text.as_str(), tally),
+        Task::Explain => {
+            tally.count(is_explained(rt, name, text.as_str())?);
+            println!(rt; "explained {name}")?;
+            return Ok(());
+        }
+        Task::Show => return show(rt, name, text.as_str()),
         Task::Play(_) | Task::Read => {}
     }
     let examples = examples_of(rt.alloc(), text.as_str()).context(format_args!("{name}"))?;
@@ -162,6 +175,8 @@ fn main(rt: HostRuntime) -> Result<ExitCode> {
             "pictures" => task = Task::Play(PICTURES),
             "read" => task = Task::Read,
             "refused" => task = Task::Refuse,
+            "explained" => task = Task::Explain,
+            "show" => task = Task::Show,
             "long_run" => task = Task::LongRun,
             "stdin" => status = play_stdin(&rt, rt.stdin(), rt.stdout())?,
             name => do_file(&rt, task, name, &mut tally)?,

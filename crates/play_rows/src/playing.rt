@@ -55,7 +55,7 @@ pub fn play_stdin<R: Clock + AllocGlobal + Threads + Wait + Sync>(
 }
 
 /// The first line in which two texts differ, of both. Behind its end a text has empty lines.
-fn first_difference<'a>(wanted: &'a str, found: &'a str) -> (&'a str, &'a str) {
+pub fn first_difference<'a>(wanted: &'a str, found: &'a str) -> (&'a str, &'a str) {
     let mut found = found.split('\n');
     for line in wanted.split('\n') {
         let other = found.next().unwrap_or("");

@@ -1,6 +1,6 @@
 //! Which entries of a journal touch one thing though nothing in it orders them: the races of a run.
 //!
-//! Its tests are in `reports.rt`.
+//! Its tests are in `play_rows`.
 #![tactic(auto)]
 
 mod accesses;

@@ -1,6 +1,6 @@
 //! Reads a scene of sprites: the bytes spell one, or the first defective line is named with its reason.
 //!
-//! Its tests are in `scene_check`.
+//! Its tests are in `reader_check`.
 #![tactic(auto)]
 
 mod headers;

@@ -1,6 +1,6 @@
 //! A screen compositor: it stacks what windows show on a screen, and hands frames of it from thread to thread. What they show it asks of a driver, or of one that threads share.
 //!
-//! Its tests are in `screen_check`.
+//! Its tests are in `driver_check`.
 #![tactic(auto)]
 
 mod composing;

@@ -8,9 +8,15 @@ use std::alloc::Global;
 use std::marker::Model;
 
 /// Calls in the order in which a thread makes them.
-#[derive(Drop)]
 pub struct Calls {
     calls: Vec<Call>,
+}
+
+// Written out, so that no crate above proves the drops of what it owns.
+impl Drop for Calls {
+    fn drop(self) {
+        let Calls { calls: _ } = self;
+    }
 }
 
 impl Model for Calls {

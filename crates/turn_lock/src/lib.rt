@@ -9,7 +9,7 @@
 //!
 //! No clause says that a turn ever comes, in which order threads get theirs, or how long one waits.
 //!
-//! Its tests are in `turn_lock_check`.
+//! Its tests are in `driver_check`.
 #![tactic(auto)]
 
 mod bells;

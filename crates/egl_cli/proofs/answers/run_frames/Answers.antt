@@ -24,7 +24,7 @@ returns-in-Ok c =
     let complete = c.in-Ok.ensures.complete in
     let P : Answer → Type 0 = λ a. a ≡ journal_frames w h t c.journal_of.result.entries false in
     let Q : Answer → Type 0 = λ a. a ≡ run_frames w h t in
-    IfOk-weaker c.journal_frames-in-Ok.result P Q (λ a p. p ∙ ap (λ (j : JournalValue). journal_frames w h t j.entries false) c.journal_of.ensures ∙ frames_ended w h t run.journal.entries run.driver.state complete.0 complete.1) c.journal_frames-in-Ok.ensures
+    IfOk-weaker c.journal_frames.result P Q (λ a p. p ∙ ap (λ (j : JournalValue). journal_frames w h t j.entries false) c.journal_of.ensures ∙ frames_ended w h t run.journal.entries run.driver.state complete.0 complete.1) c.journal_frames.ensures
 
 pub returns-in-Err-Stalled : goal.returns-in-Err-Stalled
 returns-in-Err-Stalled c =
@@ -35,4 +35,4 @@ returns-in-Err-Stalled c =
     let stalled = rw c.in-Err-Stalled.field-0-is at c.in-Err-Stalled.ensures.stalled in
     let P : Answer → Type 0 = λ a. a ≡ journal_frames w h t c.journal_of-in-Err-Stalled.result.entries true in
     let Q : Answer → Type 0 = λ a. a ≡ run_frames w h t in
-    IfOk-weaker c.journal_frames-in-Err-Stalled-2.result P Q (λ a p. p ∙ ap (λ (j : JournalValue). journal_frames w h t j.entries true) c.journal_of-in-Err-Stalled.ensures ∙ frames_stalled w h t run.journal.entries run.driver.state stalled.0 stalled.1) c.journal_frames-in-Err-Stalled-2.ensures
+    IfOk-weaker c.journal_frames-in-Err-Stalled.result P Q (λ a p. p ∙ ap (λ (j : JournalValue). journal_frames w h t j.entries true) c.journal_of-in-Err-Stalled.ensures ∙ frames_stalled w h t run.journal.entries run.driver.state stalled.0 stalled.1) c.journal_frames-in-Err-Stalled.ensures

@@ -1,5 +1,0 @@
-use Rattle.shared_driver.specs.Tokens.{IsOf}
-use Rattle.screen_check.proofs.drawing.set_scene.Given as goal
-
-abbrev pub invariant-each : goal.invariant-each
-invariant-each g l = IsOf l.shared l.thread

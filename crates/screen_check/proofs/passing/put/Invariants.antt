@@ -1,5 +1,0 @@
-use Rattle.screen_compose.specs.Ends.{IsPutEnd}
-use Rattle.screen_check.proofs.passing.put.Given as goal
-
-abbrev pub invariant-putting : goal.invariant-putting
-invariant-putting g l = IsPutEnd l.frames l.end
