@@ -1,4 +1,4 @@
 pub mod ListedLaws
 pub mod TableLaws
 pub mod RiseLaws
-pub mod SlotLaws
+pub mod PlaceLaws

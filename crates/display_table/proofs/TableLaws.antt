@@ -1,13 +1,14 @@
 -- The handles of two displays.
 use Rattle.std.proofs.Common.{◌≡◌, ◌≢◌, ℕ, ◌+◌, ◌≤◌, Bool, true, false, not, ◌&&◌, ◌==◌, if◌then◌else◌, List, [], ◌∷◌, ◌++◌, Option, None, Some, refl, sym, ◌∙◌, ap, arith, IfSome, IsSome, subst}
 use Rattle.std.specs.List.{filter, find}
+use Rattle.std.specs.Map.{keys_of}
 use Rattle.std.specs.Option.{option_to_list, option_or}
 use Rattle.std.proofs.lemmas.Bool.{ne_eqb, eq-eqb}
 use Rattle.display_table.specs.declared.handles.Handle.{Handle}
 use Rattle.display_table.specs.declared.handles.HandleKind.{HandleKind}
 use Rattle.display_table.specs.Handles.{is_named, is_named_on, is_on, is_same_kind, newest, off_display, on_display, without, RiseFrom, Takes}
-use Rattle.display_table.specs.Tables.{at_number, either, handles_in, listed, handle_named, valid_in, AreApart, AreBelow, AreRows, AreTables, IsHandle, IsLast, Rises}
-use Rattle.display_table.proofs.SlotLaws.{none_there}
+use Rattle.display_table.specs.Tables.{at_number, either, handles_in, listed, handle_named, AreApart, ArePlaces, AreTables, IsHandle, IsLast, NumbersRise, Places}
+use Rattle.display_table.proofs.PlaceLaws.{none_there, rise-more}
 use Rattle.display_table.specs.declared.TheConstants.{HANDLES_END}
 use Rattle.std.proofs.lemmas.List.{map-append}
 use Rattle.display_table.proofs.ListedLaws.{listed-same, listed-more, listed-none, filter-listed, listed-last, last_or-push, find-listed, rise-listed, IsNumbered}
@@ -309,11 +310,11 @@ module _ (next : ℕ) (f g : ℕ → Option Handle) (t : AreTables f g next) whe
       (on-second next f g t ∙ listed-none g next (λ k l. (e k).0))
       (same-tables f g f g' next (λ k. refl) (λ k. (e k).1 ∙ sym (e k).0))
 
--- the slots of both displays
+-- the places of both displays
 
-pub no_rows : (next : ℕ) → 3 ≤ next → next ≤ HANDLES_END → AreRows [] [] next
-unfolding at_number valid_in Rises AreBelow
-no_rows next low high = record {
+pub no_places : (next : ℕ) → 3 ≤ next → next ≤ HANDLES_END → ArePlaces [] [] next
+unfolding at_number NumbersRise
+no_places next low high = record {
   tables = record {
     first = record { each = λ n. tt };
     second = record { each = λ n. tt };
@@ -321,15 +322,21 @@ no_rows next low high = record {
     low = low;
     high = high;
   };
-  first_rises = tt;
-  second_rises = tt;
-  first_below = tt;
-  second_below = tt;
+  first_rises = low;
+  second_rises = low;
 }
 
 pub no_handles : (next : ℕ) → handles_in (at_number []) (at_number []) next ≡ []
-unfolding handles_in at_number valid_in
+unfolding handles_in at_number
 no_handles next = listed-none _ next (λ k l. refl)
 
 pub removed-first : (m next : ℕ) (f g f' : ℕ → Option Handle) → AreTables f g next → IsSome (f m) → ((k : ℕ) → f' k ≡ (if k == m then None else f k)) → handles_in f' g next ≡ without m (handles_in f g next)
 removed-first m next f g f' t some e = removed m m next f g f' g refl t e (none_there g m (apart_some (f m) (g m) (t.apart m) some))
+
+-- the numbers of both fit what a handle may have
+
+pub first-fits : (first second : Places) (next : ℕ) → ArePlaces first second next → NumbersRise 3 (keys_of first) HANDLES_END
+first-fits first second next p = rise-more 3 (keys_of first) next HANDLES_END p.tables.high p.first_rises
+
+pub second-fits : (first second : Places) (next : ℕ) → ArePlaces first second next → NumbersRise 3 (keys_of second) HANDLES_END
+second-fits first second next p = rise-more 3 (keys_of second) next HANDLES_END p.tables.high p.second_rises

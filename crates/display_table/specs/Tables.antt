@@ -1,10 +1,9 @@
 -- What contracts see of the displays, and how the code keeps their handles.
-use Rattle.std.specs.Prelude.{◌≡◌, ℕ, zero, suc, ◌+◌, ◌≤◌, ◌<◌, Bool, true, false, List, [], ◌∷◌, ◌++◌, Option, None, Some, IfSome, length, nat_le, if◌then◌else◌, ◌==◌}
-use Rattle.std.specs.List.{find, HoldsAt}
-use Rattle.std.specs.Option.{option_to_list}
+use Rattle.std.specs.Prelude.{◌≡◌, ℕ, zero, suc, ◌+◌, ◌≤◌, ◌<◌, Bool, true, false, List, [], ◌∷◌, ◌++◌, Option, None, Some, IfSome, nat_eq, nat_le, if◌then◌else◌, ◌==◌}
+use Rattle.std.specs.Map.{keys_of, lookup}
+use Rattle.std.specs.Option.{option_flatten, option_to_list}
 use Rattle.display_table.specs.declared.handles.Handle.{Handle}
 use Rattle.display_table.specs.declared.handles.HandleKind.{HandleKind}
-use Rattle.display_table.specs.declared.tables.Slot.{Slot}
 use Rattle.display_table.specs.Handles.{is_same_kind}
 use Rattle.display_table.specs.declared.errors.HandleError.{HandleError}
 use Rattle.display_table.specs.declared.errors.HandleError.TheVariants.{Limit, NoMemory}
@@ -33,29 +32,18 @@ abbrev pub HasCause : ℕ → HandleError → Type 0
 HasCause next Limit = are_used_up next ≡ true
 HasCause next NoMemory = are_used_up next ≡ false
 
--- the valid handles of a display's slots, in their order
-unfoldable pub valid_in : List Slot → List Handle
-valid_in [] = []
-valid_in (s ∷ more) = if s.is_valid then s.handle ∷ valid_in more else valid_in more
+-- a display's handles by their numbers, in the order of their making: a destroyed handle leaves an empty place
+abbrev pub Places : Type 0
+Places = List (ℕ × Option Handle)
 
 -- the valid handle of a number
-unfoldable pub at_number : List Slot → ℕ → Option Handle
-at_number slots number = find (λ h. h.number == number) (valid_in slots)
+unfoldable pub at_number : Places → ℕ → Option Handle
+at_number places number = option_flatten (lookup (nat_eq number) places)
 
--- numbers rise from slot to slot, from `low` at least
-unfoldable pub Rises : ℕ → List Slot → Type 0
-Rises low [] = Unit {0}
-Rises low (s ∷ more) = (low ≤ s.handle.number) × Rises (s.handle.number + 1) more
-
--- numbers are below `end`
-unfoldable pub AreBelow : ℕ → List Slot → Type 0
-AreBelow end [] = Unit {0}
-AreBelow end (s ∷ more) = (s.handle.number < end) × AreBelow end more
-
--- the slot of a number stands at this place
-pub record IsPlace (slots : List Slot) (number place : ℕ) : Type 0 where
-  pub within : place < length slots
-  pub named : HoldsAt (λ s. s.handle.number ≡ number) slots place
+-- numbers rise, from `low` at least, and are below `end`
+unfoldable pub NumbersRise : ℕ → List ℕ → ℕ → Type 0
+NumbersRise low [] end = low ≤ end
+NumbersRise low (n ∷ more) end = (low ≤ n) × NumbersRise (n + 1) more end
 
 -- the first of two
 abbrev pub either : Option Handle → Option Handle → Option Handle
@@ -92,13 +80,11 @@ pub record AreTables (firsts seconds : ℕ → Option Handle) (next : ℕ) : Typ
   pub low : 3 ≤ next
   pub high : next ≤ HANDLES_END
 
--- the same of the slots of both displays, whose numbers rise and are below the next
-pub record AreRows (first second : List Slot) (next : ℕ) : Type 0 where
+-- the same of the places of both displays, whose numbers rise and are below the next
+pub record ArePlaces (first second : Places) (next : ℕ) : Type 0 where
   pub tables : AreTables (at_number first) (at_number second) next
-  pub first_rises : Rises 3 first
-  pub second_rises : Rises 3 second
-  pub first_below : AreBelow next first
-  pub second_below : AreBelow next second
+  pub first_rises : NumbersRise 3 (keys_of first) next
+  pub second_rises : NumbersRise 3 (keys_of second) next
 
 -- a handle, where it has this kind
 abbrev pub handle_named : HandleKind → Option Handle → Option Handle

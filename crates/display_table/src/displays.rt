@@ -12,6 +12,8 @@ use crate::making::{add_first, add_second};
 use crate::tables::{Table, handle_in, rising_in, take};
 use crate::taking::{take_first, take_second};
 use egl_calls::unsigned;
+use indexmap::IndexMap;
+use keyed_hash::{HashKey, KeyedState};
 use std::alloc::Global;
 use std::marker::Model;
 
@@ -20,7 +22,8 @@ use std::marker::Model;
 /// Handles are numbered from 3 in the order of their making. A number is never given again.
 ///
 /// Contracts see the two flags, the valid handles in the order of their making, and the number of the next one. The
-/// handles of each display lie in slots in the order of their numbers, so that the newest is the last.
+/// handles of each display stand in a map in the order of their making, so that the newest is the last. They are found by
+/// hashes under a key.
 pub struct Displays {
     first: bool,
     second: bool,
@@ -43,25 +46,46 @@ impl Drop for Displays {
 }
 
 impl Model for Displays {
-    ghost use Rattle.display_table.specs.Tables.{DisplaysValue, at_number, handles_in, AreRows};
+    ghost use Rattle.display_table.specs.Tables.{DisplaysValue, at_number, handles_in, ArePlaces};
 
     ghost Value = { DisplaysValue };
 
-    ghost view = { λ d. record { first = d.first; second = d.second; handles = handles_in (at_number d.first_handles.items) (at_number d.second_handles.items) d.next_handle; next_handle = d.next_handle } };
+    ghost view = { λ d. record { first = d.first; second = d.second; handles = handles_in (at_number d.first_handles.entries) (at_number d.second_handles.entries) d.next_handle; next_handle = d.next_handle } };
 
-    ghost invariant = { λ d. AreRows d.first_handles.items d.second_handles.items d.next_handle };
+    ghost invariant = { λ d. ArePlaces d.first_handles.entries d.second_handles.entries d.next_handle };
 }
 
 impl Displays {
     /// Two displays that aren't initialised and have no handles. It takes no memory.
+    ///
+    /// Their handles are hashed under the plain key, for who has no input to draw one from.
     pub fn new(alloc: Global) -> Displays
         ensures { result ≡ record { first = false; second = false; handles = []; next_handle = 3 } }
     {
-        Displays::starting_at(alloc, 3)
+        Displays::with_key(alloc, HashKey::PLAIN)
     }
 
-    /// The same, where the first handle has this number. It takes no memory.
+    /// The same, where handles are hashed under this key. It takes no memory.
+    ///
+    /// A handle means nothing but the object that it was made for (EGL 1.5, section 2.1), and any number may come in its place.
+    /// Who makes handles and destroys all but some can keep those whose numbers collide, if it knows how they are hashed; then
+    /// each look-up passes many others. The key keeps it from knowing.
+    pub fn with_key(alloc: Global, key: HashKey) -> Displays
+        ensures { result ≡ record { first = false; second = false; handles = []; next_handle = 3 } }
+    {
+        Displays::keyed(alloc, key, 3)
+    }
+
+    /// The same as `new`, where the first handle has this number. It takes no memory.
     pub fn starting_at(alloc: Global, next_handle: u32) -> Displays
+        requires low { 3 ≤ next_handle }
+        requires high { next_handle ≤ HANDLES_END }
+        ensures { result ≡ record { first = false; second = false; handles = []; next_handle = next_handle } }
+    {
+        Displays::keyed(alloc, HashKey::PLAIN, next_handle)
+    }
+
+    fn keyed(alloc: Global, key: HashKey, next_handle: u32) -> Displays
         requires low { 3 ≤ next_handle }
         requires high { next_handle ≤ HANDLES_END }
         ensures { result ≡ record { first = false; second = false; handles = []; next_handle = next_handle } }
@@ -69,8 +93,8 @@ impl Displays {
         Displays {
             first: false,
             second: false,
-            first_handles: Vec::new(alloc),
-            second_handles: Vec::new(alloc),
+            first_handles: IndexMap::with_hasher(alloc, KeyedState::new(key)),
+            second_handles: IndexMap::with_hasher(alloc, KeyedState::new(key)),
             next_handle,
         }
     }

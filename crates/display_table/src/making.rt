@@ -1,6 +1,6 @@
 //! A new handle in the tables of both displays.
 ghost use Rattle.std.specs.Prelude.{◌≡◌, ◌+◌, ◌<◌, pos, [], ◌∷◌, ◌++◌, IfOk, IfErr, OnOk, OnErr};
-ghost use Rattle.display_table.specs.Tables.{at_number, handles_in, AreRows};
+ghost use Rattle.display_table.specs.Tables.{at_number, handles_in, ArePlaces};
 
 use crate::HANDLES_END;
 use crate::errors::HandleError;
@@ -14,16 +14,16 @@ pub(crate) fn add_first(
     kind: HandleKind,
     object: u64,
 ) -> Result<i64, HandleError>
-    requires tables { AreRows first.old.items second.now.items next.old }
+    requires tables { ArePlaces first.old.entries second.now.entries next.old }
     requires fits { next.old < HANDLES_END }
     ensures number { IfOk result (λ n. n ≡ pos next.old) }
-    ensures made { OnOk result (handles_in (at_number first.new.items) (at_number second.now.items) next.new
-        ≡ handles_in (at_number first.old.items) (at_number second.now.items) next.old ++ record { number = next.old; display = 1; kind = kind; object = object } ∷ []) }
+    ensures made { OnOk result (handles_in (at_number first.new.entries) (at_number second.now.entries) next.new
+        ≡ handles_in (at_number first.old.entries) (at_number second.now.entries) next.old ++ record { number = next.old; display = 1; kind = kind; object = object } ∷ []) }
     ensures next { OnOk result (next.new ≡ next.old + 1) }
-    ensures same { OnErr result (handles_in (at_number first.new.items) (at_number second.now.items) next.new ≡ handles_in (at_number first.old.items) (at_number second.now.items) next.old) }
+    ensures same { OnErr result (handles_in (at_number first.new.entries) (at_number second.now.entries) next.new ≡ handles_in (at_number first.old.entries) (at_number second.now.entries) next.old) }
     ensures same_next { OnErr result (next.new ≡ next.old) }
     ensures cause { IfErr result (λ e. e ≡ HandleError.NoMemory) }
-    ensures tables { AreRows first.new.items second.now.items next.new }
+    ensures tables { ArePlaces first.new.entries second.now.entries next.new }
 {
     let number = *next;
     let handle = Handle {
@@ -44,16 +44,16 @@ pub(crate) fn add_second(
     kind: HandleKind,
     object: u64,
 ) -> Result<i64, HandleError>
-    requires tables { AreRows first.now.items second.old.items next.old }
+    requires tables { ArePlaces first.now.entries second.old.entries next.old }
     requires fits { next.old < HANDLES_END }
     ensures number { IfOk result (λ n. n ≡ pos next.old) }
-    ensures made { OnOk result (handles_in (at_number first.now.items) (at_number second.new.items) next.new
-        ≡ handles_in (at_number first.now.items) (at_number second.old.items) next.old ++ record { number = next.old; display = 2; kind = kind; object = object } ∷ []) }
+    ensures made { OnOk result (handles_in (at_number first.now.entries) (at_number second.new.entries) next.new
+        ≡ handles_in (at_number first.now.entries) (at_number second.old.entries) next.old ++ record { number = next.old; display = 2; kind = kind; object = object } ∷ []) }
     ensures next { OnOk result (next.new ≡ next.old + 1) }
-    ensures same { OnErr result (handles_in (at_number first.now.items) (at_number second.new.items) next.new ≡ handles_in (at_number first.now.items) (at_number second.old.items) next.old) }
+    ensures same { OnErr result (handles_in (at_number first.now.entries) (at_number second.new.entries) next.new ≡ handles_in (at_number first.now.entries) (at_number second.old.entries) next.old) }
     ensures same_next { OnErr result (next.new ≡ next.old) }
     ensures cause { IfErr result (λ e. e ≡ HandleError.NoMemory) }
-    ensures tables { AreRows first.now.items second.new.items next.new }
+    ensures tables { ArePlaces first.now.entries second.new.entries next.new }
 {
     let number = *next;
     let handle = Handle {

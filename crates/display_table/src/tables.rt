@@ -1,83 +1,35 @@
-//! The handles of one display, in slots by their numbers.
-ghost use Rattle.std.specs.Prelude.{◌≡◌, ℕ, ◌<◌, ◌≤◌, ◌==◌, true, false, length, if◌then◌else◌, IsSome, IsTrue, IfErr, IfSome, IfNone, OnOk, OnErr, None, Some};
+//! The handles of one display, by their numbers.
+ghost use Rattle.std.specs.Prelude.{◌≡◌, ℕ, ◌+◌, ◌≤◌, ◌==◌, if◌then◌else◌, IsSome, IsTrue, IfErr, IfSome, IfNone, OnOk, OnErr, None, Some};
+ghost use Rattle.indexmap.specs.IndexMap.{keys};
 ghost use Rattle.display_table.specs.Handles.{RiseFrom};
-ghost use Rattle.display_table.specs.Tables.{at_number, handles_in, handle_named, valid_in, AreBelow, AreRows, IsLast, IsPlace, Rises};
+ghost use Rattle.display_table.specs.Tables.{at_number, handles_in, handle_named, ArePlaces, IsLast, NumbersRise};
 
 use crate::HANDLES_END;
 use crate::errors::HandleError;
 use crate::handles::{Handle, HandleKind, place_of};
+use indexmap::IndexMap;
+use keyed_hash::KeyedState;
 
-/// A table that no handle is left in keeps room for as many slots, and gives back more.
-const KEPT_SLOTS: usize = 64;
+/// A table that no handle is left in keeps room for as many, and gives back more.
+const KEPT_PLACES: usize = 64;
 
-/// A handle that was made, and whether it is valid still.
-#[derive(Clone, Copy)]
-pub(crate) struct Slot {
-    handle: Handle,
-    is_valid: bool,
-}
-
-/// Slots in the order of their numbers, at least half of them of valid handles whenever a new one takes memory.
-pub(crate) type Table = Vec<Slot>;
-
-/// Where a number stands if those of the table lie as far from each other everywhere. Handles are mostly made by turns,
-/// so that this is its place.
-fn likely_place(table: &Table, number: u64) -> Option<usize>
-    ensures { IfSome result (λ place. place < length table.now.items) }
-{
-    let first = u64::from(table.first()?.handle.number);
-    let last = u64::from(table.last()?.handle.number);
-    if number <= first || last <= first {
-        return Some(0);
-    }
-    let steps = table.len() as u64 - 1;
-    let place = (number - first).saturating_mul(steps) / (last - first);
-    Some(place.min(steps) as usize)
-}
-
-/// The place of a number, by halving.
-fn halved_place(table: &Table, number: u64) -> Option<usize>
-    requires { Rises 3 table.now.items }
-    ensures found { IfSome result (IsPlace table.now.items number) }
-    ensures none { IfNone result (at_number table.now.items number ≡ None) }
-{
-    match table.binary_search_by_key(&number, |slot| u64::from(slot.handle.number)) {
-        Ok(place) => Some(place),
-        Err(_) => None,
-    }
-}
-
-fn slot_place(table: &Table, number: u64) -> Option<usize>
-    requires { Rises 3 table.now.items }
-    ensures found { IfSome result (IsPlace table.now.items number) }
-    ensures none { IfNone result (at_number table.now.items number ≡ None) }
-{
-    match likely_place(table, number) {
-        Some(place) if u64::from(table[place].handle.number) == number => Some(place),
-        _ => halved_place(table, number),
-    }
-}
+/// The places of handles by their numbers, in the order of making. A destroyed handle leaves its place empty. At least half
+/// of the places have handles whenever a new one takes memory.
+pub(crate) type Table = IndexMap<u32, Option<Handle>, KeyedState>;
 
 fn handle_at(table: &Table, number: u64) -> Option<Handle>
-    requires { Rises 3 table.now.items }
-    ensures { result ≡ at_number table.now.items number }
+    requires { NumbersRise 3 (keys table.now) HANDLES_END }
+    ensures { result ≡ at_number table.now.entries number }
 {
-    match slot_place(table, number) {
-        Some(place) => {
-            let slot = table[place];
-            if slot.is_valid {
-                Some(slot.handle)
-            } else {
-                None
-            }
-        }
-        None => None,
-    }
+    let Ok(number) = u32::try_from(number) else {
+        return None;
+    };
+    table.get(&number).copied().flatten()
 }
 
 pub(crate) fn handle_in(table: &Table, number: u64, kind: HandleKind) -> Option<Handle>
-    requires { Rises 3 table.now.items }
-    ensures { result ≡ handle_named kind (at_number table.now.items number) }
+    requires { NumbersRise 3 (keys table.now) HANDLES_END }
+    ensures { result ≡ handle_named kind (at_number table.now.entries number) }
 {
     match handle_at(table, number) {
         Some(handle) => {
@@ -92,72 +44,69 @@ pub(crate) fn handle_in(table: &Table, number: u64, kind: HandleKind) -> Option<
 }
 
 pub(crate) fn add(table: &mut Table, handle: Handle) -> Result<(), HandleError>
-    requires rising { Rises 3 table.old.items }
-    requires below { AreBelow handle.number table.old.items }
-    requires low { 3 ≤ handle.number }
-    ensures added { OnOk result ((n : ℕ) → at_number table.new.items n ≡ (if n == handle.number then Some handle else at_number table.old.items n)) }
-    ensures same { OnErr result ((n : ℕ) → at_number table.new.items n ≡ at_number table.old.items n) }
+    requires { NumbersRise 3 (keys table.old) handle.number }
+    ensures added { OnOk result ((n : ℕ) → at_number table.new.entries n ≡ (if n == handle.number then Some handle else at_number table.old.entries n)) }
+    ensures same { OnErr result ((n : ℕ) → at_number table.new.entries n ≡ at_number table.old.entries n) }
     ensures cause { IfErr result (λ e. e ≡ HandleError.NoMemory) }
-    ensures rising { Rises 3 table.new.items }
-    ensures below { OnOk result ((end : ℕ) → handle.number < end → AreBelow end table.new.items) }
-    ensures same_below { OnErr result (AreBelow handle.number table.new.items) }
+    ensures rise { OnOk result (NumbersRise 3 (keys table.new) (handle.number + 1)) }
+    ensures same_rise { OnErr result (NumbersRise 3 (keys table.new) handle.number) }
 {
     make_room(table);
-    let slot = Slot {
-        handle,
-        is_valid: true,
-    };
-    match table.push(slot) {
-        Ok(()) => Ok(()),
+    match table.insert(handle.number, Some(handle)) {
+        Ok(_) => Ok(()),
         Err(_) => Err(HandleError::NoMemory),
     }
 }
 
-// Where no slot is free and at most half are of valid handles, the others go. So at least as many handles are made
-// before the next time as it passes slots.
+// Where there is no room and at most half of the places have handles, the empty ones go. So at least as many handles are
+// made before the next time as it passes places.
 fn make_room(table: &mut Table)
-    requires { Rises 3 table.old.items }
-    ensures same { valid_in table.new.items ≡ valid_in table.old.items }
-    ensures rising { Rises 3 table.new.items }
-    ensures below { (end : ℕ) → AreBelow end table.old.items → AreBelow end table.new.items }
+    ensures same { (n : ℕ) → at_number table.new.entries n ≡ at_number table.old.entries n }
+    ensures rise { (end : ℕ) → NumbersRise 3 (keys table.old) end → NumbersRise 3 (keys table.new) end }
 {
     if table.len() < table.capacity() {
         return;
     }
-    let valid = table.iter().filter(|slot| slot.is_valid).count();
-    if valid <= table.len() / 2 {
-        table.retain(|slot| slot.is_valid);
+    let handles = table.values().filter(|place| place.is_some()).count();
+    if handles <= table.len() / 2 {
+        table.retain(|_number, place| place.is_some());
     }
 }
 
-/// Whether there was a valid handle of this number.
+/// Whether there was a valid handle of this number, which then is no longer valid.
 pub(crate) fn take(table: &mut Table, number: u64) -> bool
-    requires { Rises 3 table.old.items }
-    ensures found { IsTrue result → IsSome (at_number table.old.items number) }
-    ensures removed { (n : ℕ) → at_number table.new.items n ≡ (if n == number then None else at_number table.old.items n) }
-    ensures rising { Rises 3 table.new.items }
-    ensures below { (end : ℕ) → AreBelow end table.old.items → AreBelow end table.new.items }
+    requires { NumbersRise 3 (keys table.old) HANDLES_END }
+    ensures found { IsTrue result → IsSome (at_number table.old.entries number) }
+    ensures removed { (n : ℕ) → at_number table.new.entries n ≡ (if n == number then None else at_number table.old.entries n) }
+    ensures rise { (end : ℕ) → NumbersRise 3 (keys table.old) end → NumbersRise 3 (keys table.new) end }
 {
-    let Some(place) = slot_place(table, number) else {
+    let Ok(number) = u32::try_from(number) else {
         return false;
     };
-    if !table[place].is_valid {
-        return false;
-    }
-    table[place].is_valid = false;
+    let was_valid = vacate(table, number);
     drop_end(table);
-    true
+    was_valid
 }
 
-// The slots behind the last valid handle go. Each was filled once, so they cost no more than their making did.
-fn drop_end(table: &mut Table)
-    requires { Rises 3 table.old.items }
-    ensures same { valid_in table.new.items ≡ valid_in table.old.items }
-    ensures rising { Rises 3 table.new.items }
-    ensures below { (end : ℕ) → AreBelow end table.old.items → AreBelow end table.new.items }
+// Empties the place of a number, and answers whether it had a handle.
+fn vacate(table: &mut Table, number: u32) -> bool
+    ensures found { IsTrue result → IsSome (at_number table.old.entries number) }
+    ensures removed { (n : ℕ) → at_number table.new.entries n ≡ (if n == number then None else at_number table.old.entries n) }
+    ensures keys { keys table.new ≡ keys table.old }
 {
-    'slots: while let Some(slot) = table.last() {
-        if slot.is_valid {
+    match table.get_mut(&number) {
+        Some(place) => place.take().is_some(),
+        None => false,
+    }
+}
+
+// The empty places behind the last handle go. Each was filled once, so they cost no more than their making did.
+fn drop_end(table: &mut Table)
+    ensures same { (n : ℕ) → at_number table.new.entries n ≡ at_number table.old.entries n }
+    ensures rise { (end : ℕ) → NumbersRise 3 (keys table.old) end → NumbersRise 3 (keys table.new) end }
+{
+    'places: while let Some((_number, place)) = table.last() {
+        if place.is_some() {
             break;
         }
         let _ = table.pop();
@@ -165,26 +114,32 @@ fn drop_end(table: &mut Table)
     release(table);
 }
 
-// An empty table gives back what memory it has beyond a little.
+// An empty table gives back what memory it has beyond a little. Clearing it makes its capacity that of its memory: what was
+// taken out may still count until then.
 fn release(table: &mut Table)
-    ensures { table.new.items ≡ table.old.items }
+    ensures { table.new.entries ≡ table.old.entries }
 {
-    if table.is_empty() && table.capacity() > KEPT_SLOTS {
+    if !table.is_empty() {
+        return;
+    }
+    table.clear();
+    if table.capacity() > KEPT_PLACES {
         let alloc = *table.allocator();
-        *table = Vec::new(alloc);
+        let state = *table.hasher();
+        *table = IndexMap::with_hasher(alloc, state);
     }
 }
 
+/// Takes the handle that was made last.
 pub(crate) fn take_last(table: &mut Table) -> Option<Handle>
-    requires { Rises 3 table.old.items }
-    ensures last { IfSome result (IsLast (at_number table.old.items) (at_number table.new.items)) }
-    ensures none { IfNone result ((n : ℕ) → (at_number table.old.items n ≡ None) × (at_number table.new.items n ≡ None)) }
-    ensures rising { Rises 3 table.new.items }
-    ensures below { (end : ℕ) → AreBelow end table.old.items → AreBelow end table.new.items }
+    requires { NumbersRise 3 (keys table.old) HANDLES_END }
+    ensures last { IfSome result (IsLast (at_number table.old.entries) (at_number table.new.entries)) }
+    ensures none { IfNone result ((n : ℕ) → (at_number table.old.entries n ≡ None) × (at_number table.new.entries n ≡ None)) }
+    ensures rise { (end : ℕ) → NumbersRise 3 (keys table.old) end → NumbersRise 3 (keys table.new) end }
 {
-    'slots: while let Some(slot) = table.pop() {
-        if slot.is_valid {
-            return Some(slot.handle);
+    'places: while let Some((_number, place)) = table.pop() {
+        if let Some(handle) = place {
+            return Some(handle);
         }
     }
     release(table);
@@ -193,7 +148,7 @@ pub(crate) fn take_last(table: &mut Table) -> Option<Handle>
 
 // Handles rise in the order of their making. There is nothing to run.
 pub(crate) fn rising_in(_first: &Table, _second: &Table, _next: u32)
-    requires { AreRows _first.now.items _second.now.items _next }
-    ensures rise { RiseFrom 3 (handles_in (at_number _first.now.items) (at_number _second.now.items) _next) _next }
+    requires { ArePlaces _first.now.entries _second.now.entries _next }
+    ensures rise { RiseFrom 3 (handles_in (at_number _first.now.entries) (at_number _second.now.entries) _next) _next }
     ensures end { _next ≤ HANDLES_END }
 {}

@@ -27,6 +27,10 @@ impl Gate for Meeting {
             self.met.store(1, SeqCst);
         }
     }
+
+    fn is_open(&self) -> bool {
+        false
+    }
 }
 
 #[test]

@@ -6,6 +6,7 @@ use crate::draws::Draws;
 use crate::readings::call_of;
 use crate::sides::played;
 use egl_calls::{Journal, Outcome, Reply};
+use keyed_hash::HashKey;
 use shared_driver::{AttachError, Closed, Opened, Shared, Thread};
 use std::alloc::Global;
 use std::process::Abort;
@@ -32,7 +33,7 @@ pub fn opened_for<R: Abort>(rt: &R, alloc: Global, video: u64, most: u32) -> Ope
     requires most { (1 ≤ most) × (most ≤ 65536) }
     ensures { IsOf result.shared result.thread }
 {
-    match Shared::open_for(alloc, &[], video, most) {
+    match Shared::open_for(alloc, HashKey::PLAIN, &[], video, most) {
         Ok(opened) => opened,
         Err(_) => panic!(rt; "memory"),
     }

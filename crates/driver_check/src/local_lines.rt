@@ -64,6 +64,10 @@ impl Gate for Stages {
             self.at_second_line.store(1, SeqCst);
         }
     }
+
+    fn is_open(&self) -> bool {
+        false
+    }
 }
 
 /// Keeps its turn until the trace's thread is before its second line.

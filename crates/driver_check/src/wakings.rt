@@ -28,13 +28,13 @@ const BEHIND: &str =
 type Row = (&'static str, u32);
 
 /// What comes of that fence.
-static FENCES: [Row; 11] = [
+static FENCES: [Row; 22] = [
     ("0 glFlush\n", 20),
     ("0 glFinish\n", 20),
     ("0 eglMakeCurrent $d 0 0 0\n", 20),
     ("0 eglReleaseThread\n", 20),
     ("0 eglWaitClient\n", 20),
-    ("0 eglSwapBuffers $d $s\n0 glFlush\n", 20),
+    ("0 eglSwapBuffers $d $s\n", 20),
     ("0 eglWaitSync $d $y 0\n", 20),
     ("0 eglClientWaitSync $d $y 1 0\n", 20),
     // The end of a wait, whose line has an answer then.
@@ -42,12 +42,29 @@ static FENCES: [Row; 11] = [
         "0 glFlush\n0 $z = eglCreateSync $d EGL_SYNC_FENCE []\n1 $w = eglClientWaitSync $d $z 0 EGL_FOREVER\n3 eglInitialize $w\n0 eglGetError\n0 glFlush\n",
         20,
     ),
+    // Another context in its place, and the same once more.
+    (
+        "0 $e = eglCreateContext $d 4 0 []\n0 eglMakeCurrent $d $s $s $e\n",
+        20,
+    ),
+    ("0 eglMakeCurrent $d $s $s $c\n", 20),
+    // The context ends, once its thread lets go.
+    ("0 eglDestroyContext $d $c\n0 eglReleaseThread\n", 20),
+    ("0 eglDestroyContext $d $c\n0 eglMakeCurrent $d 0 0 0\n", 20),
+    ("3 eglTerminate $d\n0 eglReleaseThread\n", 20),
+    // Its sync is destroyed meanwhile.
+    ("3 eglDestroySync $d $y\n0 glFlush\n", 20),
+    ("0 glFlush\n0 eglDestroySync $d $y\n", 20),
     ("0 eglGetError\n", 0),
     ("0 eglDestroyContext $d $c\n", 0),
+    ("0 eglClientWaitSync $d $y 0 0\n", 0),
+    ("0 glReadPixels 0 0 1 1 GL_RGBA GL_UNSIGNED_BYTE\n", 0),
+    ("0 eglDestroySurface $d $s\n", 0),
+    ("3 eglReleaseThread\n", 0),
 ];
 
 /// Whole traces.
-static TRACES: [Row; 8] = [
+static TRACES: [Row; 12] = [
     // An answer, one without a turn, and two.
     (
         "egl-trace 1 2\n0 $d = eglGetDisplay 0\n1 eglInitialize $d\n1 post 1\n0 await 1\n",
@@ -70,6 +87,20 @@ static TRACES: [Row; 8] = [
         "egl-trace 1 2\n0 post 1\n1 await 1\n1 post 2\n0 await 2\n0 post 3\n1 await 3\n1 post 4\n0 await 4\n",
         20,
     ),
+    // Posts whose numbers are alike in their lowest bits, and the largest.
+    (
+        "egl-trace 1 2\n0 post 70000\n1 await 70000\n1 post 1\n0 await 1\n",
+        20,
+    ),
+    (
+        "egl-trace 1 2\n0 post 65537\n0 post 131073\n1 await 131073\n1 post 1\n0 await 1\n",
+        20,
+    ),
+    (
+        "egl-trace 1 2\n0 post 2147483647\n1 await 2147483647\n1 post 131072\n0 await 131072\n",
+        20,
+    ),
+    ("egl-trace 1 2\n0 post 65537\n1 await 1\n", 0),
     // Two that wait, one of three that comes to its end, and all but the first.
     ("egl-trace 1 2\n0 await 1\n1 await 2\n", 0),
     ("egl-trace 1 3\n0 eglGetError\n1 await 1\n2 await 1\n", 0),
@@ -90,6 +121,10 @@ impl<'a, R: Clock> Gate for LateGate<'a, R> {
         if thread == 0 {
             thread::sleep(self.rt, Duration::from_micros(NAP));
         }
+    }
+
+    fn is_open(&self) -> bool {
+        false
     }
 }
 

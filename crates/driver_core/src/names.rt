@@ -86,7 +86,7 @@ impl Driver {
         if self.tables.objects.is_group(group) {
             return self.tables.objects.generate(group, kind, count);
         }
-        Group::new(alloc).generate(kind, count)
+        Group::new(alloc, self.key).generate(kind, count)
     }
 
     /// Gives names of the context's group, and answers them.

@@ -1,7 +1,7 @@
 -- What a call touches, by how its step goes.
 use Rattle.std.proofs.Common.{◌≡◌, ◌≢◌, ℕ, zero, suc, ◌+◌, ◌<◌, ℤ, pos, Bool, true, false, List, [], ◌∷◌, ◌++◌, map, length, drop, drop-cons, get_or, refl, sym, ap, ◌∙◌, arith, append_assoc, Option, None, Some}
 use Rattle.egl_calls.specs.Errors.{is_done}
-use Rattle.std.specs.Prelude.{if◌then◌else◌, ◌||◌, IfSome}
+use Rattle.std.specs.Prelude.{if◌then◌else◌, IfSome}
 use Rattle.std.proofs.lemmas.List.{append-nil, drop_all}
 use Rattle.std.specs.List.{filter_map, cons_option}
 use Rattle.std.specs.Option.{option_map_or, option_and_then}
@@ -28,7 +28,7 @@ use Rattle.egl_model.specs.EglCalls.{egl_effect, egl_refusal}
 use Rattle.egl_model.specs.Effects.{outcome_of}
 use Rattle.egl_model.specs.GlCalls.{effect_by, gl_effect, object_effect, gl_refusal}
 use Rattle.egl_model.specs.Names.{group_of, object_named}
-use Rattle.egl_model.specs.Objects.{framebuffer_in, texture_in}
+use Rattle.egl_model.specs.Objects.{texture_in}
 use Rattle.egl_model.specs.OwnCalls.{buffer_effect, buffer_refusal}
 use Rattle.egl_model.specs.State.{State, record_of}
 use Rattle.egl_model.specs.Step.{after_gl_rules, buffer_step_on, egl_step, gl_step, own_step, step_by, wait_step}
@@ -36,7 +36,7 @@ use Rattle.egl_model.specs.Textures.{storage_at}
 use Rattle.egl_model.specs.Waits.{is_signalled, is_wait_end}
 use Rattle.model_laws.proofs.StepLaws.{egl_done, egl_refused, gl_done, gl_refused, gl_without_context, step_goes, step_waits}
 use Rattle.driver_facts.specs.declared.touches.Touches.{Touches}
-use Rattle.driver_facts.specs.Touches.{buffer_touches_on, egl_touches, gl_touches, gl_touches_on, is_attached, is_one_attached, levels_in, nothing, object, objects_named, own_touches, touches_by, touches_of, where_done}
+use Rattle.driver_facts.specs.Touches.{buffer_touches_on, egl_touches, gl_touches, gl_touches_on, levels_in, nothing, object, objects_named, own_touches, touches_by, touches_of, where_done}
 
 -- ---- A thread that waits.
 wait_nothing : (s : State) (t : ℕ) (c : CallValue) (k : Kind) (signalled : Bool) → where_done (wait_step s t (is_wait_end k) signalled) (touches_by s t k c) ≡ nothing
@@ -163,13 +163,6 @@ names_more s n k kind xs name o old new all l e f g h =
     ∙ append_assoc old (object (at (unsigned (get_or xs k (pos 0))))) rest
     ∙ ap (λ ys. old ++ ys) (sym (name_step s n k kind xs l))
     ∙ h
-
--- whether the object of one of the names from a place on is attached
-pub attached_step : (s : State) (n b k : ℕ) (kind : NameKind) (xs : List ℤ) (name : ℕ) (o : Option ℕ) (found : Bool) → k < length xs → name ≡ unsigned (get_or xs k (pos 0)) → o ≡ object_named s (group_of s n) kind name → found ≡ is_attached (framebuffer_in s.objects b) o
-    → is_one_attached s n kind (drop k xs) b ≡ (found || is_one_attached s n kind (drop (k + 1) xs) b)
-attached_step s n b k kind xs name o found l e f g =
-    ap (λ ys. is_one_attached s n kind ys b) (from_place xs k l)
-    ∙ ap (λ (w : Bool). w || is_one_attached s n kind (drop (k + 1) xs) b) (sym (g ∙ ap (is_attached (framebuffer_in s.objects b)) (f ∙ ap (object_named s (group_of s n) kind) e)))
 
 -- no level stands behind the last
 pub levels_end : (s : State) (x : ℕ) (new all : List ℤ) → IfSome (texture_in s.objects x) (λ y. length y.levels ≡ 11) → new ++ map pos (filled (drop 11 (levels_in s x))) ≡ all → new ≡ all

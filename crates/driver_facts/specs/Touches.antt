@@ -1,7 +1,7 @@
 -- What a call reads and writes, beside what its thread has for itself: objects, and what windows show.
-use Rattle.std.specs.Prelude.{ℕ, ℤ, pos, neg_ℤ, Bool, false, ◌||◌, List, [], ◌∷◌, ◌++◌, map, if◌then◌else◌, is_some, option_to_list, Option, None, Some}
+use Rattle.std.specs.Prelude.{ℕ, ℤ, pos, neg_ℤ, List, [], ◌∷◌, ◌++◌, map, if◌then◌else◌, is_some, option_to_list, Option, None, Some}
 use Rattle.egl_calls.specs.Errors.{is_done}
-use Rattle.std.specs.List.{filter_map, list_any}
+use Rattle.std.specs.List.{filter_map}
 use Rattle.std.specs.Option.{option_and_then, option_map_or}
 use Rattle.egl_calls.specs.Calls.{CallValue}
 use Rattle.egl_calls.specs.Ranges.{unsigned}
@@ -21,7 +21,7 @@ use Rattle.context_state.specs.Kinds.{context_gl_call}
 use Rattle.context_state.specs.Parts.{PartValue}
 use Rattle.context_state.specs.declared.kinds.ContextCall.{ContextCall}
 use Rattle.share_group.specs.declared.names.NameKind.TheVariants.{Texture as textures, Buffer as buffers, Renderbuffer as renderbuffers, Framebuffer as framebuffers}
-use Rattle.framebuffer_objects.specs.Framebuffers.{FramebufferValue, object_of}
+use Rattle.framebuffer_objects.specs.Framebuffers.{object_of}
 use Rattle.driver_objects.specs.Objects.{filled}
 use Rattle.share_group.specs.declared.names.NameKind.{NameKind}
 use Rattle.driver_objects.specs.declared.surfaces.BackedSurface.{BackedSurface}
@@ -32,7 +32,6 @@ use Rattle.egl_model.specs.Drawing.{clears_colour}
 use Rattle.egl_model.specs.Framebuffers.{bound_framebuffer, target_framebuffer}
 use Rattle.egl_model.specs.Names.{group_of, object_named}
 use Rattle.egl_model.specs.Objects.{framebuffer_in, texture_in}
-use Rattle.egl_model.specs.Parts.{is_place}
 use Rattle.egl_model.specs.Renderbuffers.{target_renderbuffer}
 use Rattle.egl_model.specs.State.{State, record_of}
 use Rattle.egl_model.specs.Step.{Stepped, step}
@@ -120,21 +119,8 @@ draw_touches s t n = drawing (sampled_by (part_of_context s n) s (target_texture
 abbrev pub objects_named : State → ℕ → NameKind → List ℤ → List ℤ
 objects_named s n k xs = map pos (filter_map (λ x. object_named s (group_of s n) k (unsigned x)) xs)
 
--- whether an object is attached to a framebuffer
-abbrev pub is_attached : Option FramebufferValue → Option ℕ → Bool
-is_attached (Some f) (Some x) = is_place x (object_of f.color) || (is_place x (object_of f.depth) || is_place x (object_of f.stencil))
-is_attached f x = false
-
--- the framebuffer that a context has bound, where the object of one of these names is attached to it
-abbrev pub is_one_attached : State → ℕ → NameKind → List ℤ → ℕ → Bool
-is_one_attached s n k xs b = list_any (λ x. is_attached (framebuffer_in s.objects b) (object_named s (group_of s n) k (unsigned x))) xs
-
-abbrev pub detached_framebuffer : State → ℕ → NameKind → List ℤ → Option ℕ
-detached_framebuffer s n k xs = option_and_then (λ b. if is_one_attached s n k xs b then Some b else None) (target_framebuffer s n)
-
--- a deletion detaches what it deletes from the framebuffer that the context has bound
 abbrev pub deletion_touches : State → ℕ → NameKind → List ℤ → Touches
-deletion_touches s n k xs = writing (objects_named s n k xs ++ object (detached_framebuffer s n k xs))
+deletion_touches s n k xs = writing (objects_named s n k xs)
 
 abbrev pub object_touches : State → ℕ → ℕ → GlKind → CallValue → Touches
 -- pixels of the surfaces, or of what is attached in their place
@@ -157,11 +143,10 @@ object_touches s t n GetBufferParameteriv c = reading (object (target_buffer s n
 -- the renderbuffer on which calls work
 object_touches s t n RenderbufferStorage c = writing (object (target_renderbuffer s n))
 object_touches s t n ImageTargetRenderbufferStorage c = writing (object (target_renderbuffer s n))
-object_touches s t n GetRenderbufferParameteriv c = reading (object (target_renderbuffer s n))
 -- the framebuffer on which calls work
 object_touches s t n FramebufferTexture2d c = writing (object (target_framebuffer s n))
 object_touches s t n FramebufferRenderbuffer c = writing (object (target_framebuffer s n))
--- what is deleted
+-- what is deleted; the framebuffer from which it is detached isn't counted
 object_touches s t n DeleteTextures c = deletion_touches s n textures c.list
 object_touches s t n DeleteBuffers c = deletion_touches s n buffers c.list
 object_touches s t n DeleteRenderbuffers c = deletion_touches s n renderbuffers c.list
@@ -179,7 +164,8 @@ object_touches s t n BindRenderbuffer c = nothing
 object_touches s t n GenFramebuffers c = nothing
 object_touches s t n IsFramebuffer c = nothing
 object_touches s t n BindFramebuffer c = nothing
--- what is asked of a framebuffer isn't counted
+-- what is asked of a renderbuffer or a framebuffer isn't counted
+object_touches s t n GetRenderbufferParameteriv c = nothing
 object_touches s t n CheckFramebufferStatus c = nothing
 object_touches s t n GetFramebufferAttachmentParameteriv c = nothing
 object_touches s t n k c = touches_by_role (gl_role k)

@@ -7,14 +7,12 @@ ghost use Rattle.egl_calls.specs.declared.kinds.GlKind.TheVariants.{Clear, CopyT
 ghost use Rattle.egl_calls.specs.declared.kinds.OwnKind.TheVariants.{ReadBuffer, ReadFront};
 ghost use Rattle.egl_model.specs.Currents.{bound_surface, current_context, part_of_context};
 ghost use Rattle.egl_model.specs.EglCalls.{egl_refusal};
-ghost use Rattle.egl_model.specs.Objects.{framebuffer_in};
-ghost use Rattle.egl_model.specs.Parts.{is_place};
 ghost use Rattle.egl_model.specs.State.{record_of};
 ghost use Rattle.egl_model.specs.Step.{egl_step, gl_step, own_step, step_by};
 ghost use Rattle.egl_model.specs.Textures.{target_texture};
 ghost use Rattle.thread_part.specs.Memory.{clears_nothing};
 ghost use Rattle.driver_facts.specs.Memory.{is_bare, is_bare_on};
-ghost use Rattle.driver_facts.specs.Touches.{color_object, deletion_touches, detached_framebuffer, draw_touches, egl_touches, front, gl_touches, gl_touches_on, is_attached, is_one_attached, levels_in, nothing, object, object_touches, objects_named, own_touches, pixels_read, reading, sampled_by, swap_of, target_objects, touches_by, touches_of, where_done, with_color, with_levels, writing};
+ghost use Rattle.driver_facts.specs.Touches.{color_object, deletion_touches, draw_touches, egl_touches, front, gl_touches, gl_touches_on, levels_in, nothing, object, object_touches, objects_named, own_touches, pixels_read, reading, sampled_by, swap_of, target_objects, touches_by, touches_of, where_done, with_color, with_levels, writing};
 ghost use Rattle.driver_facts.specs.Tables.{KnowsRoots, state_in};
 
 use crate::names::listed_name;
@@ -100,15 +98,6 @@ fn object(alloc: Global, found: Option<u64>) -> Result<Numbers, NoMemory>
     let mut numbers = Numbers::new(alloc);
     push_found(&mut numbers, found)?;
     Ok(numbers)
-}
-
-fn is_place(object: u64, place: Option<u64>) -> bool
-    ensures { result ≡ is_place object place }
-{
-    match place {
-        Some(found) => found == object,
-        None => false,
-    }
 }
 
 // Calls of EGL.
@@ -317,47 +306,6 @@ impl Tables {
         Ok(())
     }
 
-    /// Whether an object is attached to a framebuffer.
-    fn is_attached(&self, framebuffer: u64, object: Option<u64>) -> bool
-        ensures { result ≡ is_attached (framebuffer_in (state_in self.now).objects framebuffer) object }
-    {
-        let Some(framebuffer) = self.objects.framebuffer(framebuffer) else {
-            return false;
-        };
-        let Some(object) = object else {
-            return false;
-        };
-        is_place(object, framebuffer.part(Point::Color))
-            || is_place(object, framebuffer.part(Point::Depth))
-            || is_place(object, framebuffer.part(Point::Stencil))
-    }
-
-    /// Whether the object of one of the names of a call's list is attached to a framebuffer.
-    #[tactic(auto, using(crate::proofs::TouchLaws::attached_step))]
-    fn is_one_attached(&self, context: u64, kind: NameKind, call: &Call, framebuffer: u64) -> bool
-        ensures { result ≡ is_one_attached (state_in self.now) context kind call.now.list framebuffer }
-    {
-        'each: for k in 0..call.list.as_slice().len() {
-            let name = listed_name(call, k);
-            if self.is_attached(framebuffer, self.object_named(context, kind, name)) {
-                return true;
-            }
-        }
-        false
-    }
-
-    /// The framebuffer that a context has bound, where a deletion detaches something from it.
-    fn detached_framebuffer(&self, context: u64, kind: NameKind, call: &Call) -> Option<u64>
-        ensures { result ≡ detached_framebuffer (state_in self.now) context kind call.now.list }
-    {
-        let framebuffer = self.target_framebuffer(context)?;
-        if self.is_one_attached(context, kind, call, framebuffer) {
-            Some(framebuffer)
-        } else {
-            None
-        }
-    }
-
     fn deletion_touches(
         &self,
         alloc: Global,
@@ -369,7 +317,6 @@ impl Tables {
     {
         let mut writes = Numbers::new(alloc);
         self.push_named(&mut writes, context, kind, call)?;
-        push_found(&mut writes, self.detached_framebuffer(context, kind, call))?;
         Ok(writing(alloc, writes))
     }
 }
@@ -418,9 +365,6 @@ impl Tables {
             GlKind::RenderbufferStorage | GlKind::ImageTargetRenderbufferStorage => {
                 Ok(writing(alloc, object(alloc, self.target_renderbuffer(context))?))
             }
-            GlKind::GetRenderbufferParameteriv => {
-                Ok(reading(alloc, object(alloc, self.target_renderbuffer(context))?))
-            }
             GlKind::FramebufferTexture2d | GlKind::FramebufferRenderbuffer => {
                 Ok(writing(alloc, object(alloc, self.target_framebuffer(context))?))
             }
@@ -437,7 +381,7 @@ impl Tables {
             GlKind::DeleteFramebuffers => {
                 self.deletion_touches(alloc, context, NameKind::Framebuffer, call)
             }
-            // names alone, or what a context has flushed; it isn't proved of a call that has no line
+            // names alone, a question, or what a context has flushed; it isn't proved of a call that has no line
             _ => Ok(nothing(alloc)),
         }
     }

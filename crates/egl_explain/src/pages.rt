@@ -1,4 +1,6 @@
 //! A text for people, which grows piece by piece.
+ghost use Rattle.std.specs.Prelude.{◌≡◌, true, false, IfOk, IfErr};
+
 use egl_calls::{Bytes, NoMemory};
 use journal_text::put_hex;
 use journal_text::texts::{put_byte, put_decimal, put_number, put_text};
@@ -45,7 +47,11 @@ impl Page {
     }
 
     /// The text, where there was memory for each piece of it.
-    pub fn into_text(self) -> Result<Bytes, NoMemory> {
+    pub fn into_text(self) -> Result<Bytes, NoMemory>
+        ensures whole { IfOk result (λ _. self.is_whole ≡ true) }
+        ensures text { IfOk result (λ t. t ≡ self.text) }
+        ensures lacks { IfErr result (λ _. self.is_whole ≡ false) }
+    {
         if self.is_whole {
             Ok(self.text)
         } else {
@@ -54,8 +60,14 @@ impl Page {
     }
 
     // Notes whether a piece was put.
-    fn note(&mut self, put: Result<(), NoMemory>) {
-        self.is_whole &= put.is_ok();
+    fn note(&mut self, put: Result<(), NoMemory>)
+        ensures ok { IfOk put (λ _. self.new.is_whole ≡ self.old.is_whole) }
+        ensures err { IfErr put (λ _. self.new.is_whole ≡ false) }
+        ensures text { self.new.text ≡ self.old.text }
+    {
+        if put.is_err() {
+            self.is_whole = false;
+        }
     }
 
     pub fn put(&mut self, text: &str) {

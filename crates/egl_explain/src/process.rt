@@ -1,23 +1,30 @@
 //! The program's edge: standard input and standard output.
 use crate::explaining::explain;
 use crate::pages::Look;
+use egl_calls::NoMemory;
 use egl_flow::{
     MOST_INPUT, READ_FAULT_TEXT, ReadError, Status, StdSink, StdSource, TOO_LONG_TEXT, Waiting,
     finish, read_all,
 };
 use std::alloc::Global;
+use std::env;
 use std::env::VarError;
-use std::io::IsTerminal;
+use std::io::{ErrorKind, IsTerminal};
 use std::rt::{Env, Stdin, Stdout};
 use std::time::Clock;
-use std::{env, io};
 
 /// What is said to words, of which the program takes none.
 const USAGE: &[u8] = b"usage: egl_explain < TRACE\n";
 
-/// How many words stand behind the program's own name.
-fn count_words<R: Env + AllocGlobal>(rt: &R) -> io::Result<usize> {
-    Ok(env::args(rt)?.skip(1).count())
+/// Whether no word stands behind the program's own name. One that isn't UTF-8 is a word.
+fn has_no_words<R: Env + AllocGlobal>(rt: &R) -> Result<bool, NoMemory> {
+    match env::args(rt) {
+        Ok(args) => Ok(args.skip(1).count() == 0),
+        Err(error) => match error.kind() {
+            ErrorKind::OutOfMemory => Err(NoMemory),
+            _ => Ok(false),
+        },
+    }
 }
 
 /// Whether the variable NO_COLOR has a value.
@@ -33,9 +40,10 @@ pub fn run<R: Env + Clock + AllocGlobal>(rt: &R, input: Stdin, output: Stdout) -
     let alloc = rt.alloc();
     let terminal = output.is_terminal();
     let mut sink = StdSink::new(output);
-    match count_words(rt) {
-        Ok(0) => {}
-        _ => return finish(&mut sink, Status::Usage, USAGE),
+    match has_no_words(rt) {
+        Ok(true) => {}
+        Ok(false) => return finish(&mut sink, Status::Usage, USAGE),
+        Err(_) => return Status::NoMemory,
     }
     let look = Look {
         coloured: terminal && !is_colourless(rt),

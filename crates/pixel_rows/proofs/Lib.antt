@@ -6,4 +6,8 @@ pub mod Loading
 pub mod Lines
 pub mod Holding
 pub mod RowWrites
+pub mod LaneCells
+pub mod LaneRows
+pub mod RowBytes
+pub mod LaneWords
 pub mod LawsHold

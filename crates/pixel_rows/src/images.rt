@@ -2,8 +2,10 @@
 
 ghost use Rattle.std.specs.Prelude.{◌≡◌, ℕ, ◌+◌, ◌-◌, ◌*◌, ◌<◌, ◌≤◌, length, slice_index_or, true, IsOk, OnOk, OnErr, IfOk, IfErr};
 ghost use Rattle.pixel_formats.specs.declared.formats.Format.TheVariants.{Rgba8888};
+ghost use Rattle.pixel_rows.specs.Cells.{seen};
 ghost use Rattle.pixel_rows.specs.Images as values;
 ghost use Rattle.pixel_rows.specs.Images.{IsImage, IsSameShape, blank, no_pixel, pixel_at};
+ghost use Rattle.pixel_rows.specs.Lanes.{scaled};
 ghost use Rattle.pixel_rows.specs.Masks.{every};
 ghost use Rattle.pixel_rows.specs.Painting.{painted};
 ghost use Rattle.pixel_rows.specs.Payloads.{loaded};
@@ -16,9 +18,10 @@ use crate::cells::Cells;
 use crate::masks::Mask;
 use crate::rects::Rect;
 use crate::rows::{
-    Rows, copy_rows, fill_rows, gather_row, load_rows, own, owns, pixel_in_rows, put_row, refreeze,
-    reload_rows,
+    Rows, cells_of, copy_rows, fill_rows, gather_row, gather_scaled_row, lay_row, load_rows, own,
+    owns, pixel_in_rows, put_row, refreeze,
 };
+use crate::runs::read_cells;
 use crate::{rows, transfers};
 use egl_calls::{Bytes, NoMemory};
 use pixel_formats::{Format, Pixel};
@@ -30,8 +33,7 @@ use thiserror::Error;
 /// A format and rows of pixels, row 0 the lowest. Sides are at most 2,048 pixels.
 ///
 /// A pixel is kept in the bytes of the format, one to four of them. The bytes are the image's own, or
-/// they are frozen: then other images may share them, and the first write gives the image its own, but
-/// for `reload_rows`.
+/// they are frozen: then other images may share them, and the first write gives the image its own.
 pub struct Image {
     pub(crate) format: Format,
     pub(crate) width: u32,
@@ -186,6 +188,19 @@ impl Image {
         pixel_in_rows(&self.rows, place, self.format)
     }
 
+    /// Reads the pixels of some columns of a row, at 8 bits a component: four bytes each, as `Rgba8888`
+    /// keeps them.
+    pub fn read_row(&self, row: u32, columns: &[u32], cells: &mut [[u8; 4]])
+        requires long { length cells.old ≡ length columns.now }
+        requires row { row < self.now.height }
+        requires columns { (k : ℕ) → k < length columns.now → slice_index_or columns.now k 0 < self.now.width }
+        ensures long { length cells.new ≡ length cells.old }
+        ensures each { (k : ℕ) → k < length columns.now → slice_index_or (seen Rgba8888 cells.new) k no_pixel ≡ pixel_at self.now (slice_index_or columns.now k 0) row }
+    {
+        let first = row as usize * self.width as usize;
+        read_cells(cells, cells_of(&self.rows), first, columns, self.format);
+    }
+
     /// Writes one pixel. Want of memory leaves the image as it was, and it comes only where the bytes
     /// aren't the image's own.
     pub fn put(&mut self, x: u32, y: u32, p: Pixel, mask: Mask) -> Result<(), NoMemory>
@@ -231,6 +246,22 @@ impl Image {
         Ok(())
     }
 
+    /// Writes a row of pixels from column `x` of row `y` on, each of four bytes, as `Rgba8888` keeps them.
+    /// Want of memory leaves the image as it was, and it comes only where the bytes aren't the image's own.
+    pub fn lay_row(&mut self, x: u32, y: u32, row: &[[u8; 4]], mask: Mask) -> Result<(), NoMemory>
+        requires { (x + length row.now ≤ self.old.width) × (y < self.old.height) }
+        ensures ok { OnOk result (self.new ≡ painted self.old (is_in_run x y (length row.now)) (λ u _. slice_index_or (seen Rgba8888 row.now) (u - x) no_pixel) mask) }
+        ensures shape { IsSameShape self.old self.new }
+        ensures whole { IsImage self.new }
+        ensures err { OnErr result (self.new ≡ self.old) }
+        ensures room { self.old.owned ≡ true → IsOk result }
+    {
+        let at = y as usize * self.width as usize + x as usize;
+        own(&mut self.rows)?;
+        lay_row(&mut self.rows, at, row, self.format, mask);
+        Ok(())
+    }
+
     /// Writes the pixels of some columns of a row of an image of the same format, from column `x` of
     /// row `y` on: a copy of bytes where each column is the next one. Want of memory leaves the image
     /// as it was, and it comes only where the bytes aren't the image's own.
@@ -256,6 +287,43 @@ impl Image {
         let first = row as usize * from.width as usize;
         own(&mut self.rows)?;
         gather_row(&mut self.rows, at, &from.rows, first, columns, self.format);
+        Ok(())
+    }
+
+    /// Writes the pixels of some columns of a row of an image, each multiplied by a colour, from column
+    /// `x` of row `y` on, both images at 8 bits a component in `Rgba8888`. Want of memory leaves the image
+    /// as it was, and it comes only where the bytes aren't the image's own.
+    pub fn gather_scaled_row(
+        &mut self,
+        x: u32,
+        y: u32,
+        from: &Image,
+        columns: &[u32],
+        row: u32,
+        by: Pixel,
+    ) -> Result<(), NoMemory>
+        requires format { (self.old.format ≡ Rgba8888) × (from.now.format ≡ Rgba8888) }
+        requires place { (x + length columns.now ≤ self.old.width) × (y < self.old.height) }
+        requires row { row < from.now.height }
+        requires columns { (k : ℕ) → k < length columns.now → slice_index_or columns.now k 0 < from.now.width }
+        ensures ok { OnOk result (self.new ≡ painted self.old (is_in_run x y (length columns.now)) (λ u _. scaled by (pixel_at from.now (slice_index_or columns.now (u - x) 0) row)) every) }
+        ensures shape { IsSameShape self.old self.new }
+        ensures whole { IsImage self.new }
+        ensures err { OnErr result (self.new ≡ self.old) }
+        ensures room { self.old.owned ≡ true → IsOk result }
+    {
+        let at = y as usize * self.width as usize + x as usize;
+        let first = row as usize * from.width as usize;
+        own(&mut self.rows)?;
+        gather_scaled_row(
+            &mut self.rows,
+            at,
+            &from.rows,
+            first,
+            columns,
+            self.format,
+            by,
+        );
         Ok(())
     }
 
@@ -313,36 +381,6 @@ impl Image {
             from,
         );
         Ok(())
-    }
-
-    /// Writes a rectangle of pixels from bytes as `load_rows`, but a frozen image stays frozen: it is
-    /// written in place where no other image shares its bytes, and else in a copy. Want of memory leaves
-    /// the image as it was, and it comes only where the bytes aren't the image's own.
-    pub fn reload_rows(
-        &mut self,
-        rect: Rect,
-        bytes: &Bytes,
-        from: Format,
-        align: u32,
-    ) -> Result<(), NoMemory>
-        requires rect { IsInside rect self.old.width self.old.height }
-        requires alignment { IsAlignment align }
-        ensures ok { OnOk result (self.new ≡ record (loaded self.old rect bytes.now from align) { owned = self.old.owned }) }
-        ensures shape { IsSameShape self.old self.new }
-        ensures whole { IsImage self.new }
-        ensures err { OnErr result (self.new ≡ self.old) }
-        ensures room { self.old.owned ≡ true → IsOk result }
-    {
-        let target = block_of(rect, self.width, self.height);
-        reload_rows(
-            &mut self.rows,
-            self.width as usize,
-            target,
-            bytes.as_slice(),
-            align,
-            self.format,
-            from,
-        )
     }
 
     /// Writes each pixel of an image of the same sides, at 8 bits a component in `Rgba8888`. Want of memory leaves the image as it was, and it

@@ -12,12 +12,14 @@ mod copies;
 mod fills;
 mod images;
 mod kernels;
+mod lanes;
 mod laws;
 mod loads;
 mod masks;
 mod rects;
 mod rows;
 mod runs;
+mod strips;
 mod transfers;
 
 pub use images::{FreezeError, Image};
@@ -26,3 +28,4 @@ pub use laws::{
 };
 pub use masks::Mask;
 pub use rects::Rect;
+pub use strips::{scale_row, set_row};

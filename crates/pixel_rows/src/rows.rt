@@ -4,9 +4,11 @@ ghost use Rattle.std.specs.Prelude.{◌≡◌, ℕ, ◌+◌, ◌-◌, ◌*◌, �
 ghost use Rattle.std.specs.Arc.{arc_value};
 ghost use Rattle.pixel_formats.specs.Formats as formats;
 ghost use Rattle.pixel_formats.specs.Pixels.{quantize};
+ghost use Rattle.pixel_formats.specs.declared.formats.Format.TheVariants.{Rgba8888};
 ghost use Rattle.pixel_rows.specs.Blocks.{in_block, in_range, Rewritten};
-ghost use Rattle.pixel_rows.specs.Cells.{HasForm, SameCells, cells_in, seen};
+ghost use Rattle.pixel_rows.specs.Cells.{HasForm, SameCells, seen};
 ghost use Rattle.pixel_rows.specs.Images.{no_pixel};
+ghost use Rattle.pixel_rows.specs.Lanes.{scaled};
 ghost use Rattle.pixel_rows.specs.Masks as masks;
 ghost use Rattle.pixel_rows.specs.Payloads.{payload_pixel};
 ghost use Rattle.pixel_rows.specs.Rows as values;
@@ -20,7 +22,7 @@ use crate::copies::copy_cells;
 use crate::fills::fill_block;
 use crate::loads::load_block;
 use crate::masks::Mask;
-use crate::runs::{gather_cells, put_cells};
+use crate::runs::{gather_cells, gather_scaled_cells, lay_cells, put_cells};
 use crate::transfers::stride;
 use egl_calls::NoMemory;
 use pixel_formats::{Format, Pixel, bytes_of};
@@ -196,76 +198,6 @@ pub(crate) fn load_rows(
     }
 }
 
-/// Writes the pixels of a block of frozen cells from a payload whose rows have `long` bytes: in place
-/// where no other image shares them, and else in a copy, which replaces them once it is frozen. Want of
-/// memory leaves them as they were.
-fn load_frozen(
-    shared: &mut Arc<Cells>,
-    width: usize,
-    block: Block,
-    bytes: &[u8],
-    long: usize,
-    f: Format,
-    from: Format,
-) -> Result<(), NoMemory>
-    requires columns { (block.left ≤ block.right) × (block.right ≤ width) × (width ≤ 2048) }
-    requires rows { (block.bottom ≤ block.top) × (block.top ≤ 2048) × (block.top * width ≤ length (cells_in (arc_value shared.old))) }
-    requires long { long ≤ 8200 }
-    requires form { HasForm f (arc_value shared.old) }
-    ensures pixels { OnOk result (Rewritten no_pixel (in_block width block) (λ k _. quantize f (payload_pixel bytes.now from long (k % width - block.left) (k / width - block.bottom))) (seen f (cells_in (arc_value shared.old))) (seen f (cells_in (arc_value shared.new)))) }
-    ensures form { HasForm f (arc_value shared.new) }
-    ensures err { OnErr result (arc_value shared.new ≡ arc_value shared.old) }
-{
-    if let Some(cells) = Arc::get_mut(shared) {
-        load_block(cells, width, block, bytes, long, f, from);
-        return Ok(());
-    }
-    let mut copy = shared.copy()?;
-    load_block(&mut copy, width, block, bytes, long, f, from);
-    match Arc::new(copy.allocator(), copy) {
-        Ok(frozen) => {
-            *shared = frozen;
-            Ok(())
-        }
-        Err(_) => Err(NoMemory),
-    }
-}
-
-/// Writes the pixels of a block from a payload, as `load_rows`, and leaves frozen rows frozen: they take
-/// memory only where other images share them.
-pub(crate) fn reload_rows(
-    rows: &mut Rows,
-    width: usize,
-    block: Block,
-    bytes: &[u8],
-    align: u32,
-    f: Format,
-    from: Format,
-) -> Result<(), NoMemory>
-    requires columns { (block.left ≤ block.right) × (block.right ≤ width) × (width ≤ 2048) }
-    requires rows { (block.bottom ≤ block.top) × (block.top ≤ 2048) × (block.top * width ≤ length (cells_in_rows rows.old)) }
-    requires alignment { IsAlignment align }
-    requires form { HasForm f (values.cells_of rows.old) }
-    ensures pixels { OnOk result (Rewritten no_pixel (in_block width block) (λ k _. quantize f (payload_pixel bytes.now from (transfers.stride ((block.right - block.left) * formats.bytes_of from) align) (k % width - block.left) (k / width - block.bottom))) (seen f (cells_in_rows rows.old)) (seen f (cells_in_rows rows.new))) }
-    ensures form { HasForm f (values.cells_of rows.new) }
-    ensures owned { is_owned rows.new ≡ is_owned rows.old }
-    ensures err { OnErr result (values.cells_of rows.new ≡ values.cells_of rows.old) }
-    ensures room { is_owned rows.old ≡ true → IsOk result }
-{
-    let long = stride((block.right - block.left) * bytes_of(from) as usize, align);
-    match rows {
-        Rows::Owned(cells) => {
-            load_block(cells, width, block, bytes, long, f, from);
-            Ok(())
-        }
-        Rows::Alone(cells) => {
-            load_block(cells, width, block, bytes, long, f, from);
-            Ok(())
-        }
-        Rows::Frozen(shared) => load_frozen(shared, width, block, bytes, long, f, from),
-    }
-}
-
 /// Writes the pixels of rows of the format `from` over as many of an image's own.
 pub(crate) fn copy_rows(rows: &mut Rows, source: &Rows, f: Format, from: Format)
     requires owned { is_owned rows.old ≡ true }
@@ -307,6 +239,34 @@ pub(crate) fn gather_row(
     }
 }
 
+/// The same of a format of four bytes, where each pixel is multiplied by a colour.
+pub(crate) fn gather_scaled_row(
+    rows: &mut Rows,
+    at: usize,
+    source: &Rows,
+    first: usize,
+    columns: &[u32],
+    f: Format,
+    by: Pixel,
+)
+    requires four { 4 ≡ formats.bytes_of f }
+    requires owned { is_owned rows.old ≡ true }
+    requires form { HasForm f (values.cells_of rows.old) }
+    requires source { HasForm f (values.cells_of source.now) }
+    requires range { at + length columns.now ≤ length (cells_in_rows rows.old) }
+    requires columns { (k : ℕ) → k < length columns.now → first + slice_index_or columns.now k 0 < length (cells_in_rows source.now) }
+    ensures pixels { Rewritten no_pixel (in_range at (at + length columns.now)) (λ k _. scaled by (slice_index_or (seen f (cells_in_rows source.now)) (first + slice_index_or columns.now (k - at) 0) no_pixel)) (seen f (cells_in_rows rows.old)) (seen f (cells_in_rows rows.new)) }
+    ensures form { HasForm f (values.cells_of rows.new) }
+    ensures owned { is_owned rows.new ≡ true }
+{
+    match rows {
+        Rows::Owned(cells) => {
+            gather_scaled_cells(cells, at, cells_of(source), first, columns, f, by)
+        }
+        Rows::Frozen(_) | Rows::Alone(_) => unreachable!(),
+    }
+}
+
 /// Writes a row of pixels under a mask over an image's own, from the place `at` on.
 pub(crate) fn put_row(rows: &mut Rows, at: usize, row: &[Pixel], f: Format, mask: Mask)
     requires owned { is_owned rows.old ≡ true }
@@ -332,5 +292,20 @@ pub(crate) fn pixel_in_rows(rows: &Rows, place: usize, f: Format) -> Pixel
         Cells::Two(cells) => pixel_in(f, cells[place]),
         Cells::Three(cells) => pixel_in(f, cells[place]),
         Cells::Four(cells) => pixel_in(f, cells[place]),
+    }
+}
+
+/// Writes a row of cells of `Rgba8888` under a mask over an image's own, from the place `at` on.
+pub(crate) fn lay_row(rows: &mut Rows, at: usize, row: &[[u8; 4]], f: Format, mask: Mask)
+    requires owned { is_owned rows.old ≡ true }
+    requires form { HasForm f (values.cells_of rows.old) }
+    requires range { at + length row.now ≤ length (cells_in_rows rows.old) }
+    ensures pixels { Rewritten no_pixel (in_range at (at + length row.now)) (λ k old. masks.written f mask old (slice_index_or (seen Rgba8888 row.now) (k - at) no_pixel)) (seen f (cells_in_rows rows.old)) (seen f (cells_in_rows rows.new)) }
+    ensures form { HasForm f (values.cells_of rows.new) }
+    ensures owned { is_owned rows.new ≡ true }
+{
+    match rows {
+        Rows::Owned(cells) => lay_cells(cells, at, row, f, mask),
+        Rows::Frozen(_) | Rows::Alone(_) => unreachable!(),
     }
 }

@@ -53,6 +53,21 @@ pub fn defect_of(line: &str) -> Option<(&str, &str)> {
     }
 }
 
+/// How many times a line stands behind a word, and the line.
+fn counted<'a>(word: &str, text: &'a str) -> Result<(u64, &'a str)> {
+    let (count, line) = text
+        .split_once(' ')
+        .context(format_args!("`{word}` wants a count and a line"))?;
+    let count = count
+        .parse::<u64>()
+        .context(format_args!("`{word}` wants a count"))?;
+    ensure!(
+        count <= MOST_BYTES,
+        "a `{word}` has more bytes than an input may have"
+    );
+    Ok((count, line))
+}
+
 impl Draft {
     pub fn new(alloc: Global) -> Result<Draft> {
         let output = String::from_str(alloc, "recording\n")?;
@@ -84,17 +99,8 @@ impl Draft {
 
     /// Adds a line so many times; or once, with its last byte so many times.
     fn add_counted(&mut self, word: &str, text: &str) -> Result<()> {
-        let (count, line) = text
-            .split_once(' ')
-            .context(format_args!("`{word}` wants a count and a line"))?;
-        let count = count
-            .parse::<u64>()
-            .context(format_args!("`{word}` wants a count"))?;
+        let (count, line) = counted(word, text)?;
         ensure!(parted(line).1.is_none(), "a `{word}` has no answer");
-        ensure!(
-            count <= MOST_BYTES,
-            "a `{word}` has more bytes than an input may have"
-        );
         if word == "repeat" {
             for _ in 0..count {
                 self.put_line(line)?;
@@ -147,8 +153,15 @@ impl Draft {
         Ok(())
     }
 
-    /// Adds a line of the recording that stands there as it is. The recording is written out behind its first line.
+    /// Adds a line of the recording that stands there as it is, or so many times. The recording is written out behind its first line.
     pub fn add_outcome(&mut self, line: &str) -> Result<()> {
+        if let Some(text) = line.strip_prefix("repeat ") {
+            let (count, line) = counted("repeat", text)?;
+            for _ in 0..count {
+                self.add_output(line)?;
+            }
+            return Ok(());
+        }
         if line == "recording" {
             ensure!(
                 !self.has_answers,

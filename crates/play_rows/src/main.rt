@@ -4,6 +4,8 @@
 //! - `serial` and `play` play the examples by that command, and `pictures` holds what the traces of scenes draw against
 //!   their pictures. For each that differs it prints where it stands, its heading, and the first line that is wanted and
 //!   found.
+//! - `any_order` plays them by `play`, and compares what is left at the end, and for each line whether it was refused, and by
+//!   which error: threads at once may play the lines in another order, and number what they make otherwise.
 //! - `read` prints each example as it is read.
 //! - `refused` compares why each text of the file is no file of examples.
 //! - `explained` compares what `egl_explain` tells of a file's input with the text behind it, and `show` prints it.
@@ -26,7 +28,7 @@ use drafts::Example;
 use escapes::push_unescaped;
 use explaining::{is_explained, show};
 use long_run::long_run;
-use playing::{PICTURES, is_as_wanted, play_stdin};
+use playing::{ANY_ORDER, PICTURES, is_as_wanted, play_stdin};
 use reading::examples_of;
 use std::process::ExitCode;
 use std::rt::Files;
@@ -172,6 +174,7 @@ fn main(rt: HostRuntime) -> Result<ExitCode> {
         match word.as_str() {
             "serial" => task = Task::Play("serial"),
             "play" => task = Task::Play("play"),
+            "any_order" => task = Task::Play(ANY_ORDER),
             "pictures" => task = Task::Play(PICTURES),
             "read" => task = Task::Read,
             "refused" => task = Task::Refuse,

@@ -16,6 +16,9 @@ const ROOM: u64 = 33_554_432;
 /// By this word an example is a scene, whose trace is played by turns.
 pub const PICTURES: &str = "pictures";
 
+/// By this word an example is played by threads at once, which may play it in another order.
+pub const ANY_ORDER: &str = "any_order";
+
 /// The words of a command as the program is given them.
 fn words_of(alloc: Global, command: &str) -> Result<Vec<Text>> {
     let mut words = Vec::new(alloc);
@@ -111,6 +114,54 @@ fn found<R: AllocGlobal + Threads + Wait + Sync>(
     Ok((status, String::from_str(rt.alloc(), text)?))
 }
 
+/// How many lines of a trace came to their end, by the entries of its recording behind their first line.
+fn ended(entries: &str) -> u64 {
+    let mut count = 0u64;
+    for entry in entries.split('\n').skip(1) {
+        if !entry.ends_with(" waiting 0 [] -") {
+            count = count.saturating_add(1);
+        }
+    }
+    count
+}
+
+/// What begins the line of an entry: its thread, its line and its outcome. Nothing of the begin of a wait.
+fn beginning(alloc: Global, entry: &str) -> Result<String> {
+    let mut words = entry.split(' ');
+    match (words.next(), words.next(), words.next()) {
+        (Some(thread), Some(line), Some(outcome)) if outcome != "waiting" => {
+            Ok(format!(in alloc; "\n{thread} {line} {outcome} ")?)
+        }
+        _ => Ok(String::new(alloc)),
+    }
+}
+
+/// Whether two recordings have the same lines behind their entries, and the same lines of the trace have the same outcomes, in whichever order they stand and whatever their answers are.
+fn come_out_alike(alloc: Global, wanted: &str, found: &str) -> Result<bool> {
+    let parts = (
+        wanted.split_once("\ncensus "),
+        found.split_once("\ncensus "),
+    );
+    let (Some((wanted, wanted_ends)), Some((found, ends))) = parts else {
+        return Ok(false);
+    };
+    for entry in wanted.split('\n').skip(1) {
+        if !found.contains(beginning(alloc, entry)?.as_str()) {
+            return Ok(false);
+        }
+    }
+    Ok(ended(wanted) == ended(found) && ends == wanted_ends)
+}
+
+/// Whether what is found is what a player is to find.
+fn is_same(alloc: Global, player: &str, wanted: &str, found: &str) -> Result<bool> {
+    if player == ANY_ORDER {
+        come_out_alike(alloc, wanted, found)
+    } else {
+        Ok(found == wanted)
+    }
+}
+
 /// Plays an example of a file by its own command, or else by the one that is named, and prints how the answer differs from the one that is wanted.
 pub fn is_as_wanted<R: Print + AllocGlobal + Threads + Wait + Sync>(
     rt: &R,
@@ -120,14 +171,16 @@ pub fn is_as_wanted<R: Print + AllocGlobal + Threads + Wait + Sync>(
 ) -> Result<bool> {
     let word = match &example.command {
         Some(command) => command.as_str(),
+        None if player == ANY_ORDER => "play",
         None => player,
     };
     let (status, text) = found(rt, player, word, example.input.as_slice())?;
     let found = text.as_str();
-    if status == example.status && found == example.output.as_str() {
+    let wanted = example.output.as_str();
+    if status == example.status && is_same(rt.alloc(), player, wanted, found)? {
         return Ok(true);
     }
-    let (wanted, found) = first_difference(example.output.as_str(), found);
+    let (wanted, found) = first_difference(wanted, found);
     println!(rt;
         "{word} {file}:{}: {}\n  wanted, with status {}: {wanted}\n  found, with status {status}: {found}",
         example.line,

@@ -1,5 +1,6 @@
 pub mod PickLaws
 pub mod WorkLaws
+pub mod RunLaws
 pub mod PlayLaws
 pub mod Sending
 pub mod HiddenLaws

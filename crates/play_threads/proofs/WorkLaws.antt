@@ -42,9 +42,9 @@ use Rattle.shared_driver.specs.declared.picks.Pick.{Pick}
 use Rattle.shared_driver.specs.declared.picks.Pick.TheVariants.{Call, Wait, Stop}
 use Rattle.shared_driver.specs.declared.picks.Picked.{Picked}
 use Rattle.shared_driver.specs.declared.picks.Picked.TheVariants.{Replied, Waited, Stopped}
-use Rattle.play_threads.specs.Picks.{HasLearnt, IsOver, IsPickOf, MayLook, Picks}
+use Rattle.play_threads.specs.Picks.{HasLearnt, IsOver, IsPickOf, KnowsOwn, MayLook, Picks}
 use Rattle.play_threads.specs.Work.{GaveUp, PlayLone, PlaysLone}
-use Rattle.play_threads.proofs.PickLaws.{knows_all, learnt_longer, learnt_of, learnt_own, learnt_told, of_number-append, of_number-past, of_others, of_own}
+use Rattle.play_threads.proofs.PickLaws.{knows_all, knows_longer, learnt_longer, learnt_of, learnt_own, learnt_told, of_number-append, of_number-past, of_others, of_own}
 
 -- ---- A thread plays its lines, whatever others add.
 pub plays_past : (t : TraceValue) (thread : ℕ) (es more : List Entry) → All (λ e. e.thread ≢ thread) more → PlaysAs t thread es → PlaysAs t thread (es ++ more)
@@ -262,16 +262,16 @@ abbrev pub Turned : State → Token → LinePicker → Picked → LinePicker →
 Turned o u p r q v = (es : List Entry) × (d : Machine) × (k : Pick) × IsSeenAtTurn o u es d × Picks p es d k q × ComesOf u es k r v
 
 -- in a turn a picker may look: it knows its own entries, and others' as far as it has looked
-pub may_look : (u : Token) (p : LinePicker) (t : TraceValue) (n : ℕ) → u.number ≡ n → p.thread ≡ n → p.session.trace ≡ t → n < t.threads → HasLearnt p (mine u) u.seen → (es : List Entry) (d : Machine) → IsAtTurn u es → u.number < d.made → MayLook p es d
+pub may_look : (u : Token) (p : LinePicker) (t : TraceValue) (n : ℕ) → u.number ≡ n → p.thread ≡ n → p.session.trace ≡ t → n < t.threads → KnowsOwn p p.answered (mine u) u.seen → (es : List Entry) (d : Machine) → IsAtTurn u es → u.number < d.made → MayLook p es d
 may_look u p t n same own of below h es d (between, others, is) made = record {
   learnt =
-      let P : List Entry → Type 0 = λ xs. HasLearnt p (of_number p.thread xs) xs in
+      let P : List Entry → Type 0 = λ xs. KnowsOwn p p.answered (of_number p.thread xs) xs in
       let none : of_others p.thread between = not_owned u p.thread between (inl (own ∙ sym same)) others in
       let whole : mine u ≡ of_number p.thread ((u.seen ++ between) ++ u.tail) =
       ap (λ m. of_number m (u.seen ++ u.tail)) (same ∙ sym own) ∙ of_number-append p.thread u.seen u.tail ∙ ap (λ l. l ++ of_number p.thread u.tail) (sym (of_number-past p.thread u.seen between none))
       ∙ sym (of_number-append p.thread (u.seen ++ between) u.tail) in
-      let longer : HasLearnt p (of_number p.thread ((u.seen ++ between) ++ u.tail)) (u.seen ++ (between ++ u.tail)) = learnt_longer p (mine u) (of_number p.thread ((u.seen ++ between) ++ u.tail)) u.seen (between ++ u.tail) whole h in
-      let Q : List Entry → Type 0 = λ xs. HasLearnt p (of_number p.thread ((u.seen ++ between) ++ u.tail)) xs in
+      let longer : KnowsOwn p p.answered (of_number p.thread ((u.seen ++ between) ++ u.tail)) (u.seen ++ (between ++ u.tail)) = knows_longer p p.answered (mine u) (of_number p.thread ((u.seen ++ between) ++ u.tail)) u.seen (between ++ u.tail) whole h in
+      let Q : List Entry → Type 0 = λ xs. KnowsOwn p p.answered (of_number p.thread ((u.seen ++ between) ++ u.tail)) xs in
       subst P (sym is) (subst Q (sym (append_assoc u.seen between u.tail)) longer);
   thread = let Q : TraceValue → Type 0 = λ x. p.thread < x.threads in subst Q (sym of) (subst (λ m. m < t.threads) (sym own) below);
   made = subst (λ m. m < d.made) (same ∙ sym own) made;

@@ -1,6 +1,7 @@
 -- What a worker picks in its turn.
-use Rattle.std.specs.Prelude.{◌≡◌, ◌≢◌, ◌⊎◌, ℕ, ◌<◌, ◌≤◌, Bool, true, false, not, ◌&&◌, ◌==◌, nat_le, List, length, take, Some}
+use Rattle.std.specs.Prelude.{◌≡◌, ◌≢◌, ◌⊎◌, ℕ, ◌<◌, ◌≤◌, Bool, true, false, not, ◌&&◌, ◌==◌, nat_le, List, [], ◌∷◌, ◌++◌, length, take, Option, None, Some}
 use Rattle.std.specs.List.{list_any}
+use Rattle.egl_calls.specs.Calls.{ReplyValue}
 use Rattle.egl_calls.specs.Journals.{is_halt}
 use Rattle.egl_calls.specs.declared.entries.Entry.{Entry}
 use Rattle.egl_model.specs.State.{State}
@@ -11,7 +12,7 @@ use Rattle.trace_model.specs.Turns.{next_line, goes_on, is_at_end, is_blocked}
 use Rattle.trace_model.specs.Serial.{next_call}
 use Rattle.trace_model.specs.Stalled.{is_stalled}
 use Rattle.trace_session.specs.Sessions.{Knows}
-use Rattle.shared_driver.specs.Cores.{of_number}
+use Rattle.shared_driver.specs.Cores.{entry, of_number}
 use Rattle.shared_driver.specs.declared.picks.Pick.{Pick}
 use Rattle.shared_driver.specs.declared.picks.Pick.TheVariants.{Call, Wait, Stop}
 use Rattle.play_threads.specs.declared.pickers.LinePicker.{LinePicker}
@@ -33,9 +34,29 @@ pub record HasLearnt (p : LinePicker) (own es : List Entry) : Type 0 where
   pub others : (n : ℕ) → n ≢ p.thread → of_number n learned ≡ of_number n (take p.learnt es)
   pub halted : p.halted ≡ have_others_halted p.thread (take p.learnt es)
 
+-- the entry of a picker's next line behind a journal, answered so
+abbrev pub entry_told : LinePicker → List Entry → Line → ReplyValue → Entry
+entry_told p before l reply = entry p.thread l.number (next_call p.session.trace.lines before p.thread l) reply
+
+-- a picker was told how the call of its next line was answered. It had learnt the journal up to that entry, with which these are its own
+pub record IsTold (p : LinePicker) (reply : ReplyValue) (own es : List Entry) : Type 0 where
+  pub before : List Entry
+  pub more : List Entry
+  pub line : Line
+  pub all : p.learnt ≡ length before
+  pub learnt : HasLearnt p (of_number p.thread before) before
+  pub next : next_line p.session.trace.lines before p.thread ≡ Some line
+  pub own_now : own ≡ of_number p.thread before ++ entry_told p before line reply ∷ []
+  pub whole : es ≡ (before ++ entry_told p before line reply ∷ []) ++ more
+
+-- a picker knows its own entries in a journal, by what it has learnt, and the answer that it was told
+abbrev pub KnowsOwn : LinePicker → Option ReplyValue → List Entry → List Entry → Type 0
+KnowsOwn p None own es = HasLearnt p own es
+KnowsOwn p (Some reply) own es = IsTold p reply own es
+
 -- a picker may look at a journal that goes on behind what it learnt and whose entries of its own it knows, and at a driver that has its thread
 pub record MayLook (p : LinePicker) (es : List Entry) (d : Machine) : Type 0 where
-  pub learnt : HasLearnt p (of_number p.thread es) es
+  pub learnt : KnowsOwn p p.answered (of_number p.thread es) es
   pub thread : p.thread < p.session.trace.threads
   pub made : p.thread < d.made
 
@@ -59,11 +80,12 @@ GoesOn t es d thread (Call mark call) = ¬ (IsOver t es d.state thread)
 GoesOn t es d thread (Wait what) = (have_others_halted thread es ≡ false) × (t.threads ≤ d.made → ¬ (IsOver t es d.state thread))
 GoesOn t es d thread Stop = Unit {0}
 
--- a picker that has learnt all entries gave the pick of its thread
+-- a picker that has learnt all entries, and what it was told, gave the pick of its thread
 pub record Picks (p : LinePicker) (es : List Entry) (d : Machine) (k : Pick) (q : LinePicker) : Type 0 where
   pub thread : q.thread ≡ p.thread
   pub trace : q.session.trace ≡ p.session.trace
   pub all : q.learnt ≡ length es
   pub learnt : HasLearnt q (of_number p.thread es) es
+  pub told : q.answered ≡ None
   pub pick : IsPickOf p.session.trace es d.state p.thread k
   pub goes_on : GoesOn p.session.trace es d p.thread k

@@ -4,6 +4,9 @@
 pub trait Gate {
     /// Called before the thread's line with this number is played.
     fn before(&self, thread: u32, line: u64);
+
+    /// Whether it holds nobody back. Only then does a worker play several lines in one turn, since the gate is passed outside the turns.
+    fn is_open(&self) -> bool;
 }
 
 /// A gate that holds nobody back.
@@ -12,6 +15,10 @@ pub struct OpenGate;
 
 impl Gate for OpenGate {
     fn before(&self, _thread: u32, _line: u64) {}
+
+    fn is_open(&self) -> bool {
+        true
+    }
 }
 
 /// Tells the gate of a line, unless it was told of it last.

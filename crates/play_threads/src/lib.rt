@@ -8,6 +8,7 @@ mod lone_lines;
 mod needs;
 mod pickers;
 mod plays;
+mod runs;
 mod starts;
 mod thread_work;
 mod workers;

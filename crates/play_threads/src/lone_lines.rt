@@ -51,6 +51,7 @@ fn play_line(
     ensures owns { (s : TheShared) → IsOf s thread.old → IsOf s thread.new }
     ensures same { IsSame (token_of thread.old) (token_of thread.new) × ((token_of thread.new).seen ≡ (token_of thread.old).seen) }
     ensures picker { (picker.new.thread ≡ picker.old.thread) × (picker.new.session.trace ≡ picker.old.session.trace) }
+    ensures told { picker.new.answered ≡ picker.old.answered }
     ensures lone { PlayLone picker.old.session.trace picker.old.thread (token_of thread.old).seen (token_of thread.old).tail → PlayLone picker.old.session.trace picker.old.thread (token_of thread.new).seen (token_of thread.new).tail }
     ensures calm { are_halted (mine (token_of thread.old)) ≡ false → are_halted (mine (token_of thread.new)) ≡ false }
     ensures learnt { OnOk result (HasLearnt picker.new (mine (token_of thread.new)) (token_of thread.new).seen) }
@@ -74,6 +75,7 @@ pub(crate) fn play_lone<G: Gate>(
     ensures owns { (s : TheShared) → IsOf s thread.old → IsOf s thread.new }
     ensures same { IsSame (token_of thread.old) (token_of thread.new) × ((token_of thread.new).seen ≡ (token_of thread.old).seen) }
     ensures picker { (picker.new.thread ≡ picker.old.thread) × (picker.new.session.trace ≡ picker.old.session.trace) }
+    ensures told { picker.new.answered ≡ picker.old.answered }
     ensures lone { PlayLone picker.old.session.trace picker.old.thread (token_of thread.old).seen (token_of thread.old).tail → PlayLone picker.old.session.trace picker.old.thread (token_of thread.new).seen (token_of thread.new).tail }
     ensures calm { are_halted (mine (token_of thread.old)) ≡ false → are_halted (mine (token_of thread.new)) ≡ false }
     ensures learnt { OnOk result (HasLearnt picker.new (mine (token_of thread.new)) (token_of thread.new).seen) }

@@ -1,5 +1,5 @@
 //! What a worker picks, by what it knows of the journal.
-ghost use Rattle.std.specs.Prelude.{◌≡◌, ◌<◌, ◌+◌, ◌-◌, ◌^◌, ◌||◌, ◌∷◌, ◌++◌, [], length, slice_get, Some, IfOk, IfSome, IsSome, OnOk, List};
+ghost use Rattle.std.specs.Prelude.{◌≡◌, ◌<◌, ◌+◌, ◌-◌, ◌^◌, ◌||◌, ◌∷◌, ◌++◌, [], length, slice_get, None, Some, IfOk, IfSome, IsSome, OnOk, List};
 ghost use Rattle.egl_calls.specs.Journals.{is_halt};
 ghost use Rattle.egl_calls.specs.declared.entries.Entry.{Entry as AnEntry};
 ghost use Rattle.trace_reader.specs.declared.traces.Line.{Line as ALine};
@@ -10,7 +10,7 @@ ghost use Rattle.trace_session.specs.Chains.{AreChains};
 ghost use Rattle.trace_session.specs.Facts.{HasFacts};
 ghost use Rattle.trace_session.specs.Sessions.{Knows, line_at};
 ghost use Rattle.shared_driver.specs.Cores.{entry, of_number};
-ghost use Rattle.play_threads.specs.Picks.{GoesOn, HasLearnt, IsPickOf, MayLook, Picks, has_stalled, have_others_halted};
+ghost use Rattle.play_threads.specs.Picks.{GoesOn, HasLearnt, IsPickOf, KnowsOwn, MayLook, Picks, has_stalled, have_others_halted};
 
 use crate::needs::wanted;
 use driver_core::Driver;
@@ -32,6 +32,10 @@ pub struct LinePicker<'a> {
     pub(crate) halted: bool,
     // its own thread is in a wait
     pub(crate) waits: bool,
+    // how the call that it picked last was answered, where its session hasn't learnt that yet
+    pub(crate) answered: Option<Reply>,
+    // it may pick several lines in one turn
+    pub(crate) runs: bool,
 }
 
 /// Whether the run that a session knows has stalled. While threads of the trace have no token yet, it hasn't.
@@ -42,16 +46,18 @@ pub(crate) fn has_stalled(session: &Session, driver: &Driver) -> bool
 }
 
 impl<'a> LinePicker<'a> {
-    /// A picker for a thread, that has learnt nothing.
+    /// A picker for a thread, that has learnt nothing, and whether it may pick several lines in one turn.
     pub fn new(
         alloc: Global,
         trace: &'a Trace,
         chains: &'a Chains,
         thread: u32,
+        runs: bool,
     ) -> Result<LinePicker<'a>, NoMemory>
         requires { AreChains trace.now chains.now }
         ensures trace { IfOk result (λ p. p.session.trace ≡ trace.now) }
         ensures thread { IfOk result (λ p. p.thread ≡ thread) }
+        ensures told { IfOk result (λ p. p.answered ≡ None) }
         ensures learnt { IfOk result (λ p. (es : List AnEntry) → HasLearnt p [] es) }
     {
         Ok(LinePicker {
@@ -61,6 +67,8 @@ impl<'a> LinePicker<'a> {
             learnt: 0,
             halted: false,
             waits: false,
+            answered: None,
+            runs,
         })
     }
 
@@ -68,6 +76,7 @@ impl<'a> LinePicker<'a> {
     fn learn_other(&mut self, entry: &Entry) -> Result<(), NoMemory>
         requires { self.old.learnt < 2 ^ 64 - 1 }
         ensures same { (self.new.thread ≡ self.old.thread) × (self.new.session.trace ≡ self.old.session.trace) }
+        ensures told { self.new.answered ≡ self.old.answered }
         ensures next { OnOk result (self.new.learnt ≡ self.old.learnt + 1) }
         ensures knows { (es : List AnEntry) → Knows es self.old.session → OnOk result (Knows (es ++ entry.now ∷ []) self.new.session) }
         ensures halted { OnOk result (self.new.halted ≡ (self.old.halted || is_halt entry.now)) }
@@ -82,6 +91,7 @@ impl<'a> LinePicker<'a> {
     fn learn_one(&mut self, entry: &Entry) -> Result<(), NoMemory>
         requires { self.old.learnt < 2 ^ 64 - 1 }
         ensures same { (self.new.thread ≡ self.old.thread) × (self.new.session.trace ≡ self.old.session.trace) }
+        ensures told { self.new.answered ≡ self.old.answered }
         ensures next { OnOk result (self.new.learnt ≡ self.old.learnt + 1) }
         ensures learnt { (own es : List AnEntry) → HasLearnt self.old own es → slice_get es self.old.learnt ≡ Some entry.now → OnOk result (HasLearnt self.new own es) }
     {
@@ -96,6 +106,7 @@ impl<'a> LinePicker<'a> {
     fn learn(&mut self, journal: &Journal) -> Result<(), NoMemory>
         requires { HasLearnt self.old (of_number self.old.thread journal.now.entries) journal.now.entries }
         ensures same { (self.new.thread ≡ self.old.thread) × (self.new.session.trace ≡ self.old.session.trace) }
+        ensures told { self.new.answered ≡ self.old.answered }
         ensures all { OnOk result (self.new.learnt ≡ length journal.now.entries) }
         ensures learnt { OnOk result (HasLearnt self.new (of_number self.old.thread journal.now.entries) journal.now.entries) }
     {
@@ -167,10 +178,25 @@ impl<'a> LinePicker<'a> {
         requires below { self.old.thread < self.old.session.trace.threads }
         requires line { IsSome (line_at self.old.session self.old.thread) }
         ensures same { (self.new.thread ≡ self.old.thread) × (self.new.session.trace ≡ self.old.session.trace) × (self.new.learnt ≡ self.old.learnt) × (self.new.halted ≡ self.old.halted) }
+        ensures told { self.new.answered ≡ self.old.answered }
         ensures knows { (es : List AnEntry) (l : ALine) → Knows es self.old.session → next_line self.old.session.trace.lines es self.old.thread ≡ Some l → OnOk result (Knows (es ++ entry self.old.thread l.number (next_call self.old.session.trace.lines es self.old.thread l) reply ∷ []) self.new.session) }
     {
         self.waits = is_waiting(reply.outcome);
         self.session.learn_next(self.alloc, self.thread, reply)
+    }
+
+    // Takes in how the call that it picked last was answered, where it was told that in the same turn.
+    fn learn_told(&mut self) -> Result<(), NoMemory>
+        requires below { self.old.thread < self.old.session.trace.threads }
+        requires line { IfSome self.old.answered (λ _. IsSome (line_at self.old.session self.old.thread)) }
+        ensures same { (self.new.thread ≡ self.old.thread) × (self.new.session.trace ≡ self.old.session.trace) }
+        ensures told { self.new.answered ≡ None }
+        ensures learnt { (own es : List AnEntry) → KnowsOwn self.old self.old.answered own es → OnOk result (HasLearnt self.new own es) }
+    {
+        match self.answered.take() {
+            Some(reply) => self.learn_own(reply),
+            None => Ok(()),
+        }
     }
 }
 
@@ -180,6 +206,7 @@ impl<'a> Picker for LinePicker<'a> {
     ghost picks = { λ p es d k q. Picks p es d k q };
 
     fn pick(&mut self, journal: &Journal, driver: &Driver) -> Result<Pick, NoMemory> {
+        self.learn_told()?;
         self.learn(journal)?;
         self.picked(driver)
     }

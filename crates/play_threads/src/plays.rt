@@ -60,6 +60,7 @@ fn run<R: Threads + Wait + Sync, G: Gate + Sync>(
     trace.in_order();
     let Opened { shared, thread } = Shared::open_for(
         alloc,
+        trace.key(),
         trace.windows(),
         trace.video(),
         trace.threads(),

@@ -46,13 +46,13 @@ fn play_lines<R: Wait, G: Gate>(
     trace.in_order();
     a_token_keeps_its_own_calls(thread);
     let number = thread.number();
-    let mut picker = LinePicker::new(alloc, trace, chains, number)?;
+    let mut picker = LinePicker::new(alloc, trace, chains, number, gate.is_open())?;
     let mut told = None;
     'turns: for _ in rt.forever() {
         play_lone(thread, alloc, gate, &mut picker, &mut told)?;
         announce(gate, number, picker.coming(), &mut told);
         let heard = shared.heard(thread);
-        let outcome = shared.call_picked(thread, rt, alloc, &mut picker);
+        let outcome = shared.call_run(thread, rt, alloc, &mut picker);
         what_a_token_has_seen_is_legal(shared, thread);
         let picked = outcome?;
         match picked {
@@ -64,7 +64,7 @@ fn play_lines<R: Wait, G: Gate>(
     unreachable!()
 }
 
-/// Plays the lines of one thread of a trace with a token: the trace's thread is that of the token's number. All threads of a trace may share its chains. A line that the thread's private part answers, and that waits for nobody, takes no turn; each other one is played in a turn of its own, once what it waits for is there. Where nothing can be played it sleeps between turns, and may never return.
+/// Plays the lines of one thread of a trace with a token: the trace's thread is that of the token's number. All threads of a trace may share its chains. A line that the thread's private part answers, and that waits for nobody, takes no turn. Each other one is played in a turn once what it waits for is there, and with it the lines behind it that wait for nobody, up to the bound of a turn; through a gate that holds threads back each has a turn of its own. Where nothing can be played it sleeps between turns, and may never return.
 ///
 /// It ends where the thread is at its end, or the run has stalled, or another thread gave up. Where memory runs out, it gives up.
 pub fn work<R: Wait, G: Gate>(

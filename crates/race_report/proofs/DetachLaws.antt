@@ -1,11 +1,9 @@
--- What a deletion detaches was attached, when it began, to the framebuffer that the context has bound.
-use Rattle.std.proofs.Common.{◌≡◌, ℕ, ◌⊎◌, inl, inr, ℤ, pos, Bool, true, false, List, [], ◌∷◌, ◌++◌, get_or, refl, sym, ap, ◌∙◌, subst, Option, None, Some}
-use Rattle.std.specs.Prelude.{if◌then◌else◌, ◌||◌, is_some}
-use Rattle.std.specs.List.{Contains}
+-- What a deletion takes from the framebuffer that its context has bound.
+use Rattle.std.proofs.Common.{◌≡◌, ℕ, ◌⊎◌, inl, inr, ℤ, pos, Bool, true, false, List, [], ◌∷◌, map, get_or, refl, sym, ap, ◌∙◌, subst, Option, None, Some}
+use Rattle.std.specs.Prelude.{if◌then◌else◌, is_some, IfSome}
+use Rattle.std.specs.List.{Contains, filter_map, cons_option}
 use Rattle.std.specs.Option.{option_and_then}
-use Rattle.std.proofs.lemmas.Bool.{cases_eq, false≢true}
-use Rattle.std.proofs.lemmas.List.{get_or-set_other}
-use Rattle.std.proofs.lemmas.List.Elements.{Contains-append_right}
+use Rattle.std.proofs.lemmas.Bool.{cases_eq, eqb-true, false≢true}
 use Rattle.std.proofs.lemmas.Option.{none-some}
 use Rattle.egl_calls.specs.Ranges.{unsigned}
 use Rattle.share_group.specs.Groups.{GroupValue}
@@ -14,7 +12,8 @@ use Rattle.share_group.specs.declared.names.Name.{Name}
 use Rattle.share_group.specs.declared.names.NameKind.{NameKind}
 use Rattle.share_group.specs.declared.names.NameKind.TheVariants.{Texture as textures, Buffer as buffers, Renderbuffer as renderbuffers, Framebuffer as framebuffers}
 use Rattle.share_group.proofs.FreeLaws.{frees_one}
-use Rattle.framebuffer_objects.specs.Framebuffers.{FramebufferValue, object_of, with_point}
+use Rattle.framebuffer_objects.specs.Framebuffers.{FramebufferValue, at_point, object_of, with_point}
+use Rattle.framebuffer_objects.specs.declared.framebuffers.Attached.{Attached}
 use Rattle.framebuffer_objects.specs.declared.points.Point.{Point}
 use Rattle.framebuffer_objects.specs.declared.points.Point.TheVariants.{Color, Depth, Stencil}
 use Rattle.driver_objects.specs.Links.{bound_in}
@@ -27,103 +26,43 @@ use Rattle.driver_objects.specs.declared.targets.BindTarget.TheVariants.{Texture
 use Rattle.egl_model.specs.Bindings.{bound_at, bound_framebuffer_in, deleted_name, detached_at, detached_from, detached_on, named_at, unbound_at, unbound_in, unbound_object}
 use Rattle.egl_model.specs.Framebuffers.{target_framebuffer}
 use Rattle.egl_model.specs.Names.{group_of, object_named, with_name_of}
-use Rattle.egl_model.specs.Objects.{as_context, as_framebuffer, change_context, change_framebuffer, change_group, framebuffer_in, with_context, with_framebuffer, with_group}
+use Rattle.egl_model.specs.Objects.{as_context, change_context, change_framebuffer, change_group, with_context, with_framebuffer, with_group}
 use Rattle.egl_model.specs.Parts.{is_place}
 use Rattle.egl_model.specs.State.{State, object_at}
 use Rattle.model_laws.proofs.NameLaws.{names_at, names_deleted}
 use Rattle.model_laws.proofs.Places.{same_at_set}
 use Rattle.model_laws.proofs.TextureLaws.{changed_at}
-use Rattle.driver_facts.specs.Touches.{detached_framebuffer, is_attached, is_one_attached, object, objects_named}
-use Rattle.race_report.proofs.WordLaws.{contains_first}
+use Rattle.driver_facts.specs.Touches.{objects_named}
+use Rattle.race_report.specs.Writes.{LosesAt, LosesIn}
+use Rattle.race_report.proofs.WordLaws.{contains_cases, contains_first, contains_later, contains_none}
 
--- ---- What isn't attached isn't detached.
-neither : (b c : Bool) → (b || c) ≡ false → (b ≡ false) × (c ≡ false)
-neither false c h = (refl, h)
-neither true c h = absurd (false≢true (sym h))
-
-stays : (b : Bool) (f g : FramebufferValue) → b ≡ false → (if b then g else f) ≡ f
-stays false f g h = refl
-stays true f g h = absurd (false≢true (sym h))
-
-stays_whole : (x : ℕ) (f : FramebufferValue) → is_attached (Some f) (Some x) ≡ false → detached_from x f ≡ f
-stays_whole x f h =
-    let a = neither (is_place x (object_of f.color)) (is_place x (object_of f.depth) || is_place x (object_of f.stencil)) h in
-    let b = neither (is_place x (object_of f.depth)) (is_place x (object_of f.stencil)) a.1 in
-    ap (λ (g : FramebufferValue). detached_at Stencil x (detached_at Depth x g)) (stays (is_place x (object_of f.color)) f (with_point Color None f) a.0)
-    ∙ ap (λ (g : FramebufferValue). detached_at Stencil x g) (stays (is_place x (object_of f.depth)) f (with_point Depth None f) b.0)
-    ∙ stays (is_place x (object_of f.stencil)) f (with_point Stencil None f) b.1
-
-pub unattached : (x : ℕ) (o : Option Object) → is_attached (as_framebuffer o) (Some x) ≡ false → with_framebuffer (detached_from x) o ≡ o
-unattached x (Some (Framebuffer f)) h = ap (λ (g : FramebufferValue). Some (Framebuffer g)) (stays_whole x f h)
-unattached x o h = refl
-
--- ---- What is attached to a framebuffer after a deletion was so before.
-or_second : (b c : Bool) → c ≡ true → (b || c) ≡ true
-or_second true c h = refl
-or_second false c h = h
-
-or_first : (b c : Bool) → b ≡ true → (b || c) ≡ true
-or_first true c h = refl
-or_first false c h = absurd (false≢true h)
-
-or_between : (b c d : Bool) → (b || d) ≡ true → (b || (c || d)) ≡ true
-or_between true c d h = refl
-or_between false c d h = or_second c d h
-
-or_last : (b c d : Bool) → (b || (c || false)) ≡ true → (b || (c || d)) ≡ true
-or_last true c d h = refl
-or_last false true d h = refl
-or_last false false d h = absurd (false≢true h)
-
-before_point : (p : Point) (y : ℕ) (b : Bool) (f : FramebufferValue) → is_attached (Some (if b then with_point p None f else f)) (Some y) ≡ true → is_attached (Some f) (Some y) ≡ true
-before_point p y false f h = h
-before_point Color y true f h = or_second (is_place y (object_of f.color)) (is_place y (object_of f.depth) || is_place y (object_of f.stencil)) h
-before_point Depth y true f h = or_between (is_place y (object_of f.color)) (is_place y (object_of f.depth)) (is_place y (object_of f.stencil)) h
-before_point Stencil y true f h = or_last (is_place y (object_of f.color)) (is_place y (object_of f.depth)) (is_place y (object_of f.stencil)) h
-
-before_points : (x y : ℕ) (f : FramebufferValue) → is_attached (Some (detached_from x f)) (Some y) ≡ true → is_attached (Some f) (Some y) ≡ true
-before_points x y f h =
-    let c = detached_at Color x f in
-    let d = detached_at Depth x c in
-    before_point Color y (is_place x (object_of f.color)) f (before_point Depth y (is_place x (object_of c.depth)) c (before_point Stencil y (is_place x (object_of d.stencil)) d h))
-
-before_object : (x : ℕ) (o : Option Object) (p : Option ℕ) → is_attached (as_framebuffer (with_framebuffer (detached_from x) o)) p ≡ true → is_attached (as_framebuffer o) p ≡ true
-before_object x (Some (Framebuffer f)) (Some y) h = before_points x y f h
-before_object x (Some (Framebuffer f)) None h = h
-before_object x o p h = h
-
-before_detached : (d : Option ℕ) (x b : ℕ) (p : Option ℕ) (os : List (Option Object)) → is_attached (framebuffer_in (detached_on d x os) b) p ≡ true → is_attached (framebuffer_in os b) p ≡ true
-unfolding change_framebuffer
-before_detached None x b p os h = h
-before_detached (Some d) x b p os h = elim (cases_eq b d) [
-  | inl e ↦ subst (λ i. is_attached (framebuffer_in os i) p ≡ true) (sym e) (before_object x (get_or os d None) p
-      (sym (ap (λ o. is_attached (as_framebuffer o) p) (changed_at (with_framebuffer (detached_from x)) refl d os)) ∙ subst (λ i. is_attached (framebuffer_in (detached_on (Some d) x os) i) p ≡ true) e h))
-  | inr ne ↦ sym (ap (λ o. is_attached (as_framebuffer o) p) (get_or-set_other os d b (with_framebuffer (detached_from x) (get_or os d None)) None ne)) ∙ h
+-- ---- A framebuffer loses what is detached, and nothing else.
+at_then : (ws : List ℤ) (a b c : Option Attached) → LosesAt ws a b → LosesAt ws b c → LosesAt ws a c
+at_then ws a b c f g = elim g [
+  | inl e ↦ (elim f [ inl d ↦ inl (e ∙ d) | inr d ↦ inr (e ∙ d.0, d.1) ])
+  | inr e ↦ (elim f [ inl d ↦ inr (e.0, subst (λ o. IfSome o (λ (y : Attached). Contains ws (pos y.object))) d e.1) | inr d ↦ inr (e.0, d.1) ])
 ]
 
-framebuffer_of_context : (f : ContextObject → ContextObject) (o : Option Object) → as_framebuffer (with_context f o) ≡ as_framebuffer o
-framebuffer_of_context f (Some (Context c)) = refl
-framebuffer_of_context f o = refl
+pub loses_then : (ws : List ℤ) (f g h : FramebufferValue) → LosesIn ws f g → LosesIn ws g h → LosesIn ws f h
+loses_then ws f g h a b = (at_then ws f.color g.color h.color a.0 b.0, at_then ws f.depth g.depth h.depth a.1 b.1, at_then ws f.stencil g.stencil h.stencil a.2 b.2)
 
-framebuffer_of_group : (f : GroupValue → GroupValue) (o : Option Object) → as_framebuffer (with_group f o) ≡ as_framebuffer o
-framebuffer_of_group f (Some (Group g)) = refl
-framebuffer_of_group f o = refl
+is_written : (ws : List ℤ) (x : ℕ) (a : Option Attached) → Contains ws (pos x) → is_place x (object_of a) ≡ true → IfSome a (λ (y : Attached). Contains ws (pos y.object))
+is_written ws x None w e = tt
+is_written ws x (Some y) w e = subst (λ n. Contains ws (pos n)) (sym (eqb-true y.object x e)) w
 
-before_unbound : (k : NameKind) (n : ℕ) (o : Option ℕ) (b : ℕ) (p : Option ℕ) (os : List (Option Object)) → is_attached (framebuffer_in (unbound_in k n o os) b) p ≡ true → is_attached (framebuffer_in os b) p ≡ true
-unfolding change_context
-before_unbound k n None b p os h = h
-before_unbound k n (Some x) b p os h =
-    let ps : List (Option Object) = detached_on (bound_framebuffer_in n os) x os in
-    before_detached (bound_framebuffer_in n os) x b p os
-    (ap (λ f. is_attached f p) (sym (same_at_set as_framebuffer ps n (with_context (unbound_object k x) (get_or ps n None)) None (framebuffer_of_context (unbound_object k x) (get_or ps n None)) b)) ∙ h)
+point_loses : (ws : List ℤ) (p : Point) (b : Bool) (f : FramebufferValue) → (b ≡ true → IfSome (at_point p f) (λ (y : Attached). Contains ws (pos y.object))) → LosesIn ws f (if b then with_point p None f else f)
+point_loses ws p false f h = (inl refl, inl refl, inl refl)
+point_loses ws Color true f h = (inr (refl, h refl), inl refl, inl refl)
+point_loses ws Depth true f h = (inl refl, inr (refl, h refl), inl refl)
+point_loses ws Stencil true f h = (inl refl, inl refl, inr (refl, h refl))
 
-before_name : (k : NameKind) (g n name b : ℕ) (p : Option ℕ) (s : State) → is_attached (framebuffer_in (deleted_name k g n name s).objects b) p ≡ true → is_attached (framebuffer_in s.objects b) p ≡ true
-unfolding change_group
-before_name k g n name b p s h =
-    let o : Option ℕ = object_named s g k name in
-    let ps : List (Option Object) = unbound_in k n o s.objects in
-    before_unbound k n o b p s.objects
-    (ap (λ f. is_attached f p) (sym (same_at_set as_framebuffer ps g (with_group (with_name_of k name None) (get_or ps g None)) None (framebuffer_of_group (with_name_of k name None) (get_or ps g None)) b)) ∙ h)
+pub detached_loses : (ws : List ℤ) (x : ℕ) (f : FramebufferValue) → Contains ws (pos x) → LosesIn ws f (detached_from x f)
+detached_loses ws x f w =
+    let c = detached_at Color x f in
+    let d = detached_at Depth x c in
+    loses_then ws f d (detached_at Stencil x d)
+    (loses_then ws f c d (point_loses ws Color (is_place x (object_of f.color)) f (is_written ws x f.color w)) (point_loses ws Depth (is_place x (object_of c.depth)) c (is_written ws x c.depth w)))
+    (point_loses ws Stencil (is_place x (object_of d.stencil)) d (is_written ws x d.stencil w))
 
 -- ---- What the context has bound after a deletion it had bound before.
 bound_before_target : (t : BindTarget) (w : Bool) (b : ℕ) (c : ContextObject) → (if w then bound_at (slot_of t) None (named_at (binding_of t) 0 c) else c).bound.framebuffer ≡ Some b → c.bound.framebuffer ≡ Some b
@@ -190,40 +129,34 @@ named_or_none k g n name m s =
       | inr ne ↦ inl (e ∙ ((frees_one name xs).others m ne).1)
     ]
 
-never_attached : (f : Option FramebufferValue) → is_attached f None ≡ true → ⊥
-never_attached None h = false≢true h
-never_attached (Some f) h = false≢true h
+named_before : (k : NameKind) (g n name m y : ℕ) (s : State) → object_named (deleted_name k g n name s) g k m ≡ Some y → object_named s g k m ≡ Some y
+named_before k g n name m y s h = elim (named_or_none k g n name m s) [ inl e ↦ sym e ∙ h | inr e ↦ absurd (none-some y (sym e ∙ h)) ]
 
-attached_before_name : (k : NameKind) (g n name m b : ℕ) (s : State) → is_attached (framebuffer_in (deleted_name k g n name s).objects b) (object_named (deleted_name k g n name s) g k m) ≡ true → is_attached (framebuffer_in s.objects b) (object_named s g k m) ≡ true
-attached_before_name k g n name m b s h =
-    let f = framebuffer_in s.objects b in
-    let there = before_name k g n name b (object_named (deleted_name k g n name s) g k m) s h in
-    elim (named_or_none k g n name m s) [
-      | inl e ↦ ap (is_attached f) (sym e) ∙ there
-      | inr e ↦ absurd (never_attached f (ap (is_attached f) (sym e) ∙ there))
-    ]
+-- ---- All names of a deletion: their objects are written, and one framebuffer at most is bound.
+pub record Deleting (ws : List ℤ) (left : Option ℕ) (k : NameKind) (g n : ℕ) (xs : List ℤ) (s : State) : Type 0 where
+  pub bound : (b : ℕ) → bound_framebuffer_in n s.objects ≡ Some b → left ≡ Some b
+  pub named : (x : ℤ) → Contains xs x → (y : ℕ) → object_named s g k (unsigned x) ≡ Some y → Contains ws (pos y)
 
--- ---- All names of a deletion: what is detached is among what is written.
-abbrev pub CountsDetached : List ℤ → NameKind → ℕ → ℕ → List ℤ → State → Type 0
-CountsDetached ws k g n [] s = Unit {0}
-CountsDetached ws k g n (x ∷ xs) s =
-    ((b : ℕ) → bound_framebuffer_in n s.objects ≡ Some b → is_attached (framebuffer_in s.objects b) (object_named s g k (unsigned x)) ≡ true → Contains ws (pos b))
-    × CountsDetached ws k g n xs s
+pub deleting_later : (ws : List ℤ) (left : Option ℕ) (k : NameKind) (g n : ℕ) (x : ℤ) (xs : List ℤ) (s : State) → Deleting ws left k g n (x ∷ xs) s → Deleting ws left k g n xs (deleted_name k g n (unsigned x) s)
+deleting_later ws left k g n x xs s f = record {
+  bound = λ b h. f.bound b (bound_before_name k g n (unsigned x) b s h);
+  named = λ z c y h. f.named z (contains_later x xs z c) y (named_before k g n (unsigned x) (unsigned z) y s h);
+}
 
-pub counts_later : (ws : List ℤ) (k : NameKind) (g n name : ℕ) (xs : List ℤ) (s : State) → CountsDetached ws k g n xs s → CountsDetached ws k g n xs (deleted_name k g n name s)
-counts_later ws k g n name [] s c = tt
-counts_later ws k g n name (x ∷ xs) s c = (λ b t h. c.0 b (bound_before_name k g n name b s t) (attached_before_name k g n name (unsigned x) b s h), counts_later ws k g n name xs s c.1)
+contains_object : (f : ℤ → Option ℕ) (xs : List ℤ) (x : ℤ) (y : ℕ) → Contains xs x → f x ≡ Some y → Contains (map pos (filter_map f xs)) (pos y)
+contains_object f [] x y c e = absurd (contains_none x c)
+contains_object f (z ∷ zs) x y c e = elim (contains_cases z zs x c) [
+  | inl same ↦ (let P : Option ℕ → Type 0 = λ o. Contains (map pos (cons_option o (filter_map f zs))) (pos y) in
+      subst P (sym (ap f same ∙ e)) (contains_first (pos y) (map pos (filter_map f zs))))
+  | inr more ↦ behind (f z) (contains_object f zs x y more e)
+]
+  where
+    behind : (o : Option ℕ) → Contains (map pos (filter_map f zs)) (pos y) → Contains (map pos (cons_option o (filter_map f zs))) (pos y)
+    behind None g = g
+    behind (Some k) g = contains_later (pos k) (map pos (filter_map f zs)) (pos y) g
 
-counts_each : (ws : List ℤ) (k : NameKind) (n : ℕ) (xs : List ℤ) (s : State) → ((b : ℕ) → target_framebuffer s n ≡ Some b → is_one_attached s n k xs b ≡ true → Contains ws (pos b)) → CountsDetached ws k (group_of s n) n xs s
-counts_each ws k n [] s c = tt
-counts_each ws k n (x ∷ xs) s c = (
-  λ b t h. c b t (or_first (is_attached (framebuffer_in s.objects b) (object_named s (group_of s n) k (unsigned x))) (is_one_attached s n k xs b) h),
-  counts_each ws k n xs s (λ b t h. c b t (or_second (is_attached (framebuffer_in s.objects b) (object_named s (group_of s n) k (unsigned x))) (is_one_attached s n k xs b) h)),
-)
-
-detached_is : (k : NameKind) (s : State) (n : ℕ) (xs : List ℤ) (b : ℕ) → target_framebuffer s n ≡ Some b → is_one_attached s n k xs b ≡ true → detached_framebuffer s n k xs ≡ Some b
-detached_is k s n xs b t h = ap (option_and_then (λ (i : ℕ). if is_one_attached s n k xs i then Some i else None)) t ∙ ap (λ (w : Bool). if w then Some b else None) h
-
-pub counts_all : (k : NameKind) (s : State) (n : ℕ) (xs : List ℤ) → CountsDetached (objects_named s n k xs ++ object (detached_framebuffer s n k xs)) k (group_of s n) n xs s
-counts_all k s n xs = counts_each _ k n xs s (λ b t h.
-    Contains-append_right (objects_named s n k xs) (object (detached_framebuffer s n k xs)) (pos b) (subst (λ o. Contains (object o) (pos b)) (sym (detached_is k s n xs b t h)) (contains_first (pos b) [])))
+pub deleting_all : (k : NameKind) (s : State) (n : ℕ) (xs : List ℤ) → Deleting (objects_named s n k xs) (target_framebuffer s n) k (group_of s n) n xs s
+deleting_all k s n xs = record {
+  bound = λ b h. h;
+  named = λ x c y e. contains_object (λ (z : ℤ). object_named s (group_of s n) k (unsigned z)) xs x y c e;
+}

@@ -1,4 +1,4 @@
--- What a call changes of objects and windows is among what it writes.
+-- What a call changes of objects and windows is among what it writes, but for the framebuffer from which a deletion detaches.
 use Rattle.std.proofs.Common.{◌≡◌, ℕ, zero, suc, ◌<◌, ◌≤◌, ◌⊎◌, inl, inr, ℤ, pos, Bool, true, false, List, [], ◌∷◌, ◌++◌, length, get_or, set, refl, sym, ap, ◌∙◌, arith, subst, Option, None, Some}
 use Rattle.egl_calls.specs.Errors.{is_done}
 use Rattle.std.specs.Prelude.{if◌then◌else◌, ◌==◌, ◌&&◌, not}
@@ -7,6 +7,7 @@ use Rattle.std.specs.Option.{option_map_or}
 use Rattle.std.proofs.lemmas.Bool.{cases_eq, eqb-true}
 use Rattle.std.proofs.lemmas.List.{get_or-set_other, get_or-set_same, get_or_append_left, length-append, length-set}
 use Rattle.std.proofs.lemmas.List.Quantifiers.{position-Some}
+use Rattle.std.proofs.lemmas.Option.{none-some, same_Some}
 use Rattle.egl_calls.specs.Calls.{CallValue}
 use Rattle.egl_calls.specs.Ranges.{unsigned}
 use Rattle.egl_calls.specs.declared.errors.EglError.{EglError}
@@ -20,6 +21,7 @@ use Rattle.egl_calls.specs.declared.kinds.GlKind.{GlKind}
 use Rattle.egl_calls.specs.declared.kinds.GlKind.TheVariants.{Clear}
 use Rattle.egl_calls.specs.declared.kinds.OwnKind.{OwnKind}
 use Rattle.egl_calls.specs.declared.kinds.OwnKind.TheVariants.{ReadBuffer}
+use Rattle.call_table.specs.Rows.{gl_role}
 use Rattle.context_state.specs.Calls.{apply}
 use Rattle.context_state.specs.Kinds.{context_gl_call}
 use Rattle.context_state.specs.declared.kinds.ContextCall.{ContextCall}
@@ -34,7 +36,7 @@ use Rattle.driver_objects.specs.Storages.{StorageValue, shown_by}
 use Rattle.driver_objects.specs.declared.contexts.Context.{Context as ContextObject}
 use Rattle.driver_objects.specs.declared.fences.Fence.{Fence}
 use Rattle.driver_objects.specs.declared.objects.Object.{Object}
-use Rattle.driver_objects.specs.declared.objects.Object.TheVariants.{Context, Group, Surface, Sync}
+use Rattle.driver_objects.specs.declared.objects.Object.TheVariants.{Context, Framebuffer, Group, Surface, Sync}
 use Rattle.driver_objects.specs.declared.surfaces.BackedSurface.{BackedSurface}
 use Rattle.buffer_objects.specs.Buffers.{BufferValue}
 use Rattle.framebuffer_objects.specs.Framebuffers.{FramebufferValue}
@@ -62,12 +64,12 @@ use Rattle.egl_model.specs.Flushes.{flush_in}
 use Rattle.egl_model.specs.GlCalls.{effect_by, gl_effect, object_effect, gl_refusal}
 use Rattle.egl_model.specs.Graph.{reached}
 use Rattle.egl_model.specs.MakeCurrent.{first_use}
-use Rattle.egl_model.specs.Bindings.{bound_framebuffer_in, bound_name, bound_named, bound_object, deleted_in, deleted_name, deleted_names, detached_from, detached_on, freed, unbound_in}
+use Rattle.egl_model.specs.Bindings.{bound_framebuffer_in, bound_name, bound_named, bound_object, deleted_in, deleted_name, deleted_names, detached_from, detached_on, freed, unbound_in, unbound_object}
 use Rattle.egl_model.specs.Buffers.{set_data, set_part_of}
-use Rattle.egl_model.specs.Framebuffers.{attached}
+use Rattle.egl_model.specs.Framebuffers.{attached, target_framebuffer}
 use Rattle.egl_model.specs.Images.{add_image, levels_dropped, renderbuffer_of_image, texture_of_image}
-use Rattle.egl_model.specs.Names.{group_of, object_named}
-use Rattle.egl_model.specs.Objects.{as_buffer, as_framebuffer, as_renderbuffer, as_storage, as_texture, change_buffer, change_framebuffer, change_renderbuffer, change_context, change_fence, change_group, change_part, change_storage, change_surface, change_texture, framebuffer_in, with_context, with_fence, with_framebuffer, with_group, with_part, with_surface}
+use Rattle.egl_model.specs.Names.{group_of, object_named, with_name_of}
+use Rattle.egl_model.specs.Objects.{as_buffer, as_framebuffer, as_renderbuffer, as_storage, as_texture, change_buffer, change_framebuffer, change_renderbuffer, change_context, change_fence, change_group, change_part, change_storage, change_surface, change_texture, with_context, with_fence, with_framebuffer, with_group, with_part, with_surface}
 use Rattle.egl_model.specs.OwnCalls.{buffer_effect, buffer_refusal}
 use Rattle.egl_model.specs.State.{State, record_of}
 use Rattle.egl_model.specs.Step.{Stepped, after_egl_rules, after_gl_rules, buffer_step_on, egl_step, gl_step, gl_step_on, own_step, step, step_by, step_in, wait_step}
@@ -80,10 +82,10 @@ use Rattle.egl_model.specs.Waits.{is_signalled, is_wait_end, waiting}
 use Rattle.egl_model.specs.Windows.{swapped_surface, swapped_with}
 use Rattle.model_laws.proofs.SweepLaws.{length-swept, object_at-swept}
 use Rattle.driver_facts.proofs.TouchLaws.{gl_never_waits}
-use Rattle.driver_facts.specs.Touches.{buffer_touches_on, deletion_touches, drawing, egl_touches, front, gl_touches, gl_touches_on, is_attached, nothing, object, object_touches, own_touches, swap_of, swap_with, touches_by, touches_by_class, touches_of}
-use Rattle.race_report.specs.Writes.{IsAsItWas, IsWrittenBy, Shows, Spares, StaysOrGoes}
+use Rattle.driver_facts.specs.Touches.{buffer_touches_on, deletion_touches, drawing, egl_touches, front, gl_touches, gl_touches_on, nothing, object, object_touches, own_touches, swap_of, swap_with, touches_by, touches_by_class, touches_of}
+use Rattle.race_report.specs.Writes.{Becomes, IsAsItWas, IsWrittenBy, Loses, LosesIn, Shows, Spares, StaysOrGoes, left_out, left_out_by, left_out_of}
 use Rattle.driver_facts.specs.declared.touches.Touches.{Touches}
-use Rattle.race_report.proofs.DetachLaws.{CountsDetached, counts_all, counts_later, unattached}
+use Rattle.race_report.proofs.DetachLaws.{Deleting, deleting_all, deleting_later, detached_loses, loses_then}
 use Rattle.race_report.proofs.WordLaws.{contains_first, contains_later}
 
 -- ---- One object.
@@ -109,6 +111,49 @@ gone_or_not : (b : Bool) (o : Option Object) → IsAsItWas o (if b then o else N
 gone_or_not true o = as_it_was o
 gone_or_not false o = (inr refl, inr refl, inr refl, inr refl, inr refl)
 
+-- ---- A framebuffer that loses what is written.
+lost_then : (ws : List ℤ) (o p q : Option Object) → Loses ws o p → Loses ws p q → Loses ws o q
+lost_then ws o p q a b = record {
+  before = a.before;
+  was = a.was;
+  after = b.after;
+  is = b.is;
+  lost = loses_then ws a.before a.after b.after a.lost (subst (λ f. LosesIn ws f b.after) (same_Some b.before a.after (sym b.was ∙ a.is)) b.lost);
+}
+
+was_lost : (ws : List ℤ) (o p q : Option Object) → IsAsItWas o p → Loses ws p q → Loses ws o q
+was_lost ws o p q a b = record {
+  before = b.before;
+  after = b.after;
+  is = b.is;
+  lost = b.lost;
+  was = elim a.4 [ inl e ↦ sym e ∙ b.was | inr e ↦ absurd (none-some b.before (sym e ∙ b.was)) ];
+}
+
+none_stays : {A : Type 0} (y : Option A) → StaysOrGoes None y → y ≡ None
+none_stays y h = elim h [ inl e ↦ e | inr e ↦ e ]
+
+-- where a framebuffer goes, nothing is there
+no_other : (o p q : Option Object) (f : FramebufferValue) → as_framebuffer p ≡ Some f → IsAsItWas p q → as_framebuffer q ≡ None → IsAsItWas o q
+no_other o (Some (Framebuffer g)) q f h a e = (inr (none_stays (as_texture q) a.0), inr (none_stays (as_storage q) a.1), inr (none_stays (as_buffer q) a.2), inr (none_stays (as_renderbuffer q) a.3), inr e)
+no_other o p q f h a e = absurd (none-some f h)
+
+lost_was : (ws : List ℤ) (left : Option ℕ) (n : ℕ) (o p q : Option Object) → left ≡ Some n → Loses ws o p → IsAsItWas p q → Becomes ws left n o q
+lost_was ws left n o p q h a b = elim b.4 [
+  | inl e ↦ inr (h, record { before = a.before; was = a.was; after = a.after; is = e ∙ a.is; lost = a.lost })
+  | inr e ↦ inl (no_other o p q a.after a.is b e)
+]
+
+becomes_then : (ws : List ℤ) (left : Option ℕ) (n : ℕ) (o p q : Option Object) → Becomes ws left n o p → Becomes ws left n p q → Becomes ws left n o q
+becomes_then ws left n o p q f g = elim f [
+  | inl a ↦ (elim g [ inl b ↦ inl (was_then o p q a b) | inr b ↦ inr (b.0, was_lost ws o p q a b.1) ])
+  | inr a ↦ (elim g [ inl b ↦ lost_was ws left n o p q a.0 a.1 b | inr b ↦ inr (a.0, lost_then ws o p q a.1 b.1) ])
+]
+
+detached_object : (ws : List ℤ) (left : Option ℕ) (n x : ℕ) (o : Option Object) → left ≡ Some n → Contains ws (pos x) → Becomes ws left n o (with_framebuffer (detached_from x) o)
+detached_object ws left n x (Some (Framebuffer f)) h w = inr (h, record { before = f; was = refl; after = detached_from x f; is = refl; lost = detached_loses ws x f w })
+detached_object ws left n x o h w = inl (as_it_was o)
+
 -- no change of an object of another kind is one of a texture, a storage, a buffer, a renderbuffer or a framebuffer
 abbrev Spared : (Option Object → Option Object) → Type 0
 Spared f = (o : Option Object) → IsAsItWas o (f o)
@@ -133,48 +178,63 @@ spared-surface : (f : SurfaceValue → SurfaceValue) → Spared (with_surface f)
 spared-surface f (Some (Surface x)) = as_it_was (Some (Surface x))
 spared-surface f o = as_it_was o
 
--- ---- Objects.
-record Kept (ws : List ℤ) (os ps : List (Option Object)) : Type 0 where
+-- ---- Objects, where one framebuffer may be left out, and where none is.
+record Left (ws : List ℤ) (left : Option ℕ) (os ps : List (Option Object)) : Type 0 where
   long : length os ≤ length ps
-  each : Spares ws os ps
+  each : Spares ws left os ps
 
-kept_self : (ws : List ℤ) (os : List (Option Object)) → Kept ws os os
-kept_self ws os = record { long = omega arith; each = λ n l. inr (as_it_was (get_or os n None)) }
+abbrev Kept : List ℤ → List (Option Object) → List (Option Object) → Type 0
+Kept ws os ps = Left ws None os ps
 
-kept_then : (ws : List ℤ) (os ps qs : List (Option Object)) → Kept ws os ps → Kept ws ps qs → Kept ws os qs
-kept_then ws os ps qs f g = record {
+left_of : (ws : List ℤ) (left : Option ℕ) (os ps : List (Option Object)) → Kept ws os ps → Left ws left os ps
+left_of ws left os ps f = record {
+  long = f.long;
+  each = λ n l. elim (f.each n l) [ inl w ↦ inl w | inr a ↦ (elim a [ inl b ↦ inr (inl b) | inr b ↦ absurd (none-some n b.0) ]) ];
+}
+
+left_then : (ws : List ℤ) (left : Option ℕ) (os ps qs : List (Option Object)) → Left ws left os ps → Left ws left ps qs → Left ws left os qs
+left_then ws left os ps qs f g = record {
   long = let a = f.long in let b = g.long in omega (arith, a, b);
   each = λ n l. elim (f.each n l) [
     | inl w ↦ inl w
     | inr a ↦ (elim (g.each n (let b = f.long in omega (arith, l, b))) [
       | inl w ↦ inl w
-      | inr b ↦ inr (was_then (get_or os n None) (get_or ps n None) (get_or qs n None) a b)
+      | inr b ↦ inr (becomes_then ws left n (get_or os n None) (get_or ps n None) (get_or qs n None) a b)
     ])
   ];
 }
 
-kept_set : (ws : List ℤ) (os : List (Option Object)) (n : ℕ) (x : Option Object) → Contains ws (pos n) ⊎ IsAsItWas (get_or os n None) x → Kept ws os (set os n x)
-kept_set ws os n x h = record {
+left_set : (ws : List ℤ) (left : Option ℕ) (os : List (Option Object)) (n : ℕ) (x : Option Object) → Contains ws (pos n) ⊎ Becomes ws left n (get_or os n None) x → Left ws left os (set os n x)
+left_set ws left os n x h = record {
   long = let e = length-set os n x in omega (arith, e);
   each = λ m l. elim (cases_eq m n) [
-    | inl e ↦ subst (λ i. Contains ws (pos i) ⊎ IsAsItWas (get_or os i None) (get_or (set os n x) i None)) (sym e) (here (subst (λ i. i < length os) e l))
-    | inr ne ↦ inr (subst (λ p. IsAsItWas (get_or os m None) p) (sym (get_or-set_other os n m x None ne)) (as_it_was (get_or os m None)))
+    | inl e ↦ subst (λ i. Contains ws (pos i) ⊎ Becomes ws left i (get_or os i None) (get_or (set os n x) i None)) (sym e) (here (subst (λ i. i < length os) e l))
+    | inr ne ↦ inr (inl (subst (λ p. IsAsItWas (get_or os m None) p) (sym (get_or-set_other os n m x None ne)) (as_it_was (get_or os m None))))
   ];
 }
   where
-    here : n < length os → Contains ws (pos n) ⊎ IsAsItWas (get_or os n None) (get_or (set os n x) n None)
-    here l = elim h [ inl w ↦ inl w | inr a ↦ inr (subst (λ p. IsAsItWas (get_or os n None) p) (sym (get_or-set_same os n x None l)) a) ]
+    here : n < length os → Contains ws (pos n) ⊎ Becomes ws left n (get_or os n None) (get_or (set os n x) n None)
+    here l = elim h [ inl w ↦ inl w | inr a ↦ inr (subst (λ p. Becomes ws left n (get_or os n None) p) (sym (get_or-set_same os n x None l)) a) ]
+
+kept_self : (ws : List ℤ) (os : List (Option Object)) → Kept ws os os
+kept_self ws os = record { long = omega arith; each = λ n l. inr (inl (as_it_was (get_or os n None))) }
+
+kept_then : (ws : List ℤ) (os ps qs : List (Option Object)) → Kept ws os ps → Kept ws ps qs → Kept ws os qs
+kept_then ws os ps qs f g = left_then ws None os ps qs f g
+
+kept_set : (ws : List ℤ) (os : List (Option Object)) (n : ℕ) (x : Option Object) → Contains ws (pos n) ⊎ IsAsItWas (get_or os n None) x → Kept ws os (set os n x)
+kept_set ws os n x h = left_set ws None os n x (elim h [ inl w ↦ inl w | inr a ↦ inr (inl a) ])
 
 kept_more : (ws : List ℤ) (os more : List (Option Object)) → Kept ws os (os ++ more)
 kept_more ws os more = record {
   long = let e = length-append os more in omega (arith, e);
-  each = λ n l. inr (subst (λ p. IsAsItWas (get_or os n None) p) (sym (get_or_append_left os more None n l)) (as_it_was (get_or os n None)));
+  each = λ n l. inr (inl (subst (λ p. IsAsItWas (get_or os n None) p) (sym (get_or_append_left os more None n l)) (as_it_was (get_or os n None))));
 }
 
 kept_swept : (ws : List ℤ) (rs : List ℕ) (os : List (Option Object)) → Kept ws os (swept rs os)
 kept_swept ws rs os = record {
   long = let e = length-swept rs os in omega (arith, e);
-  each = λ n l. inr (subst (λ p. IsAsItWas (get_or os n None) p) (sym (object_at-swept rs os n)) (gone_or_not (reached rs (edges_at os) n) (get_or os n None)));
+  each = λ n l. inr (inl (subst (λ p. IsAsItWas (get_or os n None) p) (sym (object_at-swept rs os n)) (gone_or_not (reached rs (edges_at os) n) (get_or os n None))));
 }
 
 kept-context : (ws : List ℤ) (f : ContextObject → ContextObject) (n : ℕ) (os : List (Option Object)) → Kept ws os (change_context f n os)
@@ -222,27 +282,32 @@ kept-framebuffer : (ws : List ℤ) (f : FramebufferValue → FramebufferValue) (
 unfolding change_framebuffer
 kept-framebuffer ws f n os w = kept_set ws os n _ (inl w)
 
--- and what isn't attached to a framebuffer leaves it as it is
-kept-detached : (ws : List ℤ) (o : Option ℕ) (x : ℕ) (os : List (Option Object)) → ((b : ℕ) → o ≡ Some b → is_attached (framebuffer_in os b) (Some x) ≡ true → Contains ws (pos b)) → Kept ws os (detached_on o x os)
+-- and the framebuffer that is left out loses what is written
+left-detached : (ws : List ℤ) (left o : Option ℕ) (x : ℕ) (os : List (Option Object)) → ((b : ℕ) → o ≡ Some b → left ≡ Some b) → Contains ws (pos x) → Left ws left os (detached_on o x os)
 unfolding change_framebuffer
-kept-detached ws None x os h = kept_self ws os
-kept-detached ws (Some b) x os h = kept_set ws os b (with_framebuffer (detached_from x) (get_or os b None)) (by (is_attached (framebuffer_in os b) (Some x)) refl)
-  where
-    by : (w : Bool) → is_attached (framebuffer_in os b) (Some x) ≡ w → Contains ws (pos b) ⊎ IsAsItWas (get_or os b None) (with_framebuffer (detached_from x) (get_or os b None))
-    by true e = inl (h b refl e)
-    by false e = inr (subst (λ p. IsAsItWas (get_or os b None) p) (sym (unattached x (get_or os b None) e)) (as_it_was (get_or os b None)))
+left-detached ws left None x os h w = left_of ws left os os (kept_self ws os)
+left-detached ws left (Some b) x os h w = left_set ws left os b (with_framebuffer (detached_from x) (get_or os b None)) (inr (detached_object ws left b x (get_or os b None) (h b refl) w))
 
 kept-flush : (ws : List ℤ) (o : Option ℕ) (os : List (Option Object)) → Kept ws os (flush_in o os)
 kept-flush ws None os = kept_self ws os
 kept-flush ws (Some n) os = kept-context ws _ n os
 
 -- ---- Objects and windows.
-record Tells (ws : List ℤ) (os : List (Option Object)) (vs : List WindowValue) (ps : List (Option Object)) (us : List WindowValue) : Type 0 where
-  kept : Kept ws os ps
+record Leaves (ws : List ℤ) (left : Option ℕ) (os : List (Option Object)) (vs : List WindowValue) (ps : List (Option Object)) (us : List WindowValue) : Type 0 where
+  kept : Left ws left os ps
   shows : Shows ws vs us
+
+abbrev LeftBy : List ℤ → Option ℕ → State → State → Type 0
+LeftBy ws left s a = Leaves ws left s.objects s.windows a.objects a.windows
+
+abbrev Tells : List ℤ → List (Option Object) → List WindowValue → List (Option Object) → List WindowValue → Type 0
+Tells ws os vs ps us = Leaves ws None os vs ps us
 
 abbrev Told : List ℤ → State → State → Type 0
 Told ws s a = Tells ws s.objects s.windows a.objects a.windows
+
+leaves_of : (ws : List ℤ) (left : Option ℕ) (os ps : List (Option Object)) (vs us : List WindowValue) → Tells ws os vs ps us → Leaves ws left os vs ps us
+leaves_of ws left os ps vs us f = record { kept = left_of ws left os ps f.kept; shows = f.shows }
 
 with_objects : (ws : List ℤ) (os ps : List (Option Object)) (vs : List WindowValue) → Kept ws os ps → Tells ws os vs ps vs
 with_objects ws os ps vs k = record { kept = k; shows = λ n. inr refl }
@@ -250,8 +315,11 @@ with_objects ws os ps vs k = record { kept = k; shows = λ n. inr refl }
 tells_self : (ws : List ℤ) (os : List (Option Object)) (vs : List WindowValue) → Tells ws os vs os vs
 tells_self ws os vs = with_objects ws os os vs (kept_self ws os)
 
+leaves_then : (ws : List ℤ) (left : Option ℕ) (os ps qs : List (Option Object)) (vs us : List WindowValue) → Leaves ws left os vs ps us → Kept ws ps qs → Leaves ws left os vs qs us
+leaves_then ws left os ps qs vs us f k = record { kept = left_then ws left os ps qs f.kept (left_of ws left ps qs k); shows = f.shows }
+
 tells_then : (ws : List ℤ) (os ps qs : List (Option Object)) (vs us : List WindowValue) → Tells ws os vs ps us → Kept ws ps qs → Tells ws os vs qs us
-tells_then ws os ps qs vs us f k = record { kept = kept_then ws os ps qs f.kept k; shows = f.shows }
+tells_then ws os ps qs vs us f k = leaves_then ws None os ps qs vs us f k
 
 -- ---- Calls of EGL.
 shows_set : (ws : List ℤ) (id : ℕ) (vs : List WindowValue) (i : ImageValue) (o : Option ℕ) → place_of id vs ≡ o → Contains ws (front id) → Shows ws vs (option_map_or (λ k. set vs k (posted i (window_at vs k))) o vs)
@@ -351,21 +419,25 @@ told-bind : (s : State) (b : BindTarget) (n name : ℕ) (is_zero : Bool) → Tol
 told-bind s b n name true = with_objects [] s.objects _ s.windows (kept-bound [] b n None 0 s.objects)
 told-bind s b n name false = told-named s b (group_of s n) n name (object_named s (group_of s n) (name_kind b) name)
 
-kept-unbound : (ws : List ℤ) (k : NameKind) (n : ℕ) (o : Option ℕ) (os : List (Option Object)) → ((b : ℕ) → bound_framebuffer_in n os ≡ Some b → is_attached (framebuffer_in os b) o ≡ true → Contains ws (pos b)) → Kept ws os (unbound_in k n o os)
-kept-unbound ws k n None os h = kept_self ws os
-kept-unbound ws k n (Some x) os h = kept_then ws os _ _ (kept-detached ws (bound_framebuffer_in n os) x os h) (kept-context ws _ n _)
+left-unbound : (ws : List ℤ) (left : Option ℕ) (k : NameKind) (n : ℕ) (o : Option ℕ) (os : List (Option Object)) → ((b : ℕ) → bound_framebuffer_in n os ≡ Some b → left ≡ Some b) → ((y : ℕ) → o ≡ Some y → Contains ws (pos y)) → Left ws left os (unbound_in k n o os)
+left-unbound ws left k n None os h w = left_of ws left os os (kept_self ws os)
+left-unbound ws left k n (Some x) os h w =
+    let ps = detached_on (bound_framebuffer_in n os) x os in
+    left_then ws left os ps _ (left-detached ws left (bound_framebuffer_in n os) x os h (w x refl)) (left_of ws left ps _ (kept-context ws (unbound_object k x) n ps))
 
-kept-freed : (ws : List ℤ) (k : NameKind) (g n name : ℕ) (o : Option ℕ) (os : List (Option Object)) → ((b : ℕ) → bound_framebuffer_in n os ≡ Some b → is_attached (framebuffer_in os b) o ≡ true → Contains ws (pos b)) → Kept ws os (freed k g n name o os)
-kept-freed ws k g n name o os h = kept_then ws os _ _ (kept-unbound ws k n o os h) (kept-group ws _ g _)
+left-freed : (ws : List ℤ) (left : Option ℕ) (k : NameKind) (g n name : ℕ) (o : Option ℕ) (os : List (Option Object)) → ((b : ℕ) → bound_framebuffer_in n os ≡ Some b → left ≡ Some b) → ((y : ℕ) → o ≡ Some y → Contains ws (pos y)) → Left ws left os (freed k g n name o os)
+left-freed ws left k g n name o os h w =
+    let ps = unbound_in k n o os in
+    left_then ws left os ps _ (left-unbound ws left k n o os h w) (left_of ws left ps _ (kept-group ws (with_name_of k name None) g ps))
 
-tells_before : (ws : List ℤ) (os ps qs : List (Option Object)) (vs us : List WindowValue) → Kept ws os ps → Tells ws ps vs qs us → Tells ws os vs qs us
-tells_before ws os ps qs vs us k f = record { kept = kept_then ws os ps qs k f.kept; shows = f.shows }
+leaves_before : (ws : List ℤ) (left : Option ℕ) (os ps qs : List (Option Object)) (vs us : List WindowValue) → Left ws left os ps → Leaves ws left ps vs qs us → Leaves ws left os vs qs us
+leaves_before ws left os ps qs vs us k f = record { kept = left_then ws left os ps qs k f.kept; shows = f.shows }
 
-told-deleted : (ws : List ℤ) (k : NameKind) (g n : ℕ) (xs : List ℤ) (s : State) → CountsDetached ws k g n xs s → Told ws s (deleted_in k g n xs s)
-told-deleted ws k g n [] s f = tells_self ws s.objects s.windows
-told-deleted ws k g n (x ∷ xs) s f =
+left-deleted : (ws : List ℤ) (left : Option ℕ) (k : NameKind) (g n : ℕ) (xs : List ℤ) (s : State) → Deleting ws left k g n xs s → LeftBy ws left s (deleted_in k g n xs s)
+left-deleted ws left k g n [] s f = leaves_of ws left s.objects s.objects s.windows s.windows (tells_self ws s.objects s.windows)
+left-deleted ws left k g n (x ∷ xs) s f =
     let a = deleted_name k g n (unsigned x) s in
-    tells_before ws s.objects a.objects _ s.windows _ (kept-freed ws k g n (unsigned x) (object_named s g k (unsigned x)) s.objects f.0) (told-deleted ws k g n xs a (counts_later ws k g n (unsigned x) xs s f.1))
+    leaves_before ws left s.objects a.objects _ s.windows _ (left-freed ws left k g n (unsigned x) (object_named s g k (unsigned x)) s.objects f.bound (f.named x (contains_first x xs))) (left-deleted ws left k g n xs a (deleting_later ws left k g n x xs s f))
 
 told-data : (s : State) (c : CallValue) (o : Option ℕ) → Told (object o) s (set_data c o s)
 told-data s c None = tells_self [] s.objects s.windows
@@ -450,25 +522,25 @@ told-bound_renderbuffer s n name = told-bind s RenderbufferTarget n name (name =
 told-bound_framebuffer : (s : State) (n name : ℕ) → Told [] s (bound_name FramebufferTarget s n name)
 told-bound_framebuffer s n name = told-bind s FramebufferTarget n name (name == 0)
 
-told-deletion : (k : NameKind) (s : State) (n : ℕ) (xs : List ℤ) → Told (deletion_touches s n k xs).writes s (deleted_names k s n xs)
-told-deletion k s n xs = told-deleted _ k (group_of s n) n xs s (counts_all k s n xs)
+left-deletion : (k : NameKind) (s : State) (n : ℕ) (xs : List ℤ) → LeftBy (deletion_touches s n k xs).writes (target_framebuffer s n) s (deleted_names k s n xs)
+left-deletion k s n xs = left-deleted _ _ k (group_of s n) n xs s (deleting_all k s n xs)
 
-told-deleted_textures : (s : State) (n : ℕ) (xs : List ℤ) → Told (deletion_touches s n textures xs).writes s (deleted_names textures s n xs)
-told-deleted_textures s n xs = told-deletion textures s n xs
+left-deleted_textures : (s : State) (n : ℕ) (xs : List ℤ) → LeftBy (deletion_touches s n textures xs).writes (target_framebuffer s n) s (deleted_names textures s n xs)
+left-deleted_textures s n xs = left-deletion textures s n xs
 
-told-deleted_buffers : (s : State) (n : ℕ) (xs : List ℤ) → Told (deletion_touches s n buffers xs).writes s (deleted_names buffers s n xs)
-told-deleted_buffers s n xs = told-deletion buffers s n xs
+left-deleted_buffers : (s : State) (n : ℕ) (xs : List ℤ) → LeftBy (deletion_touches s n buffers xs).writes (target_framebuffer s n) s (deleted_names buffers s n xs)
+left-deleted_buffers s n xs = left-deletion buffers s n xs
 
-told-deleted_renderbuffers : (s : State) (n : ℕ) (xs : List ℤ) → Told (deletion_touches s n renderbuffers xs).writes s (deleted_names renderbuffers s n xs)
-told-deleted_renderbuffers s n xs = told-deletion renderbuffers s n xs
+left-deleted_renderbuffers : (s : State) (n : ℕ) (xs : List ℤ) → LeftBy (deletion_touches s n renderbuffers xs).writes (target_framebuffer s n) s (deleted_names renderbuffers s n xs)
+left-deleted_renderbuffers s n xs = left-deletion renderbuffers s n xs
 
-told-deleted_framebuffers : (s : State) (n : ℕ) (xs : List ℤ) → Told (deletion_touches s n framebuffers xs).writes s (deleted_names framebuffers s n xs)
-told-deleted_framebuffers s n xs = told-deletion framebuffers s n xs
+left-deleted_framebuffers : (s : State) (n : ℕ) (xs : List ℤ) → LeftBy (deletion_touches s n framebuffers xs).writes (target_framebuffer s n) s (deleted_names framebuffers s n xs)
+left-deleted_framebuffers s n xs = left-deletion framebuffers s n xs
 
 -- what calls on objects do is made of these
 ruleset bindings = (told-bound_texture, told-bound_buffer, told-bound_renderbuffer, told-bound_framebuffer)
 
-ruleset deletions = (told-deleted_textures, told-deleted_buffers, told-deleted_renderbuffers, told-deleted_framebuffers)
+ruleset deletions = (left-deleted_textures, left-deleted_buffers, left-deleted_renderbuffers, left-deleted_framebuffers)
 
 ruleset pixels = (told-clear, told-draw, told-specified, told-rewritten, told-copied, told-copied_part, told-texture_image, told-stored, told-renderbuffer_image)
 
@@ -476,21 +548,24 @@ ruleset settings = (told-parameter, told-crop, told-data, told-part_of, told-att
 
 ruleset object_moves = (tells_self, with_objects, kept-group, kept-flush, bindings, deletions, pixels, settings)
 
-told-object : (s : State) (t n : ℕ) (c : CallValue) (k : GlKind) → Told (object_touches s t n k c).writes s (object_effect s t n k c).state
+left-object : (s : State) (t n : ℕ) (c : CallValue) (k : GlKind) → LeftBy (object_touches s t n k c).writes (left_out_of (Some n) (gl_role k) s) s (object_effect s t n k c).state
 -- one call is named, so that each other is a case of its own
-told-object s t n c Clear = search object_moves
-told-object s t n c k = search object_moves
+left-object s t n c Clear = search object_moves
+left-object s t n c k = search object_moves
 
-told_by-gl : (o : Option ContextCall) (s : State) (t n : ℕ) (c : CallValue) (k : GlKind) → Told (touches_by_class o s t n k c).writes s (effect_by o s t n k c).state
-told_by-gl (Some own) s t n c k = told-part [] s n (λ p. (apply c p).part)
-told_by-gl None s t n c k = told-object s t n c k
+left_by-gl : (o : Option ContextCall) (s : State) (t n : ℕ) (c : CallValue) (k : GlKind) → LeftBy (touches_by_class o s t n k c).writes (left_out_of (Some n) (gl_role k) s) s (effect_by o s t n k c).state
+left_by-gl (Some own) s t n c k = leaves_of [] _ s.objects _ s.windows _ (told-part [] s n (λ p. (apply c p).part))
+left_by-gl None s t n c k = left-object s t n c k
 
-told-gl : (s : State) (t n : ℕ) (c : CallValue) (k : GlKind) → Told (gl_touches s t n k c).writes s (gl_effect s t n k c).state
-told-gl s t n c k = told_by-gl (context_gl_call k) s t n c k
+left-gl : (s : State) (t n : ℕ) (c : CallValue) (k : GlKind) → LeftBy (gl_touches s t n k c).writes (left_out_of (Some n) (gl_role k) s) s (gl_effect s t n k c).state
+left-gl s t n c k = left_by-gl (context_gl_call k) s t n c k
 
 -- ---- Steps.
+abbrev StepLeaves : Touches → Option ℕ → State → Stepped → Type 0
+StepLeaves x left s a = LeftBy (if is_done a.reply.outcome then x else nothing).writes left s a.state
+
 abbrev ToldBy : Touches → State → Stepped → Type 0
-ToldBy x s a = Told (if is_done a.reply.outcome then x else nothing).writes s a.state
+ToldBy x s a = StepLeaves x None s a
 
 idle : (b : Bool) (os ps : List (Option Object)) (vs us : List WindowValue) → Tells [] os vs ps us → Tells (if b then nothing else nothing).writes os vs ps us
 idle true os ps vs us f = f
@@ -504,15 +579,16 @@ egl_ruled : (s : State) (t : ℕ) (c : CallValue) (k : EglKind) (o : Option EglE
 egl_ruled s t c k (Some e) = tells_self [] s.objects s.windows
 egl_ruled s t c k None = egl_done s t c k
 
-gl_ruled : (s : State) (t n : ℕ) (c : CallValue) (k : GlKind) (o : Option GlError) → ToldBy (gl_touches s t n k c) s (after_gl_rules s n o (gl_effect s t n k c))
-gl_ruled s t n c k (Some e) = told-part [] s n (noted e)
+gl_ruled : (s : State) (t n : ℕ) (c : CallValue) (k : GlKind) (o : Option GlError) → StepLeaves (gl_touches s t n k c) (left_out_of (Some n) (gl_role k) s) s (after_gl_rules s n o (gl_effect s t n k c))
+gl_ruled s t n c k (Some e) = leaves_of [] _ s.objects _ s.windows _ (told-part [] s n (noted e))
 gl_ruled s t n c k None =
     let a = (gl_effect s t n k c).state in
     let x = gl_touches s t n k c in
-    let P : Bool → Type 0 = λ b. Told (if is_done (if b then Waiting else Done) then x else nothing).writes s (sweep a) in
-    subst P (sym (gl_never_waits s t n c k)) (tells_then x.writes s.objects a.objects _ s.windows _ (told-gl s t n c k) (kept_swept x.writes _ a.objects))
+    let left = left_out_of (Some n) (gl_role k) s in
+    let P : Bool → Type 0 = λ b. LeftBy (if is_done (if b then Waiting else Done) then x else nothing).writes left s (sweep a) in
+    subst P (sym (gl_never_waits s t n c k)) (leaves_then x.writes left s.objects a.objects _ s.windows _ (left-gl s t n c k) (kept_swept x.writes _ a.objects))
 
-gl_on : (s : State) (t : ℕ) (c : CallValue) (k : GlKind) (o : Option ℕ) → ToldBy (gl_touches_on s t o k c) s (gl_step_on s t o k c)
+gl_on : (s : State) (t : ℕ) (c : CallValue) (k : GlKind) (o : Option ℕ) → StepLeaves (gl_touches_on s t o k c) (left_out_of o (gl_role k) s) s (gl_step_on s t o k c)
 gl_on s t c k None = tells_self [] s.objects s.windows
 gl_on s t c k (Some n) = gl_ruled s t n c k (gl_refusal s t n k c)
 
@@ -529,7 +605,7 @@ own_told : (s : State) (t : ℕ) (c : CallValue) (k : OwnKind) → ToldBy (own_t
 own_told s t c ReadBuffer = buffer_on s t c (current_context s t)
 own_told s t c k = tells_self _ s.objects s.windows
 
-kind_told : (s : State) (t : ℕ) (c : CallValue) (k : Kind) → ToldBy (touches_by s t k c) s (step_by s t k c)
+kind_told : (s : State) (t : ℕ) (c : CallValue) (k : Kind) → StepLeaves (touches_by s t k c) (left_out_by k (current_context s t) s) s (step_by s t k c)
 unfolding egl_step gl_step
 kind_told s t c (Egl k) = egl_ruled s t c k (egl_refusal s t k c)
 kind_told s t c (Gl k) = gl_on s t c k (current_context s t)
@@ -540,10 +616,10 @@ wait_told s t x false signalled = tells_self [] s.objects s.windows
 wait_told s t x true false = tells_self [] s.objects s.windows
 wait_told s t x true true = with_objects x.writes s.objects _ s.windows (kept_swept x.writes _ s.objects)
 
-told_in : (s : State) (t : ℕ) (c : CallValue) (o : Option ℕ) → ToldBy (touches_by s t c.kind c) s (step_in o s t c)
-told_in s t c (Some sync) = wait_told s t (touches_by s t c.kind c) (is_wait_end c.kind) (is_signalled s sync)
+told_in : (s : State) (t : ℕ) (c : CallValue) (o : Option ℕ) → StepLeaves (touches_by s t c.kind c) (left_out s t c) s (step_in o s t c)
+told_in s t c (Some sync) = leaves_of _ (left_out s t c) s.objects _ s.windows _ (wait_told s t (touches_by s t c.kind c) (is_wait_end c.kind) (is_signalled s sync))
 told_in s t c None = kind_told s t c c.kind
 
-pub written_by : (s : State) (t : ℕ) (c : CallValue) → IsWrittenBy (touches_of s t c) s (step s t c).state
+pub written_by : (s : State) (t : ℕ) (c : CallValue) → IsWrittenBy (touches_of s t c) (left_out s t c) s (step s t c).state
 unfolding step touches_of
 written_by s t c = let f = told_in s t c (record_of s t).wait in record { objects = f.kept.each; windows = f.shows }

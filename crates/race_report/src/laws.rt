@@ -13,7 +13,7 @@ ghost use Rattle.race_report.specs.Order.{Leads};
 ghost use Rattle.race_report.specs.Races.{AreRaces};
 ghost use Rattle.driver_facts.specs.Touches.{touches_of};
 ghost use Rattle.race_report.specs.Words.{LeadsIn};
-ghost use Rattle.race_report.specs.Writes.{IsWrittenBy};
+ghost use Rattle.race_report.specs.Writes.{IsWrittenBy, left_out};
 
 /// No two lists are the races of a run.
 pub fn races_are_one_list()
@@ -26,7 +26,7 @@ pub fn places_lead_as_said()
     ensures all { (lines : List ALine) (journal : List AnEntry) (ts : List TheTouches) (i j : ℕ) → length ts ≡ length journal → LeadsIn lines journal i j → Leads (events_of lines journal ts) i j }
 {}
 
-/// What a call changes of textures, of storages, of buffers, of renderbuffers, of framebuffers and of what windows show is among what it writes; what else one of these objects may become is gone. So no row of what calls touch forgets a write.
+/// What a call changes of textures, of storages, of buffers, of renderbuffers, of framebuffers and of what windows show is among what it writes; what else one of these objects may become is gone. One change is left out: where a deletion detaches what it deletes from the framebuffer that its context has bound, it doesn't write that framebuffer, which loses just what is written. So no other row of what calls touch forgets a write.
 pub fn what_a_call_changes_is_written()
-    ensures { (s : State) (t : ℕ) (c : CallValue) → IsWrittenBy (touches_of s t c) s (step s t c).state }
+    ensures { (s : State) (t : ℕ) (c : CallValue) → IsWrittenBy (touches_of s t c) (left_out s t c) s (step s t c).state }
 {}

@@ -1,8 +1,11 @@
 //! Draws of a texture's pixels (OES_draw_texture).
 
-ghost use Rattle.std.specs.Prelude.{◌≡◌, ℕ, ◌-◌, ◌<◌, true, length, slice_index_or, IsOk, OnOk, OnErr};
+ghost use Rattle.std.specs.Prelude.{◌≡◌, ℕ, ◌-◌, ◌<◌, true, false, length, slice_index_or, IsOk, OnOk, OnErr};
 ghost use Rattle.pixel_formats.specs.Formats.{base_of};
+ghost use Rattle.pixel_formats.specs.declared.formats.Format.TheVariants.{Rgba8888};
+ghost use Rattle.pixel_rows.specs.Cells.{seen};
 ghost use Rattle.pixel_rows.specs.Images.{IsImage, IsSameShape, no_pixel, pixel_at};
+ghost use Rattle.pixel_rows.specs.Lanes.{scaled};
 ghost use Rattle.pixel_rows.specs.Masks.{every};
 ghost use Rattle.pixel_rows.specs.Painting.{painted};
 ghost use Rattle.rect_pipeline.specs.Drawing.{environment_of, fragment_of};
@@ -14,7 +17,7 @@ ghost use Rattle.rect_pipeline.specs.Texels as texels;
 
 use crate::axes::{Axis, texel_at, texels};
 use crate::fragments::{Environment, colour_in};
-use crate::images::{MOST_COLUMNS, NO_PIXEL, gather_row, own, put_row};
+use crate::images::{MOST_COLUMNS, gather_row, gather_scaled_row, lay_row, own};
 use crate::targets::{Region, fill, mask_of};
 use context_state::ContextPart;
 use egl_calls::NoMemory;
@@ -28,9 +31,17 @@ fn is_all(mask: Mask) -> bool
     mask.r && mask.g && mask.b && mask.a
 }
 
-/// The fragments of the texels of some columns of a row of a texture.
+/// Whether a fragment is the product of the colour and a texel at 8 bits a component.
+fn scales(f: Format, environment: Environment) -> bool
+    ensures eight { result ≡ true → f ≡ Rgba8888 }
+    ensures multiplies { result ≡ true → environment.replaces ≡ false }
+{
+    f == Format::Rgba8888 && !environment.replaces
+}
+
+/// The fragments of the texels of some columns of a row of a texture, four bytes each.
 fn combine(
-    fragments: &mut [Pixel],
+    fragments: &mut [[u8; 4]],
     image: &Image,
     columns: &[u32],
     row: u32,
@@ -40,11 +51,10 @@ fn combine(
     requires row { row < image.now.height }
     requires columns { (k : ℕ) → k < length columns.now → slice_index_or columns.now k 0 < image.now.width }
     ensures long { length fragments.new ≡ length fragments.old }
-    ensures each { (k : ℕ) → k < length columns.now → slice_index_or fragments.new k no_pixel ≡ fragment_of environment (pixel_at image.now (slice_index_or columns.now k 0) row) }
+    ensures each { (k : ℕ) → k < length columns.now → slice_index_or (seen Rgba8888 fragments.new) k no_pixel ≡ fragment_of environment (pixel_at image.now (slice_index_or columns.now k 0) row) }
 {
-    'pixels: for k in 0..columns.len() {
-        fragments[k] = environment.fragment(image.at(columns[k], row));
-    }
+    image.read_row(row, columns, fragments);
+    environment.combine(fragments);
 }
 
 /// Draws a region from the texels of some columns of a texture: for each pixel the fragment of its texel.
@@ -66,12 +76,12 @@ fn draw_combined(
     ensures still { IsWritable target.old target.new }
 {
     let (_width, _height) = (target.width(), target.height());
-    let mut pixels = [NO_PIXEL; MOST_COLUMNS];
-    let fragments = &mut pixels[..columns.len()];
+    let mut list = [[0; 4]; MOST_COLUMNS];
+    let fragments = &mut list[..columns.len()];
     'rows: for y in region.rows.start..region.rows.end {
         let row = texel_at(rows, y);
         combine(fragments, image, columns, row, environment);
-        put_row(target, y, region.columns, fragments, mask);
+        lay_row(target, y, region.columns, fragments, mask);
     }
 }
 
@@ -93,8 +103,34 @@ fn draw_texels(target: &mut Image, region: Region, image: &Image, columns: &[u32
     }
 }
 
+/// Draws a region from the texels of some columns of a texture, each multiplied by a colour, both images
+/// at 8 bits a component in `Rgba8888`.
+fn draw_scaled(
+    target: &mut Image,
+    region: Region,
+    image: &Image,
+    columns: &[u32],
+    rows: Axis,
+    by: Pixel,
+)
+    requires owned { target.old.owned ≡ true }
+    requires format { (target.old.format ≡ Rgba8888) × (image.now.format ≡ Rgba8888) }
+    requires region { IsRegionIn region target.old.width target.old.height }
+    requires long { length columns.now ≡ region.columns.end - region.columns.start }
+    requires columns { (k : ℕ) → k < length columns.now → slice_index_or columns.now k 0 < image.now.width }
+    requires rows { (IsAxis rows) × (rows.side ≡ image.now.height) }
+    ensures region { target.new ≡ painted target.old (in_region region) (λ x y. scaled by (pixel_at image.now (slice_index_or columns.now (x - region.columns.start) 0) (texels.texel_at rows y))) every }
+    ensures still { IsWritable target.old target.new }
+{
+    let (_width, _height) = (target.width(), target.height());
+    'rows: for y in region.rows.start..region.rows.end {
+        let row = texel_at(rows, y);
+        gather_scaled_row(target, y, region.columns, image, columns, row, by);
+    }
+}
+
 /// Draws a region from the texels of some columns of a texture: as a copy of bytes, where a pixel that
-/// is written is its texel's, or else by the fragments.
+/// is written is its texel's, by products of bytes, or else by the fragments.
 fn draw_columns(
     target: &mut Image,
     region: Region,
@@ -116,6 +152,8 @@ fn draw_columns(
     let same = image.format() == target.format();
     if same && environment.keeps_texels() && is_all(mask) {
         draw_texels(target, region, image, columns, rows);
+    } else if same && scales(image.format(), environment) && is_all(mask) {
+        draw_scaled(target, region, image, columns, rows, environment.colour);
     } else {
         draw_combined(target, region, image, columns, rows, environment, mask);
     }

@@ -1,11 +1,16 @@
 //! What a draw writes: the colour, or its combination with a texel (OpenGL ES 1.1, section 3.7.12).
 
-ghost use Rattle.std.specs.Prelude.{◌≡◌, true};
+ghost use Rattle.std.specs.Prelude.{◌≡◌, ℕ, ◌<◌, true, length, slice_index_or};
 ghost use Rattle.pixel_formats.specs.Formats as formats;
 ghost use Rattle.pixel_formats.specs.Pixels.{quantize};
+ghost use Rattle.pixel_formats.specs.declared.formats.Format.TheVariants.{Rgba8888};
+ghost use Rattle.pixel_rows.specs.Cells.{seen};
+ghost use Rattle.pixel_rows.specs.Images.{no_pixel};
+ghost use Rattle.rect_pipeline.specs.Drawing.{fragment_of};
 ghost use Rattle.rect_pipeline.specs.Fragments as fragments;
 
 use pixel_formats::{Base, Format, Pixel, clear_pixel};
+use pixel_rows::{Mask, scale_row, set_row};
 
 /// A colour in 16.16 fixed point as what it reads as in a format.
 pub(crate) fn colour_in(f: Format, colour: [i64; 4]) -> Pixel
@@ -14,64 +19,21 @@ pub(crate) fn colour_in(f: Format, colour: [i64; 4]) -> Pixel
     clear_pixel(f, colour[0], colour[1], colour[2], colour[3])
 }
 
-/// The product of two components, rounded.
-#[inline(always)]
-fn product(a: u8, b: u8) -> u8
-    ensures { result ≡ fragments.product a b }
-{
-    ((2 * a as u32 * b as u32 + 255) / 510) as u8
-}
+/// What a texture with no alpha leaves to the colour.
+const ALPHA: Mask = Mask {
+    r: false,
+    g: false,
+    b: false,
+    a: true,
+};
 
-#[inline(always)]
-fn multiplied(f: Pixel, t: Pixel) -> Pixel
-    ensures { result ≡ fragments.multiplied f t }
-{
-    Pixel {
-        r: product(f.r, t.r),
-        g: product(f.g, t.g),
-        b: product(f.b, t.b),
-        a: product(f.a, t.a),
-    }
-}
-
-/// The colour of one pixel with another alpha.
-#[inline(always)]
-fn with_alpha(p: Pixel, alpha: u8) -> Pixel
-    ensures { result ≡ fragments.with_alpha p alpha }
-{
-    Pixel {
-        r: p.r,
-        g: p.g,
-        b: p.b,
-        a: alpha,
-    }
-}
-
-#[inline(always)]
-fn replaced(base: Base, f: Pixel, t: Pixel) -> Pixel
-    ensures { result ≡ fragments.replaced base f t }
-{
-    match base {
-        Base::Rgba => t,
-        Base::Rgb => with_alpha(t, f.a),
-        Base::Alpha => with_alpha(f, t.a),
-        Base::Luminance => with_alpha(t, f.a),
-        Base::LuminanceAlpha => t,
-    }
-}
-
-#[inline(always)]
-fn modulated(base: Base, f: Pixel, t: Pixel) -> Pixel
-    ensures { result ≡ fragments.modulated base f t }
-{
-    match base {
-        Base::Rgba => multiplied(f, t),
-        Base::Rgb => with_alpha(multiplied(f, t), f.a),
-        Base::Alpha => with_alpha(f, product(f.a, t.a)),
-        Base::Luminance => with_alpha(multiplied(f, t), f.a),
-        Base::LuminanceAlpha => multiplied(f, t),
-    }
-}
+/// What a texture of alpha alone leaves to the colour.
+const COLOURS: Mask = Mask {
+    r: true,
+    g: true,
+    b: true,
+    a: false,
+};
 
 /// Whether a colour is white, so that a texel times it is the texel.
 fn is_white(p: Pixel) -> bool
@@ -97,15 +59,29 @@ impl Environment {
         self.replaces || is_white(self.colour)
     }
 
-    /// The fragment of a texel.
-    #[inline(always)]
-    pub(crate) fn fragment(self, texel: Pixel) -> Pixel
-        ensures { result ≡ fragments.combined self.replaces self.base self.colour texel }
+    /// Multiplies a row of texels by the colour, where it isn't to be replaced by them.
+    fn multiply(self, row: &mut [[u8; 4]])
+        ensures long { length row.new ≡ length row.old }
+        ensures each { (k : ℕ) → k < length row.old → slice_index_or (seen Rgba8888 row.new) k no_pixel ≡ fragments.multiplied_where self.replaces self.colour (slice_index_or (seen Rgba8888 row.old) k no_pixel) }
     {
-        if self.replaces {
-            replaced(self.base, self.colour, texel)
-        } else {
-            modulated(self.base, self.colour, texel)
+        if !self.replaces {
+            scale_row(row, self.colour);
+        }
+    }
+
+    /// The fragments of a row of texels, four bytes each, as `Rgba8888` keeps them: products, or the
+    /// texels, and of the colour what the texture hasn't.
+    pub(crate) fn combine(self, row: &mut [[u8; 4]])
+        ensures long { length row.new ≡ length row.old }
+        ensures each { (k : ℕ) → k < length row.old → slice_index_or (seen Rgba8888 row.new) k no_pixel ≡ fragment_of self (slice_index_or (seen Rgba8888 row.old) k no_pixel) }
+    {
+        self.multiply(row);
+        match self.base {
+            Base::Rgb => set_row(row, self.colour, ALPHA),
+            Base::Rgba => {}
+            Base::Alpha => set_row(row, self.colour, COLOURS),
+            Base::Luminance => set_row(row, self.colour, ALPHA),
+            Base::LuminanceAlpha => {}
         }
     }
 }

@@ -1,35 +1,14 @@
-//! How a row of a screen is composed, and which rows are.
+//! Which rows of a screen are composed anew.
 ghost use Rattle.std.specs.Prelude.{◌≡◌, ◌+◌, ◌<◌, ◌≤◌, ℕ, [], if◌then◌else◌, length, slice_index_or, slice_set};
-ghost use Rattle.pixel_rows.specs.Images.{no_pixel};
 ghost use Rattle.screen_compose.specs.Changes.{changed_rows, is_changed};
-ghost use Rattle.screen_compose.specs.Composing.{composed, composed_row, covered_by};
+ghost use Rattle.screen_compose.specs.Composing.{composed, composed_row};
 ghost use Rattle.screen_compose.specs.Fronts.{placed_in};
 
 use crate::fronts::Fronts;
-use crate::layers::{Layer, cover, is_changed};
-use crate::rows::Row;
+use crate::layers::is_changed;
+use crate::rows::{Row, compose_row};
 use ref_store::Steps;
 use std::sync::ledger::Ledger;
-
-/// Lays each layer over a row of the screen, the lowest first.
-fn cover_by(row: &mut Row, y: u32, layers: &[Layer])
-    ensures long { length row.new ≡ length row.old }
-    ensures pixels { (x : ℕ) → x < length row.old → slice_index_or row.new x no_pixel ≡ covered_by layers.now x y (slice_index_or row.old x no_pixel) }
-{
-    'each: for layer in layers {
-        cover(row, y, layer);
-    }
-}
-
-/// Composes row `y` of a screen anew: black, and over it what each placed window shows there, in their order. It counts one step, and takes no memory.
-pub fn compose_row<L: Ledger>(row: &mut Row, y: u32, fronts: &Fronts, steps: &mut Steps<L>)
-    ensures row { row.new ≡ composed_row fronts.now.layers (length row.old) y }
-    ensures steps { steps.new ≡ steps.old + 1 }
-{
-    steps.tick();
-    row.clear();
-    cover_by(row, y, fronts.layers());
-}
 
 fn compose_at<L: Ledger>(rows: &mut Vec<Row>, y: usize, fronts: &Fronts, steps: &mut Steps<L>)
     requires row { y < length rows.old.items }

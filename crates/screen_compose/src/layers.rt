@@ -1,6 +1,5 @@
 //! Placed windows, each with what it shows.
-ghost use Rattle.std.specs.Prelude.{◌≡◌, ◌<◌, ℕ, length, slice_index_or, IfOk, option_copied};
-ghost use Rattle.pixel_rows.specs.Images.{no_pixel};
+ghost use Rattle.std.specs.Prelude.{◌≡◌, IfOk, option_copied};
 ghost use Rattle.screen_compose.specs.Changes as changes;
 ghost use Rattle.screen_compose.specs.Composing as values;
 ghost use Rattle.screen_compose.specs.Fronts.{bare_layer, rows_in};
@@ -81,7 +80,7 @@ impl Layer {
     }
 
     /// The column of the screen in which its rows begin.
-    fn start(&self) -> i64
+    pub fn start(&self) -> i64
         ensures { result ≡ self.now.placed.x }
     {
         self.placed.x
@@ -95,17 +94,6 @@ impl Layer {
             Some(front) => front.row_from(self.placed.y, y),
             None => None,
         }
-    }
-}
-
-/// Lays what lies of a layer in row `y` over that row of the screen.
-pub(crate) fn cover(row: &mut Row, y: u32, layer: &Layer)
-    ensures long { length row.new ≡ length row.old }
-    ensures pixels { (x : ℕ) → x < length row.old → slice_index_or row.new x no_pixel ≡ values.covered layer.now.placed.x (values.row_at layer.now y) x (slice_index_or row.old x no_pixel) }
-{
-    match layer.row_at(y) {
-        Some(from) => row.cover(layer.start(), from),
-        None => {}
     }
 }
 

@@ -15,11 +15,10 @@ mod screens;
 mod shown;
 mod snapshots;
 
-pub use composing::compose_row;
 pub use frames::{FrameEnds, Frames, PutEnd, TakeEnd};
 pub use fronts::Fronts;
 pub use placed::{Placed, screen_ok};
 pub use rests::Rest;
-pub use rows::Row;
+pub use rows::{Row, compose_row};
 pub use screens::{Frame, Screen};
 pub use snapshots::snapshot;

@@ -1,16 +1,20 @@
-//! Rows of pixels.
-ghost use Rattle.std.specs.Prelude.{◌≡◌, ◌-ℤ◌, ◌<◌, ℕ, pos, length, replicate, slice_index_or, IfOk, IfSome};
+//! Rows of pixels, and how one of a screen is composed. Nothing else writes a row.
+ghost use Rattle.std.specs.Prelude.{◌≡◌, ◌+◌, ◌-ℤ◌, ◌<◌, ℕ, pos, length, replicate, slice_index_or, IfOk, IfSome};
 ghost use Rattle.pixel_rows.specs.Images.{no_pixel};
 ghost use Rattle.pixel_rows.specs.Transfers as transfers;
 ghost use Rattle.screen_compose.specs.Changes as changes;
 ghost use Rattle.screen_compose.specs.Composing as values;
 ghost use Rattle.screen_compose.specs.Fronts as fronts;
 
+use crate::fronts::Fronts;
+use crate::layers::Layer;
 use egl_calls::NoMemory;
 use pixel_formats::Pixel;
 use pixel_rows::Image;
+use ref_store::Steps;
 use std::alloc::Global;
 use std::marker::Model;
+use std::sync::ledger::Ledger;
 
 /// Pixels from left to right.
 #[derive(Drop)]
@@ -133,14 +137,14 @@ impl Row {
     }
 
     /// Makes each pixel that of a screen without windows.
-    pub(crate) fn clear(&mut self)
+    fn clear(&mut self)
         ensures { self.new ≡ replicate (length self.old) values.black }
     {
         clear(&mut self.pixels);
     }
 
     /// Lays a row over it, which begins in the column `start`.
-    pub(crate) fn cover(&mut self, start: i64, from: &Row)
+    fn cover(&mut self, start: i64, from: &Row)
         ensures long { length self.new ≡ length self.old }
         ensures pixels { (x : ℕ) → x < length self.old → slice_index_or self.new x no_pixel ≡ values.under (values.pixel_in start from.now x) (slice_index_or self.old x no_pixel) }
     {
@@ -180,4 +184,35 @@ fn cover(pixels: &mut Vec<Pixel>, start: i64, from: &[Pixel])
             pixels[x] = pixel_over(from[k], pixels[x]);
         }
     }
+}
+
+/// Lays what lies of a layer in row `y` over that row of the screen.
+fn cover_layer(row: &mut Row, y: u32, layer: &Layer)
+    ensures long { length row.new ≡ length row.old }
+    ensures pixels { (x : ℕ) → x < length row.old → slice_index_or row.new x no_pixel ≡ values.covered layer.now.placed.x (values.row_at layer.now y) x (slice_index_or row.old x no_pixel) }
+{
+    match layer.row_at(y) {
+        Some(from) => row.cover(layer.start(), from),
+        None => {}
+    }
+}
+
+/// Lays each layer over a row of the screen, the lowest first.
+fn cover_by(row: &mut Row, y: u32, layers: &[Layer])
+    ensures long { length row.new ≡ length row.old }
+    ensures pixels { (x : ℕ) → x < length row.old → slice_index_or row.new x no_pixel ≡ values.covered_by layers.now x y (slice_index_or row.old x no_pixel) }
+{
+    'each: for layer in layers {
+        cover_layer(row, y, layer);
+    }
+}
+
+/// Composes row `y` of a screen anew: black, and over it what each placed window shows there, in their order. It counts one step, and takes no memory.
+pub fn compose_row<L: Ledger>(row: &mut Row, y: u32, fronts: &Fronts, steps: &mut Steps<L>)
+    ensures row { row.new ≡ values.composed_row fronts.now.layers (length row.old) y }
+    ensures steps { steps.new ≡ steps.old + 1 }
+{
+    steps.tick();
+    row.clear();
+    cover_by(row, y, fronts.layers());
 }

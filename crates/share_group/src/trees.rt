@@ -1,8 +1,7 @@
 //! The used names of a range of numbers, as a tree of its halves.
 ghost use Rattle.std.specs.Prelude.{◌≡◌, ◌+◌, ◌<◌, ◌≤◌, ◌^◌, [], ◌∷◌, length, slice_get, IfOk, OnOk, OnErr};
-ghost use Rattle.std.specs.List.{find};
 ghost use Rattle.share_group.specs.Names as spec;
-ghost use Rattle.share_group.specs.Names.{is_of, objects_in, unused_from, without, Rise};
+ghost use Rattle.share_group.specs.Names.{objects_in, unused_from, without, Rise};
 ghost use Rattle.share_group.specs.Trees.{middle_of, TreeValue};
 ghost use Rattle.share_group.specs.Nodes.{names_in, IsNode};
 
@@ -91,22 +90,6 @@ impl Tree {
             Node::Empty => 0,
             Node::One(held) => u64::from(held.object.is_some()),
             Node::Fork(_, _, objects, _) => *objects,
-        }
-    }
-
-    pub(crate) fn get(&self, name: u32) -> Option<Name>
-        ensures { result ≡ find (is_of name) self.now.names }
-    {
-        match &self.node {
-            Node::Empty => None,
-            Node::One(held) => { if held.name == name { Some(*held) } else { None } }
-            Node::Fork(lower, _, _, upper) => {
-                if name <= middle(self.low, self.last) {
-                    lower.get(name)
-                } else {
-                    upper.get(name)
-                }
-            }
         }
     }
 

@@ -9,6 +9,7 @@ pub mod OwnCalls
 pub mod Opening
 pub mod Attaching
 pub mod Picking
+pub mod Running
 pub mod LateTurns
 pub mod Learning
 pub mod Sending

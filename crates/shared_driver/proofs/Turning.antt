@@ -470,6 +470,20 @@ retired_returns f t u x m y room b driver added rooms promised spare live zero o
       other_rooms = λ n ne. ap (λ l. slice_index l n) all ∙ get_or-set_other x.rooms.items u.number n 0 0 (λ k. ne (k ∙ b.numbered)) ∙ ap (λ l. slice_index l n) (sym its);
     }
 
+-- what it has seen then. No room of a token that ended in its own is its own: that one isn't 0
+pub retired : (f : Core) (t u : Holding) (x m y : Core) (p : Pass Core Entry) → Begun f t u x → m.journal.entries ≡ x.journal.entries ++ u.tail.items → y.journal ≡ m.journal → view_of p ≡ went meaning (view_of u.pass) y → Retires t p
+retired f t u x m y p b added kept view = (
+  b.between,
+  b.others,
+  ap (λ (q : View Core Entry). q.seen) view ∙ ap (λ q. q.entries) kept ∙ added ∙ ap (λ l. l ++ u.tail.items) b.entries ∙ ap (λ q. ((view_of t.pass).seen ++ b.between) ++ q.items) b.same_tail,
+  ap (λ (q : View Core Entry). q.number) view ∙ ap (λ (q : View Core Entry). q.number) b.view,
+  ap (λ (q : View Core Entry). q.ended) view ∙ ap (λ (q : View Core Entry). q.ended) b.view,
+  λ n inside e.
+      let own : u.number ≡ n = b.numbered ∙ ap (λ (q : View Core Entry). q.number) b.view ∙ sym e in
+      let empty : slice_index x.rooms.items u.number ≡ 0 = ap (λ k. slice_index x.rooms.items k) own ∙ b.ended_rooms n inside in
+      omega (arith, empty, b.room),
+)
+
 pub joined_returns : (f x z y : Core) (v w g o : View Core Entry) → z ≡ x → HasCome meaning v x w → g ≡ joining w o → Finds meaning f v x → (y.driver ≡ z.driver) × (y.journal ≡ z.journal) × (y.rooms ≡ z.rooms) × (y.promised ≡ z.promised) → y.tokens ≡ record z.tokens { live = z.tokens.live - 1 } → Returns meaning f g y
 joined_returns f x z y v w g o is view joined found kept live =
     let r = idle_returns f x z v w is view found in

@@ -20,12 +20,13 @@ use crate::tokens::{Closed, Holding, Opened, Shared, Thread};
 use crate::uploads::upload_of;
 use call_table::{egl_role, gl_role};
 use egl_calls::{Call, Kind, NoMemory, Reply, is_waiting};
+use keyed_hash::HashKey;
 use std::alloc::Global;
 use std::sync::Wait;
 use surface_store::WindowSpec;
 use turn_lock::{Opening, Turns};
 
-fn either(a: bool, b: bool) -> bool
+pub(crate) fn either(a: bool, b: bool) -> bool
     ensures { result ≡ (a || b) }
 {
     a || b
@@ -52,12 +53,13 @@ impl Shared {
         ensures most { IfOk result (λ o. most_of o.shared ≡ 65536) }
         ensures token { IfOk result (λ o. token_of o.thread ≡ record { number = 0; seen = []; tail = []; ended = []; made = 1; live = 1; sole = false; places = all_places; start = opening windows.now video }) }
     {
-        Shared::open_for(alloc, windows, video, MOST_TOKENS)
+        Shared::open_for(alloc, HashKey::PLAIN, windows, video, MOST_TOKENS)
     }
 
-    /// The same for at most so many tokens, with the first: the numbers of all are below that.
+    /// The same for at most so many tokens, with the first: the numbers of all are below that. Names and handles hash under the key, and no answer goes by it.
     pub fn open_for(
         alloc: Global,
+        key: HashKey,
         windows: &[WindowSpec],
         video: u64,
         most: u32,
@@ -72,7 +74,7 @@ impl Shared {
     {
         // The core comes last, since whatever owns it drops it at each early exit.
         let tail = own_calls(alloc)?;
-        let mut core = Core::new(alloc, windows, video, most)?;
+        let mut core = Core::new(alloc, key, windows, video, most)?;
         let part = core.part_out(0);
         let Ok(Opening { turns, pass }) = Turns::new(alloc, core) else {
             return Err(NoMemory);

@@ -22,6 +22,7 @@ use driver_core::{Drawing, Driver, LateDraw};
 use egl_calls::{
     Call, Entry, Journal, Kind, NoMemory, Numbers, OwnKind, Reply, ReplyPair, is_waiting,
 };
+use keyed_hash::HashKey;
 use std::alloc::Global;
 use std::collections::VecDeque;
 use surface_store::WindowSpec;
@@ -130,9 +131,10 @@ fn move_entries(journal: &mut Journal, tail: &mut VecDeque<Entry>)
 }
 
 impl Core {
-    /// A new driver for so many tokens, with one. All parts are in.
+    /// A new driver for so many tokens, with one, whose names and handles hash under a key. All parts are in.
     pub fn new(
         alloc: Global,
+        key: HashKey,
         windows: &[WindowSpec],
         video: u64,
         most: u32,
@@ -150,7 +152,7 @@ impl Core {
             return Err(NoMemory);
         };
         Ok(Core {
-            driver: Driver::new(alloc, windows, video)?,
+            driver: Driver::with_key(alloc, key, windows, video)?,
             journal,
             tokens: TokenCount { live: 1, most },
             rooms,

@@ -11,6 +11,7 @@ mod locals;
 mod newcomers;
 mod news;
 mod picks;
+mod runs;
 mod sleepers;
 mod threads;
 mod tokens;
@@ -23,6 +24,7 @@ pub use laws::{
 };
 pub use news::Heard;
 pub use picks::{Pick, Picked, Picker};
+pub use runs::Runner;
 pub use sleepers::Wanted;
 pub use threads::finish_all;
 pub use tokens::{AttachError, Closed, Opened, Shared, Thread};

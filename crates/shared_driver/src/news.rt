@@ -45,6 +45,15 @@ impl News {
         }
     }
 
+    /// In a turn: whether its entries, from a place of the journal on, can have freed one who sleeps.
+    pub(crate) fn frees<R: Wait>(&self, rt: &R, core: &Core, from: u64) -> bool {
+        if self.taken.load(SeqCst) == 0 {
+            return false;
+        }
+        let sleepers = self.sleepers.lock(rt);
+        sleepers.frees(&core.driver, &core.journal, from)
+    }
+
     /// In a turn: whom its entries, from a place of the journal on, can have freed. They are to be called once the turn is over.
     pub(crate) fn rouse<R: Wait>(&self, rt: &R, core: &Core, from: u64) -> Woken {
         if self.taken.load(SeqCst) == 0 {

@@ -157,6 +157,16 @@ impl Sleepers {
         self.beds[bed] = self.beds[bed].with(number, wanted);
     }
 
+    /// Whether the entries from a place on can have freed a thread that sleeps.
+    pub(crate) fn frees(&self, driver: &Driver, journal: &Journal, from: u64) -> bool {
+        'each: for bed in 0..BEDS {
+            if self.beds[bed].is_freed_from(driver, journal, from) {
+                return true;
+            }
+        }
+        false
+    }
+
     /// Empties the beds whose threads the entries from a place on can have freed.
     pub(crate) fn rouse(&mut self, driver: &Driver, journal: &Journal, from: u64) -> Woken {
         let mut woken = Woken::nobody();

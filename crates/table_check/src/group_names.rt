@@ -1,4 +1,5 @@
 //! The objects of a share group in their order.
+use keyed_hash::HashKey;
 use share_group::{Group, NameKind};
 use std::process::Abort;
 
@@ -30,7 +31,7 @@ static BOUND: [(NameKind, u32, u64); 7] = [
 
 #[test]
 fn objects_stand_by_their_kinds_and_names(rt: HostRuntime) {
-    let mut group = Group::new(rt.alloc());
+    let mut group = Group::new(rt.alloc(), HashKey::PLAIN);
     for (kind, name, object) in &BOUND {
         bind(&rt, &mut group, *kind, *name, *object);
     }

@@ -4,6 +4,7 @@ ghost use Rattle.egl_calls.specs.Ranges.{unsigned};
 ghost use Rattle.display_table.specs.Handles.{is_display};
 
 use display_table::{Displays, HANDLES_END, HandleError, HandleKind};
+use keyed_hash::HashKey;
 use std::alloc::Global;
 use std::process::Abort;
 
@@ -38,9 +39,9 @@ fn the_newest_goes_first_and_the_other_display_stays(rt: HostRuntime) {
     displays.handles_rise();
 }
 
-/// A context, 3, of display 1, and a surface, 4, of display 2.
+/// A context, 3, of display 1, and a surface, 4, of display 2, under a key of some bytes.
 fn one_each(rt: &impl Abort, alloc: Global) -> Displays {
-    let mut displays = Displays::new(alloc);
+    let mut displays = Displays::with_key(alloc, HashKey::of(b"egl-trace 1 1"));
     make(rt, &mut displays, 1, HandleKind::Context, 7);
     make(rt, &mut displays, 2, HandleKind::Surface, 8);
     displays

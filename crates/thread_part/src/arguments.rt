@@ -15,7 +15,7 @@ use egl_calls::arguments::{number, signed};
 use egl_calls::places::{DISPLAY_ID, HEIGHT, MASK, READDRAW, TYPE, WIDTH, X, Y};
 use egl_calls::{Call, EglError};
 use egl_model::ClientApi;
-use egl_names::codes::{EGL_DRAW, EGL_OPENGL_ES_API, GL_COLOR_BUFFER_BIT, GL_UNSIGNED_SHORT_5_6_5};
+use egl_names::codes::{EGL_DRAW, EGL_OPENGL_ES_API, GL_UNSIGNED_SHORT_5_6_5};
 use pixel_formats::Format;
 use pixel_rows::Rect;
 
@@ -55,7 +55,7 @@ pub fn asks_for_draw(call: &Call) -> bool
 pub fn clears_colour(call: &Call) -> bool
     ensures { result ≡ clears_colour call.now }
 {
-    number(call, MASK) & GL_COLOR_BUFFER_BIT == GL_COLOR_BUFFER_BIT
+    rect_pipeline::clears_colour(signed(call, MASK))
 }
 
 /// The rectangle that glReadPixels reads.

@@ -12,6 +12,7 @@ use egl_names::codes::{
     GL_TEXTURE_BINDING_2D,
 };
 use framebuffer_objects::{Framebuffer, Point, Renderbuffer};
+use keyed_hash::HashKey;
 use pixel_formats::Format;
 use pixel_rows::Image;
 use share_group::{Group, NameKind};
@@ -69,7 +70,7 @@ fn texture() -> Object {
 
 /// A group with a texture that has the name 3, and a name that was generated and has no object.
 fn group(rt: &impl Abort, alloc: Global) -> Object {
-    let mut group = Group::new(alloc);
+    let mut group = Group::new(alloc, HashKey::PLAIN);
     group
         .generate(NameKind::Texture, 1)
         .expect(rt, "memory is ample");

@@ -1,5 +1,6 @@
 //! Names of textures.
 use crate::tables::phases::{Phase, Table};
+use keyed_hash::HashKey;
 use share_group::{Group, NameKind};
 use std::alloc::Global;
 
@@ -68,7 +69,7 @@ fn free(group: &mut Group, n: u32) -> bool {
 
 impl Table for Group {
     fn empty(alloc: Global) -> Self {
-        Group::new(alloc)
+        Group::new(alloc, HashKey::PLAIN)
     }
 
     fn prepare(&mut self, phase: Phase, n: u32) -> bool {

@@ -1,6 +1,6 @@
 use Rattle.std.proofs.Common.{refl, arith, rules}
 use Rattle.std.proofs.lemmas.Grind.{common_steps}
-use Rattle.display_table.proofs.SlotLaws.{below-more}
+use Rattle.display_table.proofs.PlaceLaws.{rise-more}
 use Rattle.display_table.proofs.TableLaws.{made-first}
 use Rattle.display_table.proofs.making.add_first.Goals as goal
 
@@ -10,17 +10,13 @@ returns-clause-made c = made-first _ _ _ _ _ _ refl c.requires.tables.tables c.i
 pub returns-in_err-add-clause-tables : goal.returns-in_err-add-clause-tables
 returns-in_err-add-clause-tables c = record {
   tables = first_of (search rules, grind (arith, common_steps, c.in_err-add.ensures.same));
-  first_rises = c.add.ensures.rising;
+  first_rises = c.in_err-add.ensures.same_rise;
   second_rises = c.requires.tables.second_rises;
-  first_below = c.in_err-add.ensures.same_below;
-  second_below = c.requires.tables.second_below;
 }
 
 pub returns-clause-tables : goal.returns-clause-tables
 returns-clause-tables c = record {
   tables = first_of (search rules, grind (arith, common_steps, c.in_ok-add.ensures.added));
-  first_rises = c.add.ensures.rising;
-  second_rises = c.requires.tables.second_rises;
-  first_below = c.in_ok-add.ensures.below _ (omega arith);
-  second_below = below-more c.args.next.now _ _ (omega arith) c.requires.tables.second_below;
+  first_rises = c.in_ok-add.ensures.rise;
+  second_rises = rise-more 3 _ c.args.next.now _ (omega arith) c.requires.tables.second_rises;
 }

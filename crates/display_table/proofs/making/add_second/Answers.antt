@@ -1,6 +1,6 @@
 use Rattle.std.proofs.Common.{refl, arith, rules}
 use Rattle.std.proofs.lemmas.Grind.{common_steps}
-use Rattle.display_table.proofs.SlotLaws.{below-more}
+use Rattle.display_table.proofs.PlaceLaws.{rise-more}
 use Rattle.display_table.proofs.TableLaws.{made-second}
 use Rattle.display_table.proofs.making.add_second.Goals as goal
 
@@ -10,17 +10,13 @@ returns-clause-made c = made-second _ _ _ _ _ _ refl c.requires.tables.tables c.
 pub returns-in_err-add-clause-tables : goal.returns-in_err-add-clause-tables
 returns-in_err-add-clause-tables c = record {
   tables = first_of (search rules, grind (arith, common_steps, c.in_err-add.ensures.same));
-  second_rises = c.add.ensures.rising;
+  second_rises = c.in_err-add.ensures.same_rise;
   first_rises = c.requires.tables.first_rises;
-  second_below = c.in_err-add.ensures.same_below;
-  first_below = c.requires.tables.first_below;
 }
 
 pub returns-clause-tables : goal.returns-clause-tables
 returns-clause-tables c = record {
   tables = first_of (search rules, grind (arith, common_steps, c.in_ok-add.ensures.added));
-  second_rises = c.add.ensures.rising;
-  first_rises = c.requires.tables.first_rises;
-  second_below = c.in_ok-add.ensures.below _ (omega arith);
-  first_below = below-more c.args.next.now _ _ (omega arith) c.requires.tables.first_below;
+  second_rises = c.in_ok-add.ensures.rise;
+  first_rises = rise-more 3 _ c.args.next.now _ (omega arith) c.requires.tables.first_rises;
 }

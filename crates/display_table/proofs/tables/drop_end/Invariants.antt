@@ -1,9 +1,9 @@
-use Rattle.std.proofs.Common.{vec_len}
-use Rattle.display_table.proofs.SlotLaws.{FromPop}
+use Rattle.indexmap.specs.IndexMap.{index_map_len}
+use Rattle.display_table.proofs.PlaceLaws.{FromPop}
 use Rattle.display_table.proofs.tables.drop_end.Given as goal
 
-abbrev pub invariant-slots : goal.invariant-slots
-invariant-slots l = FromPop l.initial.table.items l.table.items
+abbrev pub invariant-places : goal.invariant-places
+invariant-places l = FromPop l.initial.table.entries l.table.entries
 
-abbrev pub decreases-slots : goal.decreases-slots
-decreases-slots l = vec_len l.table
+abbrev pub decreases-places : goal.decreases-places
+decreases-places l = index_map_len l.table

@@ -1,21 +1,17 @@
-use Rattle.std.proofs.Common.{◌∙◌, subst, refl}
-use Rattle.display_table.specs.Tables.{AreBelow, Rises}
-use Rattle.display_table.proofs.SlotLaws.{at-valid_in, below-prefix, last-from_same, last_taken, none_left, pop_more, rises-prefix}
+use Rattle.std.proofs.Common.{◌≡◌, true, false}
+use Rattle.display_table.proofs.PlaceLaws.{last-from_same, last_taken, none_left, pop_more, rises-pop}
 use Rattle.display_table.proofs.tables.take_last.Goals as goal
 
-pub slots-preserved : goal.slots-preserved
-slots-preserved c = pop_more _ _ _ c.in-Some.slot c.in-Some.ensures.items c.if-slot.false c.slots.invariant
+pub places-preserved : goal.places-preserved
+places-preserved c = pop_more _ _ _ (c.in-Some._number, c.in-Some.place) c.in-Some.ensures.entries c.in_default-place.is c.places.invariant
 
-pub returns-then-slot-clause-last : goal.returns-then-slot-clause-last
-returns-then-slot-clause-last c =
-    let kept = c.slots.invariant in
-    last-from_same _ _ _ c.in-Some.slot.handle (at-valid_in _ _ kept.same) (last_taken 3 _ _ c.in-Some.slot c.in-Some.ensures.items kept.rising c.if-slot.true)
+pub returns-in-Some-place-clause-last : goal.returns-in-Some-place-clause-last
+returns-in-Some-place-clause-last c =
+    let kept = c.places.invariant in
+    last-from_same _ _ _ c.in-Some-place.handle kept.same (last_taken _ _ (c.in-Some._number, c.in-Some.place) c.in-Some-place.handle _ c.in-Some.ensures.entries c.in-Some-place.is (kept.rise _ c.requires))
 
-pub returns-then-slot-clause-rising : goal.returns-then-slot-clause-rising
-returns-then-slot-clause-rising c = rises-prefix 3 _ _ (subst (Rises 3) c.in-Some.ensures.items c.slots.invariant.rising)
-
-pub returns-then-slot-clause-below : goal.returns-then-slot-clause-below
-returns-then-slot-clause-below c end below = below-prefix end _ _ (subst (AreBelow end) c.in-Some.ensures.items (c.slots.invariant.below end below))
+pub returns-in-Some-place-clause-rise : goal.returns-in-Some-place-clause-rise
+returns-in-Some-place-clause-rise c end r = rises-pop _ _ (c.in-Some._number, c.in-Some.place) end c.in-Some.ensures.entries (c.places.invariant.rise end r)
 
 pub returns-clause-none : goal.returns-clause-none
-returns-clause-none c = none_left _ _ _ _ c.in_default.ensures.items (c.in_default.ensures.rest ∙ rw c.in_default.ensures.cases.0 refl) c.release.ensures c.slots.invariant
+returns-clause-none c = none_left _ _ _ _ (λ l. let no : false ≡ true = c.in_default.ensures.found.1 l in cc) c.in_default.ensures.entries c.release.ensures c.places.invariant

@@ -1,5 +1,8 @@
-use Rattle.display_table.proofs.TableLaws.{takes-first, takes_none-first}
+use Rattle.display_table.proofs.TableLaws.{first-fits, takes-first, takes_none-first}
 use Rattle.display_table.proofs.taking.take_first.Goals as goal
+
+pub take_last-requires : goal.take_last-requires
+take_last-requires c = first-fits _ _ _ c.requires
 
 pub returns-in-Some-clause-taken : goal.returns-in-Some-clause-taken
 returns-in-Some-clause-taken c = takes-first _ _ _ c.requires.tables _ c.in-Some.handle c.in-Some.ensures.last

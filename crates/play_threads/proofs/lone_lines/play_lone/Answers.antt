@@ -17,6 +17,7 @@ lines-preserved g c =
       seen = played.same.1 ∙ h.seen;
       thread = played.picker.0 ∙ h.thread;
       trace = played.picker.1 ∙ h.trace;
+      told = played.told ∙ h.told;
       lone = λ before. lone_as p.session.trace o.session.trace p.thread o.thread u.seen u.tail v.seen v.tail h.trace h.thread played.lone (h.lone before);
       calm = λ before. played.calm (h.calm before);
       learnt = c.in_ok-play_line.ensures.learnt;

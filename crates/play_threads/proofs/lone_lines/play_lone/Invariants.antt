@@ -13,6 +13,7 @@ invariant-lines g l = record {
   seen : (token_of l.thread).seen ≡ (token_of l.fn.thread).seen;
   thread : l.picker.thread ≡ l.fn.picker.thread;
   trace : l.picker.session.trace ≡ l.fn.picker.session.trace;
+  told : l.picker.answered ≡ l.fn.picker.answered;
   lone : PlayLone l.fn.picker.session.trace l.fn.picker.thread (token_of l.fn.thread).seen (token_of l.fn.thread).tail → PlayLone l.fn.picker.session.trace l.fn.picker.thread (token_of l.thread).seen (token_of l.thread).tail;
   calm : are_halted (mine (token_of l.fn.thread)) ≡ false → are_halted (mine (token_of l.thread)) ≡ false;
   learnt : HasLearnt l.picker (mine (token_of l.thread)) (token_of l.thread).seen;

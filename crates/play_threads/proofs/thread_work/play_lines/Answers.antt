@@ -1,11 +1,12 @@
-use Rattle.std.proofs.Common.{List, refl, sym, ap, ◌∙◌, subst}
+use Rattle.std.proofs.Common.{◌≡◌, List, arith, refl, sym, ap, ◌∙◌, subst}
 use Rattle.egl_calls.specs.Journals.{are_halted}
 use Rattle.egl_calls.specs.declared.entries.Entry.{Entry}
-use Rattle.trace_model.specs.Follows.{PlaysAs}
+use Rattle.trace_reader.specs.Traces.{TraceValue}
 use Rattle.shared_driver.specs.Cores.{has_halted}
 use Rattle.shared_driver.specs.Tokens.{Token, token_of}
 use Rattle.play_threads.specs.Picks.{HasLearnt}
-use Rattle.play_threads.proofs.WorkLaws.{handed_in, keeps_lone, lone_as, may_look, none_lone, none_of, plays_without, turn_calm, turn_learnt, turn_line, turn_over, turn_plays, turn_told}
+use Rattle.play_threads.proofs.RunLaws.{may_look_behind, ran_out, run_calm, run_learnt, run_line, run_over, run_plays, run_thread, run_told, stands_by}
+use Rattle.play_threads.proofs.WorkLaws.{keeps_lone, none_lone, none_of, plays_without}
 use Rattle.play_threads.proofs.thread_work.play_lines.Goals as goal
 
 pub returns-in_err-picker-clause-plays : goal.returns-in_err-picker-clause-plays
@@ -29,6 +30,7 @@ turns-init g c =
       calm = ap are_halted c.requires.mine;
       thread = c.in_ok-picker.ensures.thread ∙ c.number-number.ensures;
       trace = c.in_ok-picker.ensures.trace;
+      told = c.in_ok-picker.ensures.told;
       learnt = let P : List Entry → Type 0 = λ own. HasLearnt c.in_ok-picker.picker own u.seen in subst P (sym c.requires.mine) (c.in_ok-picker.ensures.learnt u.seen);
     }
 
@@ -36,16 +38,20 @@ pub returns-in_err-play_lone-clause-calm : goal.returns-in_err-play_lone-clause-
 unfolding has_halted
 returns-in_err-play_lone-clause-calm g c = c.play_lone.ensures.calm c.turns.invariant.calm
 
-pub call_picked-outcome-requires-clause-owns : goal.call_picked-outcome-requires-clause-owns
-call_picked-outcome-requires-clause-owns g c = c.play_lone.ensures.owns c.args.shared.now c.turns.invariant.owns
+pub call_run-outcome-requires-clause-owns : goal.call_run-outcome-requires-clause-owns
+call_run-outcome-requires-clause-owns g c = c.play_lone.ensures.owns c.args.shared.now c.turns.invariant.owns
 
-pub call_picked-outcome-requires-clause-may : goal.call_picked-outcome-requires-clause-may
-call_picked-outcome-requires-clause-may g c es d seen =
+pub call_run-outcome-requires-clause-may : goal.call_run-outcome-requires-clause-may
+call_run-outcome-requires-clause-may g c k b a es d rounds seen =
     let h = c.turns.invariant in
-    let n = (token_of c.args.thread.now).number in
+    let t = c.args.trace.now in
+    let w : Token = token_of c.turns.thread in
     let u : Token = token_of c.play_lone.new.thread in
-    let same = c.play_lone.ensures.same.0.0 ∙ h.same.0 in
-    may_look u c.play_lone.new.picker c.args.trace.now n same (c.play_lone.ensures.picker.0 ∙ h.thread) (c.play_lone.ensures.picker.1 ∙ h.trace) c.requires.number c.in_ok-play_lone.ensures.learnt es d seen.at_turn seen.made
+    let p = c.play_lone.new.picker in
+    let n = (token_of c.args.thread.now).number in
+    let l = c.play_lone.ensures in
+    let s = stands_by t n w u c.turns.picker p h.same.0 h.plays h.lone h.calm h.thread h.trace h.told l.same l.picker l.told l.lone l.calm c.in_ok-play_lone.ensures.learnt in
+    may_look_behind t c.in_order.ensures _ c.requires.opening n c.requires.number k u b p a s rounds es d seen
 
 pub returns-in_err-picked-clause-plays : goal.returns-in_err-picked-clause-plays
 returns-in_err-picked-clause-plays g c =
@@ -53,22 +59,50 @@ returns-in_err-picked-clause-plays g c =
     let t = c.args.trace.now in
     let w : Token = token_of c.turns.thread in
     let u : Token = token_of c.play_lone.new.thread in
-    let v : Token = token_of c.call_picked-outcome.new.thread in
+    let v : Token = token_of c.call_run-outcome.new.thread in
     let p = c.play_lone.new.picker in
-    let q = c.call_picked-outcome.new.picker in
     let n = (token_of c.args.thread.now).number in
-    let played = c.play_lone.ensures in
-    let same = played.same.0.0 ∙ h.same.0 in
-    let own = played.picker.0 ∙ h.thread in
-    let of = played.picker.1 ∙ h.trace in
-    let plays = let P : List Entry → Type 0 = λ es. PlaysAs t n es in subst P (sym played.same.1) h.plays in
-    let lone = lone_as c.turns.picker.session.trace t c.turns.picker.thread n w.seen w.tail u.seen u.tail h.trace h.thread played.lone h.lone in
-    let calm = played.calm h.calm in
-    handed_in t c.in_order.ensures n c.requires.number _ c.requires.opening u v same plays lone c.what_a_token_has_seen_is_legal.ensures c.in_err-picked.ensures.err
+    let l = c.play_lone.ensures in
+    let s = stands_by t n w u c.turns.picker p h.same.0 h.plays h.lone h.calm h.thread h.trace h.told l.same l.picker l.told l.lone l.calm c.in_ok-play_lone.ensures.learnt in
+    let e = c.in_err-picked.ensures.err in
+    (ran_out t c.in_order.ensures _ c.requires.opening n c.requires.number e.0 u e.2 v p e.3 s e.4 e.5 e.6 c.what_a_token_has_seen_is_legal.ensures).0
+
+pub returns-in_err-picked-clause-lone : goal.returns-in_err-picked-clause-lone
+returns-in_err-picked-clause-lone g c =
+    let v : Token = token_of c.call_run-outcome.new.thread in
+    none_lone c.args.trace.now (token_of c.args.thread.now).number v c.in_err-picked.ensures.err.5.3
 
 pub returns-in_err-picked-clause-calm : goal.returns-in_err-picked-clause-calm
 unfolding has_halted
-returns-in_err-picked-clause-calm g c = ap are_halted c.in_err-picked.ensures.err_mine ∙ c.play_lone.ensures.calm c.turns.invariant.calm
+returns-in_err-picked-clause-calm g c =
+    let h = c.turns.invariant in
+    let t = c.args.trace.now in
+    let w : Token = token_of c.turns.thread in
+    let u : Token = token_of c.play_lone.new.thread in
+    let v : Token = token_of c.call_run-outcome.new.thread in
+    let p = c.play_lone.new.picker in
+    let n = (token_of c.args.thread.now).number in
+    let l = c.play_lone.ensures in
+    let s = stands_by t n w u c.turns.picker p h.same.0 h.plays h.lone h.calm h.thread h.trace h.told l.same l.picker l.told l.lone l.calm c.in_ok-play_lone.ensures.learnt in
+    let e = c.in_err-picked.ensures.err in
+    (ran_out t c.in_order.ensures _ c.requires.opening n c.requires.number e.0 u e.2 v p e.3 s e.4 e.5 e.6 c.what_a_token_has_seen_is_legal.ensures).1
+
+pub learn_own-requires-clause-below : goal.learn_own-requires-clause-below
+learn_own-requires-clause-below g c =
+    let h = c.turns.invariant in
+    let t = c.args.trace.now in
+    let w : Token = token_of c.turns.thread in
+    let u : Token = token_of c.play_lone.new.thread in
+    let v : Token = token_of c.call_run-outcome.new.thread in
+    let p = c.play_lone.new.picker in
+    let q = c.call_run-outcome.new.picker in
+    let n = (token_of c.args.thread.now).number in
+    let l = c.play_lone.ensures in
+    let s = stands_by t n w u c.turns.picker p h.same.0 h.plays h.lone h.calm h.thread h.trace h.told l.same l.picker l.told l.lone l.calm c.in_ok-play_lone.ensures.learnt in
+    let e = c.in_ok-picked.ensures.ok in
+    let now = run_thread t c.in_order.ensures _ c.requires.opening n c.requires.number e.0 u e.2 v p e.3 q s e.7 c.in_ok-picked.picked (e.4, e.5, e.6, e.8, e.9, e.10) in
+    let many : q.session.trace.threads ≡ t.threads = ap (λ (x : TraceValue). x.threads) now.1 in
+    omega (arith, now.0, many, c.requires.number)
 
 pub learn_own-requires-clause-line : goal.learn_own-requires-clause-line
 learn_own-requires-clause-line g c =
@@ -76,18 +110,14 @@ learn_own-requires-clause-line g c =
     let t = c.args.trace.now in
     let w : Token = token_of c.turns.thread in
     let u : Token = token_of c.play_lone.new.thread in
-    let v : Token = token_of c.call_picked-outcome.new.thread in
+    let v : Token = token_of c.call_run-outcome.new.thread in
     let p = c.play_lone.new.picker in
-    let q = c.call_picked-outcome.new.picker in
+    let q = c.call_run-outcome.new.picker in
     let n = (token_of c.args.thread.now).number in
-    let played = c.play_lone.ensures in
-    let same = played.same.0.0 ∙ h.same.0 in
-    let own = played.picker.0 ∙ h.thread in
-    let of = played.picker.1 ∙ h.trace in
-    let plays = let P : List Entry → Type 0 = λ es. PlaysAs t n es in subst P (sym played.same.1) h.plays in
-    let lone = lone_as c.turns.picker.session.trace t c.turns.picker.thread n w.seen w.tail u.seen u.tail h.trace h.thread played.lone h.lone in
-    let calm = played.calm h.calm in
-    turn_line t c.in_order.ensures _ c.requires.opening n c.requires.number u v p q c.in_ok-picked.picked same plays lone calm own of c.in_ok-picked.ensures.ok c.in-Replied.reply c.in-Replied.is
+    let l = c.play_lone.ensures in
+    let s = stands_by t n w u c.turns.picker p h.same.0 h.plays h.lone h.calm h.thread h.trace h.told l.same l.picker l.told l.lone l.calm c.in_ok-play_lone.ensures.learnt in
+    let e = c.in_ok-picked.ensures.ok in
+    run_line t c.in_order.ensures _ c.requires.opening n c.requires.number e.0 u e.2 v p e.3 q s e.7 c.in_ok-picked.picked (e.4, e.5, e.6, e.8, e.9, e.10) c.in-Replied.reply c.in-Replied.is
 
 pub turns-preserved-in-Continue-branch-4 : goal.turns-preserved-in-Continue-branch-4
 turns-preserved-in-Continue-branch-4 g c =
@@ -95,26 +125,24 @@ turns-preserved-in-Continue-branch-4 g c =
     let t = c.args.trace.now in
     let w : Token = token_of c.turns.thread in
     let u : Token = token_of c.play_lone.new.thread in
-    let v : Token = token_of c.call_picked-outcome.new.thread in
+    let v : Token = token_of c.call_run-outcome.new.thread in
     let p = c.play_lone.new.picker in
-    let q = c.call_picked-outcome.new.picker in
+    let q = c.call_run-outcome.new.picker in
     let n = (token_of c.args.thread.now).number in
-    let played = c.play_lone.ensures in
-    let same = played.same.0.0 ∙ h.same.0 in
-    let own = played.picker.0 ∙ h.thread in
-    let of = played.picker.1 ∙ h.trace in
-    let plays = let P : List Entry → Type 0 = λ es. PlaysAs t n es in subst P (sym played.same.1) h.plays in
-    let lone = lone_as c.turns.picker.session.trace t c.turns.picker.thread n w.seen w.tail u.seen u.tail h.trace h.thread played.lone h.lone in
-    let calm = played.calm h.calm in
+    let l = c.play_lone.ensures in
+    let s = stands_by t n w u c.turns.picker p h.same.0 h.plays h.lone h.calm h.thread h.trace h.told l.same l.picker l.told l.lone l.calm c.in_ok-play_lone.ensures.learnt in
+    let e = c.in_ok-picked.ensures.ok in
+    let now = run_thread t c.in_order.ensures _ c.requires.opening n c.requires.number e.0 u e.2 v p e.3 q s e.7 c.in_ok-picked.picked (e.4, e.5, e.6, e.8, e.9, e.10) in
     record {
-      owns = c.call_picked-outcome.ensures.owns;
-      same = (c.call_picked-outcome.ensures.same.0 ∙ same, c.call_picked-outcome.ensures.same.1 ∙ played.same.0.1 ∙ h.same.1);
-      plays = turn_plays t c.in_order.ensures _ c.requires.opening n c.requires.number u v p q c.in_ok-picked.picked same plays lone calm own of c.in_ok-picked.ensures.ok c.in_ok-picked.ensures.tail c.what_a_token_has_seen_is_legal.ensures;
+      owns = c.call_run-outcome.ensures.owns;
+      same = (c.call_run-outcome.ensures.same.0 ∙ l.same.0.0 ∙ h.same.0, c.call_run-outcome.ensures.same.1 ∙ l.same.0.1 ∙ h.same.1);
+      plays = run_plays t c.in_order.ensures _ c.requires.opening n c.requires.number e.0 u e.2 v p e.3 q s e.7 c.in_ok-picked.picked (e.4, e.5, e.6, e.8, e.9, e.10) c.in_ok-picked.ensures.tail c.what_a_token_has_seen_is_legal.ensures;
       lone = none_lone t n v c.in_ok-picked.ensures.tail;
-      calm = turn_calm t c.in_order.ensures _ c.requires.opening n c.requires.number u v p q c.in_ok-picked.picked same plays lone calm own of c.in_ok-picked.ensures.ok;
-      thread = c.learn_own.ensures.same.0 ∙ c.in_ok-picked.ensures.ok.4.thread ∙ own;
-      trace = c.learn_own.ensures.same.1 ∙ c.in_ok-picked.ensures.ok.4.trace ∙ of;
-      learnt = turn_told t c.in_order.ensures _ c.requires.opening n c.requires.number u v p q c.in_ok-picked.picked same plays lone calm own of c.in_ok-picked.ensures.ok c.in-Replied.reply c.in-Replied.is c.learn_own.new.self c.learn_own.ensures.same.0 c.learn_own.ensures.same.2 c.learn_own.ensures.same.3 c.in_ok-learn_own-in-Replied.ensures.knows;
+      calm = run_calm t c.in_order.ensures _ c.requires.opening n c.requires.number e.0 u e.2 v p e.3 q s e.7 c.in_ok-picked.picked (e.4, e.5, e.6, e.8, e.9, e.10);
+      thread = c.learn_own.ensures.same.0 ∙ now.0;
+      trace = c.learn_own.ensures.same.1 ∙ now.1;
+      told = c.learn_own.ensures.told ∙ e.9.told;
+      learnt = run_told t c.in_order.ensures _ c.requires.opening n c.requires.number e.0 u e.2 v p e.3 q s e.7 c.in_ok-picked.picked (e.4, e.5, e.6, e.8, e.9, e.10) c.in-Replied.reply c.in-Replied.is c.learn_own.new.self c.learn_own.ensures.same.0 c.learn_own.ensures.same.2 c.learn_own.ensures.same.3 c.in_ok-learn_own-in-Replied.ensures.knows;
     }
 
 pub returns-in_err-learn_own-in-Replied-clause-plays : goal.returns-in_err-learn_own-in-Replied-clause-plays
@@ -123,18 +151,14 @@ returns-in_err-learn_own-in-Replied-clause-plays g c =
     let t = c.args.trace.now in
     let w : Token = token_of c.turns.thread in
     let u : Token = token_of c.play_lone.new.thread in
-    let v : Token = token_of c.call_picked-outcome.new.thread in
+    let v : Token = token_of c.call_run-outcome.new.thread in
     let p = c.play_lone.new.picker in
-    let q = c.call_picked-outcome.new.picker in
+    let q = c.call_run-outcome.new.picker in
     let n = (token_of c.args.thread.now).number in
-    let played = c.play_lone.ensures in
-    let same = played.same.0.0 ∙ h.same.0 in
-    let own = played.picker.0 ∙ h.thread in
-    let of = played.picker.1 ∙ h.trace in
-    let plays = let P : List Entry → Type 0 = λ es. PlaysAs t n es in subst P (sym played.same.1) h.plays in
-    let lone = lone_as c.turns.picker.session.trace t c.turns.picker.thread n w.seen w.tail u.seen u.tail h.trace h.thread played.lone h.lone in
-    let calm = played.calm h.calm in
-    turn_plays t c.in_order.ensures _ c.requires.opening n c.requires.number u v p q c.in_ok-picked.picked same plays lone calm own of c.in_ok-picked.ensures.ok c.in_ok-picked.ensures.tail c.what_a_token_has_seen_is_legal.ensures
+    let l = c.play_lone.ensures in
+    let s = stands_by t n w u c.turns.picker p h.same.0 h.plays h.lone h.calm h.thread h.trace h.told l.same l.picker l.told l.lone l.calm c.in_ok-play_lone.ensures.learnt in
+    let e = c.in_ok-picked.ensures.ok in
+    run_plays t c.in_order.ensures _ c.requires.opening n c.requires.number e.0 u e.2 v p e.3 q s e.7 c.in_ok-picked.picked (e.4, e.5, e.6, e.8, e.9, e.10) c.in_ok-picked.ensures.tail c.what_a_token_has_seen_is_legal.ensures
 
 pub returns-in_err-learn_own-in-Replied-clause-calm : goal.returns-in_err-learn_own-in-Replied-clause-calm
 unfolding has_halted
@@ -143,18 +167,14 @@ returns-in_err-learn_own-in-Replied-clause-calm g c =
     let t = c.args.trace.now in
     let w : Token = token_of c.turns.thread in
     let u : Token = token_of c.play_lone.new.thread in
-    let v : Token = token_of c.call_picked-outcome.new.thread in
+    let v : Token = token_of c.call_run-outcome.new.thread in
     let p = c.play_lone.new.picker in
-    let q = c.call_picked-outcome.new.picker in
+    let q = c.call_run-outcome.new.picker in
     let n = (token_of c.args.thread.now).number in
-    let played = c.play_lone.ensures in
-    let same = played.same.0.0 ∙ h.same.0 in
-    let own = played.picker.0 ∙ h.thread in
-    let of = played.picker.1 ∙ h.trace in
-    let plays = let P : List Entry → Type 0 = λ es. PlaysAs t n es in subst P (sym played.same.1) h.plays in
-    let lone = lone_as c.turns.picker.session.trace t c.turns.picker.thread n w.seen w.tail u.seen u.tail h.trace h.thread played.lone h.lone in
-    let calm = played.calm h.calm in
-    turn_calm t c.in_order.ensures _ c.requires.opening n c.requires.number u v p q c.in_ok-picked.picked same plays lone calm own of c.in_ok-picked.ensures.ok
+    let l = c.play_lone.ensures in
+    let s = stands_by t n w u c.turns.picker p h.same.0 h.plays h.lone h.calm h.thread h.trace h.told l.same l.picker l.told l.lone l.calm c.in_ok-play_lone.ensures.learnt in
+    let e = c.in_ok-picked.ensures.ok in
+    run_calm t c.in_order.ensures _ c.requires.opening n c.requires.number e.0 u e.2 v p e.3 q s e.7 c.in_ok-picked.picked (e.4, e.5, e.6, e.8, e.9, e.10)
 
 pub turns-preserved : goal.turns-preserved
 turns-preserved g c =
@@ -162,26 +182,24 @@ turns-preserved g c =
     let t = c.args.trace.now in
     let w : Token = token_of c.turns.thread in
     let u : Token = token_of c.play_lone.new.thread in
-    let v : Token = token_of c.call_picked-outcome.new.thread in
+    let v : Token = token_of c.call_run-outcome.new.thread in
     let p = c.play_lone.new.picker in
-    let q = c.call_picked-outcome.new.picker in
+    let q = c.call_run-outcome.new.picker in
     let n = (token_of c.args.thread.now).number in
-    let played = c.play_lone.ensures in
-    let same = played.same.0.0 ∙ h.same.0 in
-    let own = played.picker.0 ∙ h.thread in
-    let of = played.picker.1 ∙ h.trace in
-    let plays = let P : List Entry → Type 0 = λ es. PlaysAs t n es in subst P (sym played.same.1) h.plays in
-    let lone = lone_as c.turns.picker.session.trace t c.turns.picker.thread n w.seen w.tail u.seen u.tail h.trace h.thread played.lone h.lone in
-    let calm = played.calm h.calm in
+    let l = c.play_lone.ensures in
+    let s = stands_by t n w u c.turns.picker p h.same.0 h.plays h.lone h.calm h.thread h.trace h.told l.same l.picker l.told l.lone l.calm c.in_ok-play_lone.ensures.learnt in
+    let e = c.in_ok-picked.ensures.ok in
+    let now = run_thread t c.in_order.ensures _ c.requires.opening n c.requires.number e.0 u e.2 v p e.3 q s e.7 c.in_ok-picked.picked (e.4, e.5, e.6, e.8, e.9, e.10) in
     record {
-      owns = c.call_picked-outcome.ensures.owns;
-      same = (c.call_picked-outcome.ensures.same.0 ∙ same, c.call_picked-outcome.ensures.same.1 ∙ played.same.0.1 ∙ h.same.1);
-      plays = turn_plays t c.in_order.ensures _ c.requires.opening n c.requires.number u v p q c.in_ok-picked.picked same plays lone calm own of c.in_ok-picked.ensures.ok c.in_ok-picked.ensures.tail c.what_a_token_has_seen_is_legal.ensures;
+      owns = c.call_run-outcome.ensures.owns;
+      same = (c.call_run-outcome.ensures.same.0 ∙ l.same.0.0 ∙ h.same.0, c.call_run-outcome.ensures.same.1 ∙ l.same.0.1 ∙ h.same.1);
+      plays = run_plays t c.in_order.ensures _ c.requires.opening n c.requires.number e.0 u e.2 v p e.3 q s e.7 c.in_ok-picked.picked (e.4, e.5, e.6, e.8, e.9, e.10) c.in_ok-picked.ensures.tail c.what_a_token_has_seen_is_legal.ensures;
       lone = none_lone t n v c.in_ok-picked.ensures.tail;
-      calm = turn_calm t c.in_order.ensures _ c.requires.opening n c.requires.number u v p q c.in_ok-picked.picked same plays lone calm own of c.in_ok-picked.ensures.ok;
-      thread = c.in_ok-picked.ensures.ok.4.thread ∙ own;
-      trace = c.in_ok-picked.ensures.ok.4.trace ∙ of;
-      learnt = turn_learnt t c.in_order.ensures _ c.requires.opening n c.requires.number u v p q c.in_ok-picked.picked same plays lone calm own of c.in_ok-picked.ensures.ok c.in-Waited.is;
+      calm = run_calm t c.in_order.ensures _ c.requires.opening n c.requires.number e.0 u e.2 v p e.3 q s e.7 c.in_ok-picked.picked (e.4, e.5, e.6, e.8, e.9, e.10);
+      thread = now.0;
+      trace = now.1;
+      told = e.9.told;
+      learnt = run_learnt t c.in_order.ensures _ c.requires.opening n c.requires.number e.0 u e.2 v p e.3 q s e.7 c.in_ok-picked.picked (e.4, e.5, e.6, e.8, e.9, e.10) c.in-Waited.is;
     }
 
 pub returns-in-Stopped-clause-plays : goal.returns-in-Stopped-clause-plays
@@ -190,18 +208,14 @@ returns-in-Stopped-clause-plays g c =
     let t = c.args.trace.now in
     let w : Token = token_of c.turns.thread in
     let u : Token = token_of c.play_lone.new.thread in
-    let v : Token = token_of c.call_picked-outcome.new.thread in
+    let v : Token = token_of c.call_run-outcome.new.thread in
     let p = c.play_lone.new.picker in
-    let q = c.call_picked-outcome.new.picker in
+    let q = c.call_run-outcome.new.picker in
     let n = (token_of c.args.thread.now).number in
-    let played = c.play_lone.ensures in
-    let same = played.same.0.0 ∙ h.same.0 in
-    let own = played.picker.0 ∙ h.thread in
-    let of = played.picker.1 ∙ h.trace in
-    let plays = let P : List Entry → Type 0 = λ es. PlaysAs t n es in subst P (sym played.same.1) h.plays in
-    let lone = lone_as c.turns.picker.session.trace t c.turns.picker.thread n w.seen w.tail u.seen u.tail h.trace h.thread played.lone h.lone in
-    let calm = played.calm h.calm in
-    turn_plays t c.in_order.ensures _ c.requires.opening n c.requires.number u v p q c.in_ok-picked.picked same plays lone calm own of c.in_ok-picked.ensures.ok c.in_ok-picked.ensures.tail c.what_a_token_has_seen_is_legal.ensures
+    let l = c.play_lone.ensures in
+    let s = stands_by t n w u c.turns.picker p h.same.0 h.plays h.lone h.calm h.thread h.trace h.told l.same l.picker l.told l.lone l.calm c.in_ok-play_lone.ensures.learnt in
+    let e = c.in_ok-picked.ensures.ok in
+    run_plays t c.in_order.ensures _ c.requires.opening n c.requires.number e.0 u e.2 v p e.3 q s e.7 c.in_ok-picked.picked (e.4, e.5, e.6, e.8, e.9, e.10) c.in_ok-picked.ensures.tail c.what_a_token_has_seen_is_legal.ensures
 
 pub returns-in-Stopped-clause-calm : goal.returns-in-Stopped-clause-calm
 unfolding has_halted
@@ -210,18 +224,14 @@ returns-in-Stopped-clause-calm g c =
     let t = c.args.trace.now in
     let w : Token = token_of c.turns.thread in
     let u : Token = token_of c.play_lone.new.thread in
-    let v : Token = token_of c.call_picked-outcome.new.thread in
+    let v : Token = token_of c.call_run-outcome.new.thread in
     let p = c.play_lone.new.picker in
-    let q = c.call_picked-outcome.new.picker in
+    let q = c.call_run-outcome.new.picker in
     let n = (token_of c.args.thread.now).number in
-    let played = c.play_lone.ensures in
-    let same = played.same.0.0 ∙ h.same.0 in
-    let own = played.picker.0 ∙ h.thread in
-    let of = played.picker.1 ∙ h.trace in
-    let plays = let P : List Entry → Type 0 = λ es. PlaysAs t n es in subst P (sym played.same.1) h.plays in
-    let lone = lone_as c.turns.picker.session.trace t c.turns.picker.thread n w.seen w.tail u.seen u.tail h.trace h.thread played.lone h.lone in
-    let calm = played.calm h.calm in
-    turn_calm t c.in_order.ensures _ c.requires.opening n c.requires.number u v p q c.in_ok-picked.picked same plays lone calm own of c.in_ok-picked.ensures.ok
+    let l = c.play_lone.ensures in
+    let s = stands_by t n w u c.turns.picker p h.same.0 h.plays h.lone h.calm h.thread h.trace h.told l.same l.picker l.told l.lone l.calm c.in_ok-play_lone.ensures.learnt in
+    let e = c.in_ok-picked.ensures.ok in
+    run_calm t c.in_order.ensures _ c.requires.opening n c.requires.number e.0 u e.2 v p e.3 q s e.7 c.in_ok-picked.picked (e.4, e.5, e.6, e.8, e.9, e.10)
 
 pub returns-in-Stopped-clause-over : goal.returns-in-Stopped-clause-over
 returns-in-Stopped-clause-over g c =
@@ -229,15 +239,11 @@ returns-in-Stopped-clause-over g c =
     let t = c.args.trace.now in
     let w : Token = token_of c.turns.thread in
     let u : Token = token_of c.play_lone.new.thread in
-    let v : Token = token_of c.call_picked-outcome.new.thread in
+    let v : Token = token_of c.call_run-outcome.new.thread in
     let p = c.play_lone.new.picker in
-    let q = c.call_picked-outcome.new.picker in
+    let q = c.call_run-outcome.new.picker in
     let n = (token_of c.args.thread.now).number in
-    let played = c.play_lone.ensures in
-    let same = played.same.0.0 ∙ h.same.0 in
-    let own = played.picker.0 ∙ h.thread in
-    let of = played.picker.1 ∙ h.trace in
-    let plays = let P : List Entry → Type 0 = λ es. PlaysAs t n es in subst P (sym played.same.1) h.plays in
-    let lone = lone_as c.turns.picker.session.trace t c.turns.picker.thread n w.seen w.tail u.seen u.tail h.trace h.thread played.lone h.lone in
-    let calm = played.calm h.calm in
-    turn_over t c.in_order.ensures _ c.requires.opening n c.requires.number u v p q c.in_ok-picked.picked same plays lone calm own of c.in_ok-picked.ensures.ok c.in-Stopped.is
+    let l = c.play_lone.ensures in
+    let s = stands_by t n w u c.turns.picker p h.same.0 h.plays h.lone h.calm h.thread h.trace h.told l.same l.picker l.told l.lone l.calm c.in_ok-play_lone.ensures.learnt in
+    let e = c.in_ok-picked.ensures.ok in
+    run_over t c.in_order.ensures _ c.requires.opening n c.requires.number e.0 u e.2 v p e.3 q s e.7 c.in_ok-picked.picked (e.4, e.5, e.6, e.8, e.9, e.10) c.in-Stopped.is
