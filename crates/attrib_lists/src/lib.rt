@@ -1,5 +1,7 @@
 //! Attribute lists: which attributes and values the lists of a call may have, and the value that counts.
 //!
+//! It knows no call: a kind of list stands for those that take it.
+//!
 //! Its tests are in `topic_check`.
 #![tactic(auto)]
 

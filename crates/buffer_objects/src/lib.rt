@@ -1,5 +1,7 @@
 //! Buffer objects (OpenGL ES 1.1, section 2.9).
 //!
+//! It knows no name and no limit of bytes: one buffer.
+//!
 //! Its tests are in `topic_check`.
 #![tactic(auto)]
 

@@ -1,6 +1,8 @@
 //! The calls, a row for each: the word that names it, its arguments, what refuses it and with which error, and its role.
 //!
 //! Code and definitions read the same tables: what a row says of a call stands nowhere else. Its tests are in `reader_check`.
+//!
+//! It knows no state: what a condition is of the state `call_rules` says.
 #![tactic(auto)]
 
 mod egl_conditions;

@@ -1,5 +1,7 @@
 //! The configs of the driver: their attributes, and which of them an attribute list chooses.
 //!
+//! It knows no display and no surface: a config is its attributes.
+//!
 //! Its tests are in `topic_check`.
 #![tactic(auto)]
 

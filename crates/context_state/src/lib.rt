@@ -1,5 +1,7 @@
 //! The state that a context of OpenGL ES keeps for itself, and the calls that ask and set it alone.
 //!
+//! It knows no object and no surface: it asks and sets what one context keeps for itself.
+//!
 //! Its tests are in `topic_check`.
 #![tactic(auto)]
 

@@ -34,10 +34,6 @@ is_named_on display number kind h = is_named number kind h && is_on display h
 abbrev pub valid : ℕ → ℕ → HandleKind → List Handle → Option ℕ
 valid display number kind handles = option_map (λ h. h.object) (find (is_named_on display number kind) handles)
 
--- the same on any display
-abbrev pub valid_anywhere : ℕ → HandleKind → List Handle → Option ℕ
-valid_anywhere number kind handles = option_map (λ h. h.object) (find (is_named number kind) handles)
-
 -- the handles of a display
 abbrev pub on_display : ℕ → List Handle → List Handle
 on_display display handles = filter (is_on display) handles

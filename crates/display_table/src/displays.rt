@@ -146,16 +146,6 @@ impl Displays {
         }
     }
 
-    /// The object that a valid handle of either display names, where it is of this kind.
-    pub fn valid_anywhere(&self, handle: i64, kind: HandleKind) -> Option<u64>
-        ensures { result ≡ handles.valid_anywhere (unsigned handle) kind self.now.handles }
-    {
-        match self.handle_anywhere(handle, kind) {
-            Some(handle) => Some(handle.object),
-            None => None,
-        }
-    }
-
     /// The number of the next handle.
     pub fn next_handle(&self) -> u32
         ensures { result ≡ self.now.next_handle }

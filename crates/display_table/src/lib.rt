@@ -8,6 +8,8 @@
 //! The handles of each display stand in a map in that order, where a destroyed one leaves an empty place: so the newest is
 //! found at the end, and any other by a hash under the key that the displays were made with.
 //!
+//! It knows no object but by its number, and no error of EGL.
+//!
 //! Its tests are in `table_check`.
 #![tactic(auto)]
 

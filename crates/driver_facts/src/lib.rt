@@ -1,5 +1,7 @@
 //! The facts and the refusals of calls, and the values that they answer: all that only reads what a driver keeps.
 //!
+//! It changes nothing: all that only reads what a driver keeps.
+//!
 //! Its tests are in `driver_check`.
 #![tactic(auto)]
 

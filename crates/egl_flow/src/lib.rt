@@ -1,5 +1,7 @@
 //! Bytes in and out of a program, with counted faults: what a contract may say of input and output, and how a program ends.
 //!
+//! It knows no trace: bytes, counts and how a program ends.
+//!
 //! Its tests are in `topic_check`.
 #![tactic(auto)]
 

@@ -1,5 +1,7 @@
 //! The names of EGL and OpenGL ES that a trace may use, their codes, and the words that stand for a number.
 //!
+//! It knows no call, and no number of Khronos: a code is a place in its list.
+//!
 //! Its tests are in `topic_check`.
 #![tactic(auto)]
 

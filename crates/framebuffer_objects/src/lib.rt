@@ -1,5 +1,7 @@
 //! Renderbuffers and framebuffers (OES_framebuffer_object).
 //!
+//! It knows no object: what is attached is a number, and what it is at a point its caller says.
+//!
 //! Its tests are in `pixel_check`.
 #![tactic(auto)]
 

@@ -1,5 +1,7 @@
 //! The text of a journal: the recording of a run, written and read.
 //!
+//! It judges nothing: text of entries, both ways.
+//!
 //! Its tests are in `play_rows`.
 #![tactic(auto)]
 

@@ -9,6 +9,8 @@
 //! The hash is SipHash-1-3, which Rust's maps use; a key is 128 bits. It keeps names from colliding for who doesn't know the
 //! key. It is no signature: nothing here keeps a secret. This crate knows no map, and not what its keys name.
 //!
+//! It knows no input: whose bytes give the key its callers say.
+//!
 //! Its tests are in `table_check`.
 #![tactic(auto)]
 

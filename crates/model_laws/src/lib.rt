@@ -2,6 +2,8 @@
 //!
 //! The functions of this crate do nothing. Their clauses are the laws.
 //!
+//! It knows no code: what a function does its own contract says.
+//!
 //! Its tests are in `play_rows`.
 #![tactic(auto)]
 

@@ -146,7 +146,7 @@ impl<X: Drop> Numbered<X> {
         self.most = self.most.max(self.live);
     }
 
-    /// Takes the value of a number away. Its room stays with the values for the next one that is made room for.
+    /// Takes the value of a number away. Its room stays with the values for the next one that is made room for. For those who use this crate elsewhere: the driver drops its values by `clear`.
     pub fn remove(&mut self, n: u64) -> Option<X>
         ensures value { result ≡ at self.old.items n }
         ensures items { self.new.items ≡ slice_set self.old.items n None }

@@ -1,17 +1,15 @@
 //! EGL images, and the pixels of which they are made (EGL 1.5, section 3.9; OES_EGL_image).
 ghost use Rattle.std.specs.Prelude.{◌≡◌, ◌+◌, ◌<◌, ◌≤◌, Some, None, not, ◌&&◌, IsSome, is_some, slice_index_or};
 ghost use Rattle.std.specs.List.{list_any};
-ghost use Rattle.std.specs.Option.{option_map};
-ghost use Rattle.egl_model.specs.Draws.{level_shapes};
 ghost use Rattle.egl_model.specs.Images.{above_base, is_incomplete_in, is_source_in, levels_dropped};
 ghost use Rattle.egl_model.specs.Links.{rank_in};
-ghost use Rattle.egl_model.specs.Objects.{as_egl_image, as_texture, change_texture, egl_image_in, texture_in};
+ghost use Rattle.egl_model.specs.Objects.{as_egl_image, change_texture, egl_image_in};
 ghost use Rattle.egl_model.specs.Textures.{change_pixels, pixels_at, with_level};
 ghost use Rattle.texture_objects.specs.Levels.{is_complete};
 ghost use Rattle.ref_store.specs.Kept.{at, AllIn};
 ghost use Rattle.object_table.specs.Links.{IsLeft};
 ghost use Rattle.object_table.specs.Nodes.{object_in};
-ghost use Rattle.object_table.specs.Samples.{shapes_by, stored_in};
+ghost use Rattle.object_table.specs.Samples.{stored_in};
 ghost use Rattle.object_table.specs.Sources.{emptied, has_pixels_by, is_incomplete_by, is_source_by};
 ghost use Rattle.object_table.specs.Tables.{weight_of};
 
@@ -53,16 +51,6 @@ fn image_at(store: &Store<Stored>, n: u64) -> Option<EglImage>
 {
     match object_at(store, n) {
         Some(Object::Image(image)) => Some(*image),
-        _ => None,
-    }
-}
-
-fn shapes_of(store: &Store<Stored>, n: u64) -> Option<[Option<Shape>; LEVELS]>
-    requires { AllIn store.now.nodes }
-    ensures { result ≡ option_map (λ x. shapes_by (stored_in store.now.nodes) x.levels) (as_texture (object_in (at store.now.nodes n))) }
-{
-    match object_at(store, n) {
-        Some(Object::Texture(texture)) => Some(shapes_at(store, &texture.levels)),
         _ => None,
     }
 }
@@ -131,13 +119,6 @@ impl ObjectTable {
         ensures { result ≡ egl_image_in self.now.objects n }
     {
         image_at(&self.store, n)
-    }
-
-    /// The shapes of a texture's levels.
-    pub fn shapes(&self, n: u64) -> Option<[Option<Shape>; LEVELS]>
-        ensures { result ≡ option_map (level_shapes self.now.objects) (texture_in self.now.objects n) }
-    {
-        shapes_of(&self.store, n)
     }
 
     /// Whether there is a texture with pixels at some level, or a renderbuffer with any, of this number.

@@ -4,6 +4,8 @@
 //! A `Pixel` has 8 bits a component. A format keeps fewer bits or fewer components, and `quantize`
 //! says what a stored pixel reads as.
 //!
+//! It knows no image: one pixel at a time.
+//!
 //! Its tests are in `pixel_check`.
 #![tactic(auto)]
 

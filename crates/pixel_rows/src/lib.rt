@@ -3,6 +3,8 @@
 //! An image keeps one to four bytes a pixel, as its format has it. They are the image's own, or they
 //! are frozen: then images may share them, and one that is written gets bytes of its own first.
 //!
+//! It knows no texture, surface or context: rectangles, masks and bytes.
+//!
 //! Its tests are in `pixel_check`.
 #![tactic(auto)]
 

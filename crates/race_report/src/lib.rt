@@ -1,5 +1,7 @@
 //! Which entries of a journal touch one thing though nothing in it orders them: the races of a run.
 //!
+//! It knows no other order than the journal's, and nothing of handles.
+//!
 //! Its tests are in `play_rows`.
 #![tactic(auto)]
 

@@ -1,5 +1,7 @@
 //! Reads a scene of sprites: the bytes spell one, or the first defective line is named with its reason.
 //!
+//! It knows no call: a scene is what its lines say.
+//!
 //! Its tests are in `reader_check`.
 #![tactic(auto)]
 

@@ -1,5 +1,7 @@
 //! Scenes as traces: the calls that draw a scene, as the lines of a trace.
 //!
+//! It knows no picture: calls as lines.
+//!
 //! Its tests are in `play_rows`.
 #![tactic(auto)]
 

@@ -1,5 +1,7 @@
 //! Sprites: the calls that draw a scene, and the picture that they leave.
 //!
+//! It knows no text: calls and a picture.
+//!
 //! Its tests are in `play_rows`.
 #![tactic(auto)]
 

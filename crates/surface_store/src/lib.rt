@@ -1,6 +1,8 @@
 //! Surfaces of windows and pbuffers, with the config, the sides and the pixels that they are made with,
 //! and windows with the pixels that they show.
 //!
+//! It knows no handle, no thread and no driver.
+//!
 //! Its tests are in `pixel_check`.
 #![tactic(auto)]
 

@@ -128,13 +128,6 @@ impl Surface {
         self.height
     }
 
-    /// What EGL_LARGEST_PBUFFER asked for.
-    pub fn is_largest(&self) -> bool
-        ensures { result ≡ self.now.is_largest }
-    {
-        self.is_largest
-    }
-
     /// The id of the surface's window; none for a pbuffer.
     pub fn window(&self) -> Option<i64>
         ensures { result ≡ self.now.window }

@@ -82,7 +82,7 @@ fn removing_other_numbers_changes_nothing(rt: HostRuntime) {
     for handle in [0, -3, 5, i64::MAX] {
         displays.remove(handle);
     }
-    assert!(rt; displays.valid_anywhere(3, HandleKind::Context) == Some(7));
+    assert!(rt; displays.valid(1, 3, HandleKind::Context) == Some(7));
 }
 
 #[test]

@@ -4,6 +4,8 @@
 //! A texture keeps its parameters. The pixels of a level stand in a storage of its own; what is said of
 //! them here needs their format and sides alone.
 //!
+//! It knows no name, no context and no storage: of pixels it knows format and sides.
+//!
 //! Its tests are in `pixel_check`.
 #![tactic(auto)]
 

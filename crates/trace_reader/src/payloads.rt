@@ -36,7 +36,7 @@ impl<'a> Model for PayloadWord<'a> {
     ghost invariant = { λ p. (p.count ≤ most_repeats) × IfSome p.digits (λ d. (are_byte_digits d.now ≡ true) × (length d.now < 2 ^ 64)) };
 }
 
-fn are_byte_digits(digits: &[u8]) -> bool
+pub fn are_byte_digits(digits: &[u8]) -> bool
     ensures { result ≡ are_byte_digits digits.now }
 {
     digits.len() % 2 == 0 && are_hex_digits(digits)
@@ -109,7 +109,7 @@ fn byte_of(pair: &[u8; 2]) -> u8
 }
 
 /// The bytes of digits.
-fn decoded(alloc: Global, digits: &[u8]) -> Result<Vec<u8>, NoMemory>
+pub fn decoded(alloc: Global, digits: &[u8]) -> Result<Vec<u8>, NoMemory>
     requires { are_byte_digits digits.now ≡ true }
     ensures { IfOk result (λ v. v.items ≡ hex_bytes digits.now) }
 {
