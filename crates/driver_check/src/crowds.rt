@@ -253,8 +253,8 @@ fn calls<R: Abort + Wait>(
     }
 }
 
-// Puts tokens into the room that there is.
-fn attach<R: Wait>(
+/// Puts tokens into the room that there is.
+pub fn attach<R: Wait>(
     rt: &R,
     shared: &Shared,
     thread: &mut Thread,
@@ -275,7 +275,8 @@ fn attach<R: Wait>(
     }
 }
 
-fn join_all<R: Wait>(rt: &R, shared: &Shared, thread: &mut Thread, mut tokens: Vec<Thread>)
+/// Joins tokens into one.
+pub fn join_all<R: Wait>(rt: &R, shared: &Shared, thread: &mut Thread, mut tokens: Vec<Thread>)
     requires owns { IsOf shared.now thread.old }
     requires tokens { All (λ t. IsOf shared.now t) tokens.items }
     ensures { IsOf shared.now thread.new }

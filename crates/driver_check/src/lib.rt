@@ -6,6 +6,8 @@ mod at_once;
 #[cfg(test)]
 mod commands;
 #[cfg(test)]
+mod crowded_beds;
+#[cfg(test)]
 mod crowds;
 #[cfg(test)]
 mod cut_runs;
@@ -34,9 +36,13 @@ mod places;
 #[cfg(test)]
 mod readings;
 #[cfg(test)]
+mod readme;
+#[cfg(test)]
 mod recordings;
 #[cfg(test)]
 mod replays;
+#[cfg(test)]
+mod runs;
 #[cfg(test)]
 mod scenes;
 #[cfg(test)]

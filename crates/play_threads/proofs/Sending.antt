@@ -24,7 +24,7 @@ use Rattle.trace_session.specs.contracts.chains.Chains as chains
 use Rattle.atomic_table.proofs.shared.Seat.TheSendSync as seat
 use Rattle.once_cell.proofs.race.once_box.OnceBox.TheSendSync as once
 use Rattle.shared_driver.specs.contracts.tokens.Thread as thread
-use Rattle.shared_driver.proofs.Sending.{bytes_send, bytes_sync, core_send, entry_send, part_send, reply_send}
+use Rattle.shared_driver.proofs.Sending.{boxed_send, bytes_send, bytes_sync, entry_send, part_send, reply_send}
 use Rattle.play_threads.specs.contracts.starts.Start as start
 use Rattle.play_threads.specs.contracts.workers.Worker as worker
 
@@ -94,7 +94,7 @@ start_sync = search (sendable, crosses) depth 60 fits 20000
 
 -- and a worker, with its token, may move there
 pub token_send : IsSend (thread.the_field).row
-token_send = let a = core_send in let b = part_send in let d = entry_send in search (sendable, crosses, seat.the_send) depth 60 fits 40000
+token_send = let a = boxed_send in let b = part_send in let d = entry_send in search (sendable, crosses, seat.the_send) depth 60 fits 40000
 
 pub worker_send : IsSend worker.the_row
 worker_send = recorded_send _ worker.the_type.D worker.the_type.to worker.the_type.to_one (struct_send (declared.shape worker.the_type) (token_send, (search sendable depth 20, tt)))

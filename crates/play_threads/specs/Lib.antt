@@ -1,3 +1,4 @@
 pub mod Picks
+pub mod Turns
 pub mod Work
 pub mod Plays

@@ -1,5 +1,7 @@
 //! A trace of several threads, played by as many at once over one driver, in one legal history.
 //!
+//! It knows no text: a trace in, a run out.
+//!
 //! Its tests are in `driver_check`.
 #![tactic(auto)]
 

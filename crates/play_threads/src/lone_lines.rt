@@ -1,5 +1,5 @@
 //! Lines that a thread's private part answers, with no turn.
-ghost use Rattle.std.specs.Prelude.{◌≡◌, ◌<◌, ◌+◌, true, false, List, IfOk, IfSome, OnOk};
+ghost use Rattle.std.specs.Prelude.{◌≡◌, ◌<◌, ◌+◌, true, false, List, is_some, IfOk, IfSome, OnOk};
 ghost use Rattle.egl_calls.specs.Journals.{are_halted};
 ghost use Rattle.egl_calls.specs.declared.entries.Entry.{Entry as AnEntry};
 ghost use Rattle.trace_session.specs.Answers.{IsLone};
@@ -8,7 +8,7 @@ ghost use Rattle.trace_session.specs.Sessions.{Knows};
 ghost use Rattle.shared_driver.specs.declared.tokens.Shared.{Shared as TheShared};
 ghost use Rattle.shared_driver.specs.Tokens.{IsOf, IsSame, may_be_local, mine, token_of};
 ghost use Rattle.play_threads.specs.Picks.{HasLearnt};
-ghost use Rattle.play_threads.specs.Work.{PlayLone};
+ghost use Rattle.play_threads.specs.Work.{NoLoneLeft, PlayLone, is_local_line};
 
 use crate::gates::{Gate, announce};
 use crate::pickers::LinePicker;
@@ -21,6 +21,7 @@ use trace_reader::Line;
 fn local_call(thread: &Thread, alloc: Global, line: &Line) -> Result<Option<Call>, NoMemory>
     ensures call { IfOk result (λ o. IfSome o (λ c. c ≡ line.now.call)) }
     ensures local { IfOk result (λ o. IfSome o (λ c. may_be_local (token_of thread.now) c ≡ true)) }
+    ensures there { IfOk result (λ o. is_some o ≡ is_local_line (token_of thread.now) line.now) }
 {
     if !line.call.list().is_empty() {
         return Ok(None);
@@ -79,6 +80,7 @@ pub(crate) fn play_lone<G: Gate>(
     ensures lone { PlayLone picker.old.session.trace picker.old.thread (token_of thread.old).seen (token_of thread.old).tail → PlayLone picker.old.session.trace picker.old.thread (token_of thread.new).seen (token_of thread.new).tail }
     ensures calm { are_halted (mine (token_of thread.old)) ≡ false → are_halted (mine (token_of thread.new)) ≡ false }
     ensures learnt { OnOk result (HasLearnt picker.new (mine (token_of thread.new)) (token_of thread.new).seen) }
+    ensures all { OnOk result (NoLoneLeft picker.new (token_of thread.new)) }
 {
     'lines: while let Some(line) = picker.lone_line() {
         let Some(call) = local_call(thread, alloc, line)? else {

@@ -1,11 +1,11 @@
 //! What a worker picks, by what it knows of the journal.
-ghost use Rattle.std.specs.Prelude.{◌≡◌, ◌<◌, ◌+◌, ◌-◌, ◌^◌, ◌||◌, ◌∷◌, ◌++◌, [], length, slice_get, None, Some, IfOk, IfSome, IsSome, OnOk, List};
+ghost use Rattle.std.specs.Prelude.{◌≡◌, ◌<◌, ◌+◌, ◌-◌, ◌^◌, ◌||◌, ◌∷◌, ◌++◌, [], length, slice_get, is_some, None, Some, IfOk, IfSome, IsSome, OnOk, List};
 ghost use Rattle.egl_calls.specs.Journals.{is_halt};
 ghost use Rattle.egl_calls.specs.declared.entries.Entry.{Entry as AnEntry};
 ghost use Rattle.trace_reader.specs.declared.traces.Line.{Line as ALine};
 ghost use Rattle.trace_model.specs.Turns.{next_line};
 ghost use Rattle.trace_model.specs.Serial.{next_call};
-ghost use Rattle.trace_session.specs.Answers.{IsLone};
+ghost use Rattle.trace_session.specs.Answers.{IsLone, is_lone};
 ghost use Rattle.trace_session.specs.Chains.{AreChains};
 ghost use Rattle.trace_session.specs.Facts.{HasFacts};
 ghost use Rattle.trace_session.specs.Sessions.{Knows, line_at};
@@ -168,6 +168,7 @@ impl<'a> LinePicker<'a> {
         requires { self.now.thread < self.now.session.trace.threads }
         ensures facts { HasFacts self.now.session.trace }
         ensures lone { (es : List AnEntry) → Knows es self.now.session → IfSome result (λ l. IsLone self.now.session.trace es self.now.thread l.now) }
+        ensures there { (es : List AnEntry) → Knows es self.now.session → is_some result ≡ is_lone self.now.session.trace es self.now.thread }
     {
         self.session.facts();
         self.session.lone_line(self.thread)

@@ -10,6 +10,7 @@ pub mod Opening
 pub mod Attaching
 pub mod Picking
 pub mod Running
+pub mod Rousing
 pub mod LateTurns
 pub mod Learning
 pub mod Sending

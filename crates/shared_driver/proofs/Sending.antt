@@ -37,6 +37,7 @@ use Rattle.surface_store.specs.contracts.window_tables.WindowTable as windows
 use Rattle.driver_facts.specs.contracts.threads.ThreadTable as threads
 use Rattle.driver_core.specs.contracts.machine.Driver as driver
 use Rattle.thread_part.specs.contracts.thread_part.ThreadPart as thread_part
+use Rattle.shared_driver.specs.contracts.boxes.BoxedCore as boxed
 use Rattle.shared_driver.specs.contracts.cores.Core as core
 use Rattle.shared_driver.specs.contracts.news.News as news
 use Rattle.shared_driver.specs.contracts.sleepers.Sleepers as sleepers
@@ -131,6 +132,9 @@ driver_send = let a = displays_send in let b = objects_send in let d = windows_s
 pub core_send : IsSend core.the_row
 core_send = let a = driver_send in let b = journal_send in search (sendable, crosses) depth 60
 
+pub boxed_send : IsSend boxed.the_row
+boxed_send = let a = core_send in search (sendable, crosses) depth 60
+
 pub sleepers_send : IsSend sleepers.the_row
 sleepers_send = search (sendable, crosses) depth 60 fits 20000
 
@@ -151,10 +155,10 @@ part_send = search (sendable, crosses) depth 60 fits 20000
 
 -- a token may move to another thread, and the shared driver may move and be lent to one
 pub thread_send : IsSend thread.the_row
-thread_send = let a = core_send in let b = part_send in let d = entry_send in search (sendable, crosses, seat.the_send) depth 60 fits 40000
+thread_send = let a = boxed_send in let b = part_send in let d = entry_send in search (sendable, crosses, seat.the_send) depth 60 fits 40000
 
 pub shared_send : IsSend shared.the_row
-shared_send = let a = core_send in let b = bells_send in let d = news_send in search (sendable, crosses, table.the_send, lease.the_send) depth 60 fits 20000
+shared_send = let a = boxed_send in let b = bells_send in let d = news_send in search (sendable, crosses, table.the_send, lease.the_send) depth 60 fits 20000
 
 pub shared_sync : IsSync shared.the_row
-shared_sync = let a = core_send in let b = bells_sync in let d = news_sync in search (sendable, crosses, table.the_sync, lease.the_sync) depth 60 fits 20000
+shared_sync = let a = boxed_send in let b = bells_sync in let d = news_sync in search (sendable, crosses, table.the_sync, lease.the_sync) depth 60 fits 20000

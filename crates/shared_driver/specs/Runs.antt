@@ -1,10 +1,11 @@
 -- What comes of picks that follow one another in one turn.
-use Rattle.std.specs.Prelude.{◌≡◌, ◌≤◌, ℕ, zero, suc, false, List, [], ◌∷◌, ◌++◌, None, slice_set}
+use Rattle.std.specs.Prelude.{◌≡◌, ◌≤◌, ℕ, zero, suc, Bool, false, List, [], ◌∷◌, ◌++◌, Option, None, slice_set}
 use Rattle.egl_calls.specs.Calls.{CallValue, ReplyValue}
 use Rattle.egl_calls.specs.Journals.{is_halt_kind}
 use Rattle.egl_calls.specs.declared.entries.Entry.{Entry}
 use Rattle.egl_model.specs.State.{State}
 use Rattle.driver_core.specs.Machine.{Machine}
+use Rattle.driver_core.specs.declared.drawings.Drawing.{Drawing}
 use Rattle.shared_driver.specs.declared.cores.Core.{Core}
 use Rattle.shared_driver.specs.declared.picks.Pick.{Pick}
 use Rattle.shared_driver.specs.declared.picks.Pick.TheVariants.{Call}
@@ -23,6 +24,11 @@ abbrev pub IsReplied : Picked → Type 0
 IsReplied (Replied reply) = Unit {0}
 IsReplied Waited = ⊥
 IsReplied Stopped = ⊥
+
+-- nothing is picked behind this in a turn: it wasn't answered, was a Halt or left a draw, or the picker doesn't want to pick again
+abbrev pub IsLast : {P : Type 0} → (P → ReplyValue → Bool → Bool) → P → Picked → Bool → Option Drawing → Type 0
+IsLast wants q (Replied reply) false None = (freed : Bool) × (wants q reply freed ≡ false)
+IsLast wants q r halts left = Unit {0}
 
 -- of a kind of picker: which picks it may give, and what it is once it was told a reply
 module _ {P : Type 0} (picks : P → List Entry → Machine → Pick → P → Type 0) (told : P → ReplyValue → P → Type 0) where

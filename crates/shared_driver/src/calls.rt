@@ -12,6 +12,7 @@ ghost use Rattle.shared_driver.specs.Cores.{all_places, entry, takes_place};
 ghost use Rattle.shared_driver.specs.Picks.{ComesOf, IsSeenAtTurn};
 ghost use Rattle.shared_driver.specs.Tokens.{AnswersAfterWait, AnswersAtOnce, Goes, Halts, IsFrom, IsOf, IsSame, Learns, Owns, has_given_up, mine, most_of, opening_of, places_after, token_of};
 
+use crate::boxes::{closed, core_of, opened};
 use crate::cores::{Core, MOST_TOKENS, PLACES, Played};
 use crate::newcomers::own_calls;
 use crate::news::News;
@@ -24,7 +25,7 @@ use keyed_hash::HashKey;
 use std::alloc::Global;
 use std::sync::Wait;
 use surface_store::WindowSpec;
-use turn_lock::{Opening, Turns};
+use turn_lock::Opening;
 
 pub(crate) fn either(a: bool, b: bool) -> bool
     ensures { result ≡ (a || b) }
@@ -76,7 +77,7 @@ impl Shared {
         let tail = own_calls(alloc)?;
         let mut core = Core::new(alloc, key, windows, video, most)?;
         let part = core.part_out(0);
-        let Ok(Opening { turns, pass }) = Turns::new(alloc, core) else {
+        let Ok(Opening { turns, pass }) = opened(alloc, core) else {
             return Err(NoMemory);
         };
         Ok(Opened {
@@ -126,7 +127,7 @@ impl Shared {
         let back = PLACES - thread.places;
         let upload = upload_of(&thread.hold, alloc, &call);
         let mut held = self.begin_turn(&mut thread.hold, rt);
-        let core = held.value();
+        let core = core_of(&mut held);
         let from = core.journal.len();
         match core.begin(
             alloc,
@@ -172,7 +173,7 @@ impl Shared {
     {
         let halts = is_halt(call.kind);
         let mut held = self.begin_turn(&mut thread.hold, rt);
-        let core = held.value();
+        let core = core_of(&mut held);
         let from = core.journal.len();
         let reply = core.add(alloc, thread.hold.number, mark, call, &mut thread.hold.tail);
         let woken = self.news.rouse(rt, core, from);
@@ -228,7 +229,7 @@ impl Shared {
         ensures places { (token_of thread.new).places ≡ (token_of thread.old).places }
     {
         let mut held = self.turns.take_turn(&mut thread.hold.pass, rt);
-        let live = held.value().tokens.live;
+        let live = core_of(&mut held).tokens.live;
         self.turns.give_back(&mut thread.hold.pass, held);
         live
     }
@@ -244,7 +245,7 @@ impl Shared {
         ensures places { (token_of thread.new).places ≡ (token_of thread.old).places }
     {
         let mut held = self.begin_turn(&mut thread.hold, rt);
-        let core = held.value();
+        let core = core_of(&mut held);
         let from = core.journal.len();
         core.hand_in(thread.hold.number, &mut thread.hold.tail);
         let woken = self.news.rouse(rt, core, from);
@@ -292,7 +293,7 @@ impl Shared {
             end_kept: _,
         } = thread;
         let Some(part) = part else { unreachable!() };
-        let mut core = turns.close(pass);
+        let mut core = closed(turns, pass);
         core.part_in(number, part);
         core.hand_in(number, &mut tail);
         let Core {
@@ -316,7 +317,7 @@ impl Shared {
         ensures places { (token_of thread.new).places ≡ (token_of thread.old).places }
     {
         let mut held = self.begin_turn(&mut thread.hold, rt);
-        let core = held.value();
+        let core = core_of(&mut held);
         core.halt(alloc, thread.hold.number, &mut thread.hold.tail);
         let woken = self.news.rouse_all(rt);
         self.end_turn(&mut thread.hold, held);
@@ -366,7 +367,7 @@ impl Shared {
     {
         let back = PLACES - thread.places;
         let mut held = self.begin_turn(&mut thread.hold, rt);
-        let core = held.value();
+        let core = core_of(&mut held);
         let from = core.journal.len();
         core.hand_in(thread.hold.number, &mut thread.hold.tail);
         match core.pick(

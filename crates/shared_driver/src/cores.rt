@@ -27,7 +27,6 @@ use std::alloc::Global;
 use std::collections::VecDeque;
 use surface_store::WindowSpec;
 use thread_part::{ThreadPart, Upload};
-use turn_lock::Replays;
 
 /// How many tokens are live, and how many may ever be made.
 #[derive(Drop)]
@@ -54,14 +53,6 @@ pub struct Core {
 pub struct Played {
     pub reply: Reply,
     pub drawing: Option<Drawing>,
-}
-
-impl Replays for Core {
-    ghost use Rattle.shared_driver.specs.Cores.{meaning};
-
-    type Entry = Entry;
-
-    ghost meaning = { meaning };
 }
 
 /// How many calls a token may make without memory before it makes one that takes memory.

@@ -6,7 +6,8 @@ ghost use Rattle.shared_driver.specs.Cores.{IsFull, all_places, of_number};
 ghost use Rattle.shared_driver.specs.Tokens.{AreDisjoint, Goes, HasNewNumber, Includes, IsNew, IsOf, IsSame, KnowsEnded, Learns, mine, most_of, token_of};
 ghost use Rattle.shared_driver.specs.Turns.{Holds, Retires};
 
-use crate::cores::{Core, FIRST_ROOM, PLACES};
+use crate::boxes::{BoxedCore, core_of};
+use crate::cores::{FIRST_ROOM, PLACES};
 use crate::newcomers::Newcomer;
 use crate::tokens::{AttachError, Holding, Shared, Thread};
 use std::sync::Wait;
@@ -34,7 +35,7 @@ impl Shared {
         let back = PLACES - from.places;
         let alloc = *from.hold.tail.allocator();
         let mut held = self.begin_turn(&mut from.hold, rt);
-        let core = held.value();
+        let core = core_of(&mut held);
         match core.admit(alloc, from.hold.number, &mut from.hold.tail, back) {
             Ok(Newcomer { number, part, tail }) => {
                 let pass = self
@@ -68,7 +69,7 @@ impl Shared {
     }
 
     // The last turn of a token: its own calls are handed in, its part stays in the driver, and its room is then 0.
-    fn retire<R: Wait>(&self, mut hold: Holding, rt: &R) -> Pass<Core>
+    fn retire<R: Wait>(&self, mut hold: Holding, rt: &R) -> Pass<BoxedCore>
         requires owns { passes.IsOf self.now.turns hold.pass }
         requires holds { Holds hold }
         ensures owns { passes.IsOf self.now.turns result × IsFree result }
@@ -76,7 +77,7 @@ impl Shared {
         ensures retires { Retires hold result }
     {
         let mut held = self.begin_turn(&mut hold, rt);
-        let core = held.value();
+        let core = core_of(&mut held);
         core.hand_in(hold.number, &mut hold.tail);
         core.leave(hold.number);
         let woken = self.news.rouse_all(rt);
@@ -121,7 +122,7 @@ impl Shared {
         let pass = self.retire(hold, rt);
         let mut held = self.turns.take_turn(&mut into.hold.pass, rt);
         self.turns.join(&mut into.hold.pass, pass);
-        held.value().dismiss();
+        core_of(&mut held).dismiss();
         self.turns.give_back(&mut into.hold.pass, held);
         into.sole = false;
     }

@@ -1,8 +1,11 @@
 //! A driver and its journal behind a lock: the calls of all threads stand in one legal history.
 //!
+//! It knows no trace: what is picked in a turn its picker says.
+//!
 //! Its tests are in `driver_check`.
 #![tactic(auto)]
 
+mod boxes;
 mod calls;
 mod cores;
 mod joins;

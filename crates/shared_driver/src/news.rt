@@ -1,15 +1,27 @@
 //! Where threads sleep until what they wait for may have come.
+ghost use Rattle.std.specs.Prelude.{◌≡◌, drop};
+
 use crate::cores::Core;
 use crate::sleepers::{BEDS, Sleepers, Wanted, Woken, bed_of};
 use crate::tokens::{Shared, Thread};
+use egl_calls::{Entry, Journal};
 use std::array;
 use std::sync::atomic::AtomicU64;
 use std::sync::atomic::Ordering::SeqCst;
 use std::sync::{Mutex, Wait};
 
+// The entries of a journal from a place on.
+fn entries_from(journal: &Journal, from: u64) -> &[Entry]
+    ensures { result.now ≡ drop from journal.now.entries }
+{
+    let entries = journal.as_slice();
+    let (_before, added) = entries.split_at((from as usize).min(entries.len()));
+    added
+}
+
 /// The beds of the threads that sleep, and how often each was called to get up.
 ///
-/// A thread whose wait can't end yet sleeps here, or one whose picker has nothing to do, since only another turn can change that. It takes its bed in the turn in which it looked, and each later turn calls those whom its entries can have freed. So none is missed, and who isn't called sleeps on without a turn. No clause speaks of this: a thread that wakes takes a turn and looks again.
+/// A thread whose wait can't end yet sleeps here, or one whose picker has nothing to do, since only another turn can change that. It takes its bed in the turn in which it looked, and each later turn calls those whom its entries can have freed. So none is missed, and who isn't called sleeps on without a turn. What frees a thread is told by `Sleepers`. No clause speaks of the rest: a thread that wakes takes a turn and looks again.
 #[derive(Drop)]
 pub(crate) struct News {
     sleepers: Mutex<Sleepers>,
@@ -51,7 +63,7 @@ impl News {
             return false;
         }
         let sleepers = self.sleepers.lock(rt);
-        sleepers.frees(&core.driver, &core.journal, from)
+        sleepers.frees(&core.driver, entries_from(&core.journal, from))
     }
 
     /// In a turn: whom its entries, from a place of the journal on, can have freed. They are to be called once the turn is over.
@@ -60,7 +72,7 @@ impl News {
             return Woken::nobody();
         }
         let mut sleepers = self.sleepers.lock(rt);
-        let woken = sleepers.rouse(&core.driver, &core.journal, from);
+        let woken = sleepers.rouse(&core.driver, entries_from(&core.journal, from));
         self.taken.store(sleepers.taken(), SeqCst);
         woken
     }

@@ -1,5 +1,5 @@
 //! Calls that are picked one after another in one turn.
-ghost use Rattle.std.specs.Prelude.{◌≡◌, ◌<◌, ◌≤◌, ◌+◌, [], ℕ, true, false, length, None, IfOk, IfErr, OnOk, OnErr, slice_index, slice_set, List};
+ghost use Rattle.std.specs.Prelude.{◌≡◌, ◌<◌, ◌≤◌, ◌+◌, [], ℕ, Bool, true, false, length, None, IfOk, IfErr, OnOk, OnErr, slice_index, slice_set, List};
 ghost use Rattle.std.specs.VecDeque.{deque_capacity};
 ghost use Rattle.egl_calls.specs.Calls.{ReplyValue};
 ghost use Rattle.egl_calls.specs.declared.entries.Entry.{Entry};
@@ -9,9 +9,10 @@ ghost use Rattle.shared_driver.specs.declared.picks.Pick.{Pick as ThePick};
 ghost use Rattle.shared_driver.specs.declared.picks.Picked.TheVariants.{Replied};
 ghost use Rattle.shared_driver.specs.Cores.{all_places, owed};
 ghost use Rattle.shared_driver.specs.Picks.{ComesOf, IsDone, IsSeenAtTurn, halts};
-ghost use Rattle.shared_driver.specs.Runs.{AreRounds, AreTokenRounds, IsReplied, most_rounds};
+ghost use Rattle.shared_driver.specs.Runs.{AreRounds, AreTokenRounds, IsLast, IsReplied, most_rounds};
 ghost use Rattle.shared_driver.specs.Tokens.{Goes, IsOf, IsSame, Token, mine, opening_of, token_of};
 
+use crate::boxes::core_of;
 use crate::calls::either;
 use crate::cores::{Core, PLACES};
 use crate::news::News;
@@ -29,9 +30,12 @@ pub const MOST_ROUNDS: u64 = 64;
 pub trait Runner {
     /// What it is once it was told how the call was answered that it picked last.
     ghost told: { Self → ReplyValue → Self → Type 0 };
+    /// Whether it wants to pick again, where the call that it picked last was answered so, and a sleeping thread was freed or not.
+    ghost wants: { Self → ReplyValue → Bool → Bool };
 
     /// Whether it picks again before others have a turn, where the call that it picked last was answered so. It hears whether a sleeping thread waits for the turn's end, since an entry of the turn has freed it.
-    fn again(&self, reply: &Reply, freed: bool) -> bool;
+    fn again(&self, reply: &Reply, freed: bool) -> bool
+        ensures { result ≡ wants self.now reply.now freed };
 
     /// Is told how the call was answered that it picked last.
     fn tell(&mut self, reply: Reply)
@@ -46,7 +50,8 @@ pub struct RanOut {
 
 /// Whether the picker picks again: its call was answered and is no Halt, and no draw is left of it.
 fn goes_on<P: Runner>(picker: &P, call: &PickedCall, freed: bool) -> bool
-    ensures { result ≡ true → IsReplied call.now.picked × (call.now.halts ≡ false) × (call.now.drawing ≡ None) }
+    ensures on { result ≡ true → IsReplied call.now.picked × (call.now.halts ≡ false) × (call.now.drawing ≡ None) }
+    ensures ends { result ≡ false → IsLast P.wants picker.now call.now.picked call.now.halts call.now.drawing }
 {
     match &call.picked {
         Picked::Replied(reply) => {
@@ -87,7 +92,7 @@ impl Core {
         requires back { back ≤ all_places }
         requires owed { self.old.promised ≡ owed self.old.rooms.items }
         requires spare { self.old.promised ≤ self.old.journal.spare }
-        ensures ok { IfOk result (λ r. (k : ℕ) × (k < most_rounds) × (x : TheCore) × (q : P) × (p : ThePick) × AreRounds P.picks P.told number k self.old picker.old x q × P.picks q x.journal.entries x.driver p picker.new × IsDone x number p r.picked r.drawing self.new × (r.halts ≡ halts p)) }
+        ensures ok { IfOk result (λ r. (k : ℕ) × (k < most_rounds) × (x : TheCore) × (q : P) × (p : ThePick) × AreRounds P.picks P.told number k self.old picker.old x q × P.picks q x.journal.entries x.driver p picker.new × IsDone x number p r.picked r.drawing self.new × (r.halts ≡ halts p) × (k + 1 < most_rounds → IsLast P.wants picker.new r.picked r.halts r.drawing)) }
         ensures rooms { OnOk result (self.new.rooms.items ≡ slice_set self.old.rooms.items number (slice_index self.old.rooms.items number + back)) }
         ensures err { OnErr result ((k : ℕ) × (k < most_rounds) × (x : TheCore) × (q : P) × AreRounds P.picks P.told number k self.old picker.old x q × (self.new.driver ≡ x.driver) × (self.new.journal.entries ≡ x.journal.entries)) }
         ensures err_rooms { IfErr result (λ e. (e.given ≤ back) × (self.new.rooms.items ≡ slice_set self.old.rooms.items number (slice_index self.old.rooms.items number + e.given))) }
@@ -142,7 +147,7 @@ impl Shared {
     {
         let back = PLACES - thread.places;
         let mut held = self.begin_turn(&mut thread.hold, rt);
-        let core = held.value();
+        let core = core_of(&mut held);
         let from = core.journal.len();
         core.hand_in(thread.hold.number, &mut thread.hold.tail);
         match core.pick_run(

@@ -6,7 +6,7 @@ ghost use Rattle.egl_model.specs.History.{replay_from};
 ghost use Rattle.turn_lock.specs.Passes.{view_of, IsFree};
 ghost use Rattle.shared_driver.specs.Cores.{IsLegalAt, all_places, are_local, has_halted, part_after, place_for, room_for, start_in};
 
-use crate::cores::Core;
+use crate::boxes::BoxedCore;
 use crate::news::News;
 use driver_core::Driver;
 use egl_calls::{Entry, Journal};
@@ -17,13 +17,13 @@ use turn_lock::{Pass, Turns};
 
 /// A driver and its journal, to be shared by reference. It must be spent, by `close`.
 pub struct Shared {
-    pub(crate) turns: Turns<Core>,
+    pub(crate) turns: Turns<BoxedCore>,
     pub(crate) news: News,
 }
 
 /// What a thread holds between its turns: its pass, its private part, and its own calls.
 pub(crate) struct Holding {
-    pub(crate) pass: Pass<Core>,
+    pub(crate) pass: Pass<BoxedCore>,
     pub(crate) number: u32,
     // in the thread's turn it is in the driver
     pub(crate) part: Option<ThreadPart>,

@@ -7,7 +7,7 @@ ghost use Rattle.shared_driver.specs.Cores.{meaning};
 ghost use Rattle.driver_core.specs.LateDraws.{part_drawn_late};
 ghost use Rattle.shared_driver.specs.Turns.{Begun, Ends, EndsWith, Holds};
 
-use crate::cores::Core;
+use crate::boxes::{BoxedCore, core_of};
 use crate::sleepers::Woken;
 use crate::tokens::{Holding, Shared};
 use driver_core::Drawing;
@@ -40,7 +40,7 @@ fn draw_left(part: &mut ThreadPart, drawing: &Option<Drawing>)
 
 impl Shared {
     /// Waits for a turn of the thread, and puts its private part back into the driver. Its own calls aren't handed in yet.
-    pub(crate) fn begin_turn<R: Wait>(&self, hold: &mut Holding, rt: &R) -> Held<Core>
+    pub(crate) fn begin_turn<R: Wait>(&self, hold: &mut Holding, rt: &R) -> Held<BoxedCore>
         requires owns { passes.IsOf self.now.turns hold.old.pass }
         requires holds { Holds hold.old }
         ensures lock { passes.IsOf self.now.turns hold.new.pass × IsHeldOf self.now.turns result }
@@ -52,12 +52,12 @@ impl Shared {
         let Some(part) = hold.part.take() else {
             unreachable!()
         };
-        held.value().part_in(hold.number, part);
+        core_of(&mut held).part_in(hold.number, part);
         held
     }
 
     /// Hands out the thread's private part again, and passes the turn on.
-    pub(crate) fn end_turn(&self, hold: &mut Holding, mut held: Held<Core>)
+    pub(crate) fn end_turn(&self, hold: &mut Holding, mut held: Held<BoxedCore>)
         requires lock { passes.IsOf self.now.turns hold.old.pass × IsHeldOf self.now.turns held }
         requires turn { IsInTurn hold.old.pass }
         requires gone { hold.old.part ≡ None }
@@ -67,7 +67,7 @@ impl Shared {
         ensures view { view_of hold.new.pass ≡ went meaning (view_of hold.old.pass) (value_of held) }
         ensures kept { (hold.new.number ≡ hold.old.number) × (hold.new.tail ≡ hold.old.tail) }
     {
-        let part = held.value().part_out(hold.number);
+        let part = core_of(&mut held).part_out(hold.number);
         let None = hold.part.replace(part) else {
             unreachable!()
         };
@@ -78,7 +78,7 @@ impl Shared {
     pub(crate) fn end_turn_with(
         &self,
         hold: &mut Holding,
-        mut held: Held<Core>,
+        mut held: Held<BoxedCore>,
         woken: &Woken,
         drawing: &Option<Drawing>,
     )
@@ -91,7 +91,7 @@ impl Shared {
         ensures view { view_of hold.new.pass ≡ went meaning (view_of hold.old.pass) (value_of held) }
         ensures kept { (hold.new.number ≡ hold.old.number) × (hold.new.tail ≡ hold.old.tail) }
     {
-        let mut part = held.value().part_out(hold.number);
+        let mut part = core_of(&mut held).part_out(hold.number);
         self.turns.give_back(&mut hold.pass, held);
         self.news.call(woken);
         draw_left(&mut part, drawing);

@@ -3,6 +3,7 @@ ghost use Rattle.std.specs.Prelude.{◌≡◌, ◌∷◌, [], false, IfSome, IfN
 ghost use Rattle.shared_driver.specs.Cores.{entry, wait_end_call, wait_ended};
 ghost use Rattle.shared_driver.specs.Tokens.{Goes, HasPlace, IsFrom, IsOf, IsSame, Learns, token_of};
 
+use crate::boxes::core_of;
 use crate::sleepers::Wanted;
 use crate::tokens::{Shared, Thread};
 use egl_calls::Reply;
@@ -30,7 +31,7 @@ impl Shared {
         ensures places { (token_of thread.new).places ≡ (token_of thread.old).places }
     {
         let mut held = self.begin_turn(&mut thread.hold, rt);
-        let core = held.value();
+        let core = core_of(&mut held);
         let from = core.journal.len();
         match core.try_end(alloc, thread.hold.number, mark, &mut thread.hold.tail) {
             Some(reply) => {

@@ -14,7 +14,7 @@ pub returns-then-not-goes_on-clause-ok : goal.returns-then-not-goes_on-clause-ok
 returns-then-not-goes_on-clause-ok g c =
     let i = c.rounds.invariant in
     let k = c.in-Ok.ensures.ok in
-    (i.rounds.0, omega (arith, i.rounds.1, i.few), c.rounds.self, c.rounds.picker, k.0, i.rounds.2, k.1, k.2, k.3)
+    (i.rounds.0, omega (arith, i.rounds.1, i.few), c.rounds.self, c.rounds.picker, k.0, i.rounds.2, k.1, k.2, k.3, λ more. c.if-not-goes_on.ensures.ends refl)
 
 pub returns-then-not-goes_on-clause-rooms : goal.returns-then-not-goes_on-clause-rooms
 returns-then-not-goes_on-clause-rooms g c =
@@ -26,7 +26,7 @@ rounds-preserved g c =
     let i = c.rounds.invariant in
     let e = c.in-Ok.ensures in
     let k = e.ok in
-    let on = c.if-not-goes_on.ensures refl in
+    let on = c.if-not-goes_on.ensures.on refl in
     let y = c.pick.new.self in
     record {
       rounds = (
@@ -61,7 +61,7 @@ pub returns-clause-ok : goal.returns-clause-ok
 returns-clause-ok g c =
     let i = c.rounds.invariant in
     let k = c.in-Ok-pick.ensures.ok in
-    (i.rounds.0, omega (arith, i.rounds.1, i.few), c.rounds.self, c.rounds.picker, k.0, i.rounds.2, k.1, k.2, k.3)
+    (i.rounds.0, omega (arith, i.rounds.1, i.few), c.rounds.self, c.rounds.picker, k.0, i.rounds.2, k.1, k.2, k.3, λ more. absurd (omega (arith, more, i.rounds.1, c.rounds-test.false)))
 
 pub returns-clause-rooms : goal.returns-clause-rooms
 returns-clause-rooms g c =

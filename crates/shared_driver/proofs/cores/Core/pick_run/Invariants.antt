@@ -1,4 +1,4 @@
-use Rattle.std.proofs.Common.{◌≡◌, ◌<◌, ◌≤◌, ◌+◌, [], ℕ}
+use Rattle.std.proofs.Common.{◌≡◌, ◌≤◌, ◌+◌, [], ℕ}
 use Rattle.std.specs.Prelude.{slice_index, slice_set}
 use Rattle.std.specs.VecDeque.{deque_capacity}
 use Rattle.shared_driver.specs.Cores.{owed}
@@ -7,7 +7,7 @@ use Rattle.shared_driver.proofs.cores.Core.pick_run.Given as goal
 
 abbrev pub invariant-rounds : goal.invariant-rounds
 invariant-rounds g l = record {
-  rounds : (k : ℕ) × (k < l._round) × AreRounds g.P.Picker.picks g.P.Runner.told l.fn.number k l.fn.self l.fn.picker l.self l.picker;
+  rounds : (k : ℕ) × (k + 1 ≡ l._round) × AreRounds g.P.Picker.picks g.P.Runner.told l.fn.number k l.fn.self l.fn.picker l.self l.picker;
   few : l._round ≤ 64;
   made : l.self.driver.made ≡ l.fn.self.driver.made;
   rooms : l.self.rooms.items ≡ slice_set l.fn.self.rooms.items l.fn.number (slice_index l.fn.self.rooms.items l.fn.number + l.given);

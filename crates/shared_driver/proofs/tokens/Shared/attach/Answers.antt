@@ -1,8 +1,8 @@
-use Rattle.std.proofs.Common.{◌≡◌, ◌≤◌, ◌<◌, ◌+◌, ◌-◌, ◌∙◌, ◌∷◌, ◌++◌, [], ℕ, true, false, List, Some, arith, refl, ap, sym, subst, length}
+use Rattle.std.proofs.Common.{◌≡◌, ◌≤◌, ◌<◌, ◌+◌, ◌-◌, ◌∙◌, ◌∷◌, ◌++◌, [], ℕ, Bool, true, false, List, Some, arith, refl, ap, sym, subst, length}
 use Rattle.std.specs.Prelude.{slice_index}
 use Rattle.std.specs.Prelude as std
 use Rattle.std.specs.VecDeque.{deque_capacity}
-use Rattle.std.proofs.lemmas.List.{append-nil}
+use Rattle.std.proofs.lemmas.List.{append-nil, length-set}
 use Rattle.egl_calls.specs.declared.entries.Entry.{Entry}
 use Rattle.model_laws.specs.Hidden.{hide}
 use Rattle.egl_model.specs.History.{replay_from}
@@ -11,12 +11,13 @@ use Rattle.turn_lock.specs.Passes.{first_of, view_of}
 use Rattle.turn_lock.specs.declared.view.View.{View}
 use Rattle.shared_driver.specs.declared.cores.Core.{Core}
 use Rattle.shared_driver.specs.declared.cores.TokenCount.{TokenCount}
-use Rattle.shared_driver.specs.Cores.{origin, place_for, room_for}
+use Rattle.shared_driver.specs.Cores.{away_by, origin, place_for, room_for}
 use Rattle.shared_driver.specs.Tokens.{Goes}
 use Rattle.shared_driver.specs.Turns.{IsTurn}
 use Rattle.shared_driver.proofs.Attaching.{below_limit, counted_before, full_now, new_token, not_halted, outs_new, owned_before, room_given, room_gives, rooms_long, rooms_other, rooms_own, turn_admits}
 use Rattle.shared_driver.proofs.Histories.{of_thread, ready_at, ready_replay}
 use Rattle.shared_driver.proofs.Owned.{halted_same, own_each}
+use Rattle.shared_driver.proofs.Rooms.{length_away}
 use Rattle.shared_driver.proofs.Standing.{may_admit, within_more}
 use Rattle.shared_driver.proofs.Turning.{after, hands_mine, keeps_ends, keeps_learns, keeps_mine, kept_rooms, lent_begun, many_kept, many_now, room_found, room_kept, room_now, tok}
 use Rattle.shared_driver.proofs.tokens.Shared.attach.Goals as goal
@@ -24,9 +25,17 @@ use Rattle.shared_driver.proofs.tokens.Shared.attach.Goals as goal
 pub admit-requires-clause-limit : goal.admit-requires-clause-limit
 admit-requires-clause-limit g c =
     let f = (first_of c.args.self.now.turns).value in
-    let z = c.value-core.result.now in
-    let b = lent_begun f c.args.from.now.hold c.begin_turn-held.new.hold c.begin_turn-held.result.value z c.value-core.ensures.value c.begin_turn-held.ensures.begun in
+    let z = c.core_of-core.result.now in
+    let b = lent_begun f c.args.from.now.hold c.begin_turn-held.new.hold c.begin_turn-held.result.value z c.core_of-core.ensures.value c.begin_turn-held.ensures.begun in
     may_admit f.tokens.most z b.within
+
+pub admit-requires-clause-known : goal.admit-requires-clause-known
+admit-requires-clause-known g c =
+    let f = (first_of c.args.self.now.turns).value in
+    let z = c.core_of-core.result.now in
+    let b = lent_begun f c.args.from.now.hold c.begin_turn-held.new.hold c.begin_turn-held.result.value z c.core_of-core.ensures.value c.begin_turn-held.ensures.begun in
+    let n = c.begin_turn-held.new.hold.number in
+    (b.turn.known, ap (λ (l : List Bool). length l) b.turn.away ∙ length-set (away_by z.rooms.items) n false ∙ length_away z.rooms.items ∙ b.turn.known)
 
 pub split_after-pass-requires-clause-added : goal.split_after-pass-requires-clause-added
 split_after-pass-requires-clause-added g c =
@@ -35,8 +44,8 @@ split_after-pass-requires-clause-added g c =
     let f = (first_of c.args.self.now.turns).value in
     let u = c.begin_turn-held.new.hold in
     let n = u.number in
-    let z = c.value-core.result.now in
-    let b = lent_begun f h u c.begin_turn-held.result.value z c.value-core.ensures.value c.begin_turn-held.ensures.begun in
+    let z = c.core_of-core.result.now in
+    let b = lent_begun f h u c.begin_turn-held.result.value z c.core_of-core.ensures.value c.begin_turn-held.ensures.begun in
     let room = (slice_index z.rooms.items n - length u.tail.items) + (256 - t.places) in
     let found = room_found f h u z (room_for t.halt_used) t.places (place_for t.end_kept) b t.room in
     let y = c.admit.new.self in (
@@ -52,8 +61,8 @@ end_turn-requires-clause-ends g c =
     let f = (first_of c.args.self.now.turns).value in
     let u = c.begin_turn-held.new.hold in
     let n = u.number in
-    let z = c.value-core.result.now in
-    let b = lent_begun f h u c.begin_turn-held.result.value z c.value-core.ensures.value c.begin_turn-held.ensures.begun in
+    let z = c.core_of-core.result.now in
+    let b = lent_begun f h u c.begin_turn-held.result.value z c.core_of-core.ensures.value c.begin_turn-held.ensures.begun in
     let room = (slice_index z.rooms.items n - length u.tail.items) + (256 - t.places) in
     let found = room_found f h u z (room_for t.halt_used) t.places (place_for t.end_kept) b t.room in
     let y = c.admit.new.self in
@@ -89,8 +98,8 @@ end_turn-requires-in-Err-clause-ends g c =
     let f = (first_of c.args.self.now.turns).value in
     let u = c.begin_turn-held.new.hold in
     let n = u.number in
-    let z = c.value-core.result.now in
-    let b = lent_begun f h u c.begin_turn-held.result.value z c.value-core.ensures.value c.begin_turn-held.ensures.begun in
+    let z = c.core_of-core.result.now in
+    let b = lent_begun f h u c.begin_turn-held.result.value z c.core_of-core.ensures.value c.begin_turn-held.ensures.begun in
     let room = (slice_index z.rooms.items n - length u.tail.items) + (256 - t.places) in
     let found = room_found f h u z (room_for t.halt_used) t.places (place_for t.end_kept) b t.room in
     let y = c.admit.new.self in
@@ -104,8 +113,8 @@ invariant_of-from g c =
     let f = (first_of c.args.self.now.turns).value in
     let u = c.begin_turn-held.new.hold in
     let n = u.number in
-    let z = c.value-core.result.now in
-    let b = lent_begun f h u c.begin_turn-held.result.value z c.value-core.ensures.value c.begin_turn-held.ensures.begun in
+    let z = c.core_of-core.result.now in
+    let b = lent_begun f h u c.begin_turn-held.result.value z c.core_of-core.ensures.value c.begin_turn-held.ensures.begun in
     let room = (slice_index z.rooms.items n - length u.tail.items) + (256 - t.places) in
     let found = room_found f h u z (room_for t.halt_used) t.places (place_for t.end_kept) b t.room in
     let y = c.admit.new.self in
@@ -142,8 +151,8 @@ invariant_of-result g c =
     let f = (first_of c.args.self.now.turns).value in
     let u = c.begin_turn-held.new.hold in
     let n = u.number in
-    let z = c.value-core.result.now in
-    let b = lent_begun f h u c.begin_turn-held.result.value z c.value-core.ensures.value c.begin_turn-held.ensures.begun in
+    let z = c.core_of-core.result.now in
+    let b = lent_begun f h u c.begin_turn-held.result.value z c.core_of-core.ensures.value c.begin_turn-held.ensures.begun in
     let room = (slice_index z.rooms.items n - length u.tail.items) + (256 - t.places) in
     let found = room_found f h u z (room_for t.halt_used) t.places (place_for t.end_kept) b t.room in
     let y = c.admit.new.self in
@@ -177,8 +186,8 @@ invariant_of-from-in-Err g c =
     let f = (first_of c.args.self.now.turns).value in
     let u = c.begin_turn-held.new.hold in
     let n = u.number in
-    let z = c.value-core.result.now in
-    let b = lent_begun f h u c.begin_turn-held.result.value z c.value-core.ensures.value c.begin_turn-held.ensures.begun in
+    let z = c.core_of-core.result.now in
+    let b = lent_begun f h u c.begin_turn-held.result.value z c.core_of-core.ensures.value c.begin_turn-held.ensures.begun in
     let room = (slice_index z.rooms.items n - length u.tail.items) + (256 - t.places) in
     let found = room_found f h u z (room_for t.halt_used) t.places (place_for t.end_kept) b t.room in
     let y = c.admit.new.self in
@@ -211,8 +220,8 @@ returns-in-Ok-clause-mine g c =
     let f = (first_of c.args.self.now.turns).value in
     let u = c.begin_turn-held.new.hold in
     let n = u.number in
-    let z = c.value-core.result.now in
-    let b = lent_begun f h u c.begin_turn-held.result.value z c.value-core.ensures.value c.begin_turn-held.ensures.begun in
+    let z = c.core_of-core.result.now in
+    let b = lent_begun f h u c.begin_turn-held.result.value z c.core_of-core.ensures.value c.begin_turn-held.ensures.begun in
     let room = (slice_index z.rooms.items n - length u.tail.items) + (256 - t.places) in
     let found = room_found f h u z (room_for t.halt_used) t.places (place_for t.end_kept) b t.room in
     let y = c.admit.new.self in
@@ -233,8 +242,8 @@ returns-in-Ok-clause-new_mine g c =
     let f = (first_of c.args.self.now.turns).value in
     let u = c.begin_turn-held.new.hold in
     let n = u.number in
-    let z = c.value-core.result.now in
-    let b = lent_begun f h u c.begin_turn-held.result.value z c.value-core.ensures.value c.begin_turn-held.ensures.begun in
+    let z = c.core_of-core.result.now in
+    let b = lent_begun f h u c.begin_turn-held.result.value z c.core_of-core.ensures.value c.begin_turn-held.ensures.begun in
     let room = (slice_index z.rooms.items n - length u.tail.items) + (256 - t.places) in
     let found = room_found f h u z (room_for t.halt_used) t.places (place_for t.end_kept) b t.room in
     let y = c.admit.new.self in
@@ -253,8 +262,8 @@ returns-in-Err-clause-mine g c =
     let f = (first_of c.args.self.now.turns).value in
     let u = c.begin_turn-held.new.hold in
     let n = u.number in
-    let z = c.value-core.result.now in
-    let b = lent_begun f h u c.begin_turn-held.result.value z c.value-core.ensures.value c.begin_turn-held.ensures.begun in
+    let z = c.core_of-core.result.now in
+    let b = lent_begun f h u c.begin_turn-held.result.value z c.core_of-core.ensures.value c.begin_turn-held.ensures.begun in
     let room = (slice_index z.rooms.items n - length u.tail.items) + (256 - t.places) in
     let found = room_found f h u z (room_for t.halt_used) t.places (place_for t.end_kept) b t.room in
     let y = c.admit.new.self in
@@ -271,8 +280,8 @@ returns-in-Ok-clause-new_number g c =
     let h = c.args.from.now.hold in
     let f = (first_of c.args.self.now.turns).value in
     let u = c.begin_turn-held.new.hold in
-    let z = c.value-core.result.now in
-    let b = lent_begun f h u c.begin_turn-held.result.value z c.value-core.ensures.value c.begin_turn-held.ensures.begun in
+    let z = c.core_of-core.result.now in
+    let b = lent_begun f h u c.begin_turn-held.result.value z c.core_of-core.ensures.value c.begin_turn-held.ensures.begun in
     let y = c.admit.new.self in
     let left = c.end_turn.ensures.view in
     let grew = c.split_after-pass.ensures.view in
@@ -288,8 +297,8 @@ returns-in-Ok-clause-below g c =
     let f = (first_of c.args.self.now.turns).value in
     let h = c.args.from.now.hold in
     let u = c.begin_turn-held.new.hold in
-    let z = c.value-core.result.now in
-    let b = lent_begun f h u c.begin_turn-held.result.value z c.value-core.ensures.value c.begin_turn-held.ensures.begun in
+    let z = c.core_of-core.result.now in
+    let b = lent_begun f h u c.begin_turn-held.result.value z c.core_of-core.ensures.value c.begin_turn-held.ensures.begun in
     let p = c.in-Ok.ensures in
     below_limit f h u z (view_of c.split_after-pass.result) c.admit.new.self.journal.entries c.in-Ok.field-0.number b c.split_after-pass.ensures.new p.number.0 p.below
 
@@ -298,6 +307,6 @@ returns-in-Err-clause-full g c =
     let f = (first_of c.args.self.now.turns).value in
     let h = c.args.from.now.hold in
     let u = c.begin_turn-held.new.hold in
-    let z = c.value-core.result.now in
-    let b = lent_begun f h u c.begin_turn-held.result.value z c.value-core.ensures.value c.begin_turn-held.ensures.begun in
+    let z = c.core_of-core.result.now in
+    let b = lent_begun f h u c.begin_turn-held.result.value z c.core_of-core.ensures.value c.begin_turn-held.ensures.begun in
     full_now f h u c.end_turn-in-Err.new.hold z c.admit.new.self c.in-Err.error b c.end_turn-in-Err.ensures.view c.in-Err.ensures.full

@@ -17,8 +17,8 @@ begin-requires-clause-upload g c =
     let h = t.hold in
     let f = (first_of c.args.self.now.turns).value in
     let u = c.begin_turn-held.new.hold in
-    let z = c.value-core.result.now in
-    let b = lent_begun f h u c.begin_turn-held.result.value z c.value-core.ensures.value c.begin_turn-held.ensures.begun in
+    let z = c.core_of-core.result.now in
+    let b = lent_begun f h u c.begin_turn-held.result.value z c.core_of-core.ensures.value c.begin_turn-held.ensures.begun in
     upload_found f h u z c.args.call c.upload_of-upload.result b c.upload_of-upload.ensures
 
 pub end_turn_with-requires-clause-ends : goal.end_turn_with-requires-clause-ends
@@ -27,8 +27,8 @@ end_turn_with-requires-clause-ends g c =
     let h = t.hold in
     let f = (first_of c.args.self.now.turns).value in
     let u = c.begin_turn-held.new.hold in
-    let z = c.value-core.result.now in
-    let b = lent_begun f h u c.begin_turn-held.result.value z c.value-core.ensures.value c.begin_turn-held.ensures.begun in
+    let z = c.core_of-core.result.now in
+    let b = lent_begun f h u c.begin_turn-held.result.value z c.core_of-core.ensures.value c.begin_turn-held.ensures.begun in
     let p = c.in-Ok.ensures in
     adds_with f h u _ z c.begin.new.self c.args.mark c.args.call c.in-Ok.field-0.reply _ c.in-Ok.field-0.drawing b refl refl p.tail p.reply p.left p.added p.rooms p.owed p.spare p.live (enough_back _ _ _ _ b.room)
 
@@ -38,8 +38,8 @@ end_turn-requires-clause-ends g c =
     let h = t.hold in
     let f = (first_of c.args.self.now.turns).value in
     let u = c.begin_turn-held.new.hold in
-    let z = c.value-core.result.now in
-    let b = lent_begun f h u c.begin_turn-held.result.value z c.value-core.ensures.value c.begin_turn-held.ensures.begun in
+    let z = c.core_of-core.result.now in
+    let b = lent_begun f h u c.begin_turn-held.result.value z c.core_of-core.ensures.value c.begin_turn-held.ensures.begun in
     let p = c.in-Err.ensures in
     keeps_ends f h u _ z c.begin.new.self b refl refl p.err.3 p.err.0 p.err.1 (ap (λ r. r.items) p.err.2) p.owed p.spare p.live
 
@@ -49,8 +49,8 @@ invariant_of-thread g c =
     let h = t.hold in
     let f = (first_of c.args.self.now.turns).value in
     let u = c.begin_turn-held.new.hold in
-    let z = c.value-core.result.now in
-    let b = lent_begun f h u c.begin_turn-held.result.value z c.value-core.ensures.value c.begin_turn-held.ensures.begun in
+    let z = c.core_of-core.result.now in
+    let b = lent_begun f h u c.begin_turn-held.result.value z c.core_of-core.ensures.value c.begin_turn-held.ensures.begun in
     let w = c.end_turn_with.new.hold in
     let k = c.end_turn_with.ensures.holds in
     let y = c.begin.new.self in
@@ -83,8 +83,8 @@ invariant_of-thread-in-Err g c =
     let h = t.hold in
     let f = (first_of c.args.self.now.turns).value in
     let u = c.begin_turn-held.new.hold in
-    let z = c.value-core.result.now in
-    let b = lent_begun f h u c.begin_turn-held.result.value z c.value-core.ensures.value c.begin_turn-held.ensures.begun in
+    let z = c.core_of-core.result.now in
+    let b = lent_begun f h u c.begin_turn-held.result.value z c.core_of-core.ensures.value c.begin_turn-held.ensures.begun in
     let w = c.end_turn.new.hold in
     let k = c.end_turn.ensures.holds in
     let y = c.begin.new.self in
@@ -114,8 +114,8 @@ returns-in-Ok-clause-mine g c =
     let h = t.hold in
     let f = (first_of c.args.self.now.turns).value in
     let u = c.begin_turn-held.new.hold in
-    let z = c.value-core.result.now in
-    let b = lent_begun f h u c.begin_turn-held.result.value z c.value-core.ensures.value c.begin_turn-held.ensures.begun in
+    let z = c.core_of-core.result.now in
+    let b = lent_begun f h u c.begin_turn-held.result.value z c.core_of-core.ensures.value c.begin_turn-held.ensures.begun in
     let w = c.end_turn_with.new.hold in
     let p = c.in-Ok.ensures in
     let a = after f h u u w z c.begin.new.self _ b refl c.end_turn_with.ensures.view p.rooms in
@@ -127,8 +127,8 @@ returns-in-Err-clause-err_mine g c =
     let h = t.hold in
     let f = (first_of c.args.self.now.turns).value in
     let u = c.begin_turn-held.new.hold in
-    let z = c.value-core.result.now in
-    let b = lent_begun f h u c.begin_turn-held.result.value z c.value-core.ensures.value c.begin_turn-held.ensures.begun in
+    let z = c.core_of-core.result.now in
+    let b = lent_begun f h u c.begin_turn-held.result.value z c.core_of-core.ensures.value c.begin_turn-held.ensures.begun in
     let w = c.end_turn.new.hold in
     let p = c.in-Err.ensures in
     let a = after f h u u w z c.begin.new.self _ b refl c.end_turn.ensures.view (kept_rooms f h u z c.begin.new.self b (ap (λ r. r.items) p.err.2)) in

@@ -12,8 +12,8 @@ use Rattle.shared_driver.proofs.tokens.Shared.join.Goals as goal
 
 pub give_back-requires-clause-value : goal.give_back-requires-clause-value
 give_back-requires-clause-value g c =
-    joined_returns (first_of c.args.self.now.turns).value c.take_turn-held.result.value c.value.result.now c.dismiss.new.self (view_of c.args.into.now.hold.pass) (view_of c.take_turn-held.new.pass) (view_of c.join.new.into) (view_of c.retire-pass.result)
-    c.value.ensures.value c.take_turn-held.ensures.view c.join.ensures.view c.take_turn-held.ensures.found c.dismiss.ensures.kept c.dismiss.ensures.live
+    joined_returns (first_of c.args.self.now.turns).value c.take_turn-held.result.value c.core_of.result.now c.dismiss.new.self (view_of c.args.into.now.hold.pass) (view_of c.take_turn-held.new.pass) (view_of c.join.new.into) (view_of c.retire-pass.result)
+    c.core_of.ensures.value c.take_turn-held.ensures.view c.join.ensures.view c.take_turn-held.ensures.found c.dismiss.ensures.kept c.dismiss.ensures.live
 
 pub invariant_of-into : goal.invariant_of-into
 invariant_of-into g c =
@@ -21,9 +21,9 @@ invariant_of-into g c =
     let h = t.hold in
     let f = first_of c.args.self.now.turns in
     let x = c.take_turn-held.result.value in
-    let z = c.value.result.now in
+    let z = c.core_of.result.now in
     let found = c.take_turn-held.ensures.found in
-    let lent = c.value.ensures.value in
+    let lent = c.core_of.ensures.value in
     let left = c.give_back.ensures.view in
     let joined = c.join.ensures.view in
     let view = c.take_turn-held.ensures.view in
@@ -57,12 +57,12 @@ returns-clause-mine g c =
     let h = c.args.into.now.hold in
     let left = c.give_back.ensures.view in
     keeps_mine h (record { pass = c.give_back.new.pass; number = h.number; part = h.part; tail = h.tail }) (ap (λ (v : View Core Entry). v.number) left ∙ ap (λ (v : View Core Entry). v.number) c.join.ensures.view ∙ ap (λ (v : View Core Entry). v.number) c.take_turn-held.ensures.view)
-    (idle_learns (first_of c.args.self.now.turns).value h c.give_back.new.pass c.take_turn-held.result.value c.value.result.now c.take_turn-held.ensures.found c.value.ensures.value (ap (λ (v : View Core Entry). v.seen) left ∙ ap (λ (j : JournalValue). j.entries) c.dismiss.ensures.kept.1))
+    (idle_learns (first_of c.args.self.now.turns).value h c.give_back.new.pass c.take_turn-held.result.value c.core_of.result.now c.take_turn-held.ensures.found c.core_of.ensures.value (ap (λ (v : View Core Entry). v.seen) left ∙ ap (λ (j : JournalValue). j.entries) c.dismiss.ensures.kept.1))
 
 pub returns-clause-other : goal.returns-clause-other
 returns-clause-other g c =
     included c.args.other.hold c.retire-pass.result c.take_turn-held.new.pass (view_of c.give_back.new.pass).seen c.retire-pass.ensures.retires
-    (ap (λ (v : View Core Entry). v.seen) c.give_back.ensures.view ∙ ap (λ (j : JournalValue). j.entries) c.dismiss.ensures.kept.1 ∙ ap (λ (q : Core). q.journal.entries) c.value.ensures.value ∙ sym (ap (λ (v : View Core Entry). v.seen) c.take_turn-held.ensures.view)) c.join.ensures.includes
+    (ap (λ (v : View Core Entry). v.seen) c.give_back.ensures.view ∙ ap (λ (j : JournalValue). j.entries) c.dismiss.ensures.kept.1 ∙ ap (λ (q : Core). q.journal.entries) c.core_of.ensures.value ∙ sym (ap (λ (v : View Core Entry). v.seen) c.take_turn-held.ensures.view)) c.join.ensures.includes
 
 pub returns-clause-other_mine : goal.returns-clause-other_mine
 returns-clause-other_mine g c = includes_mine (token_of c.args.other) _ (returns-clause-other g c)
@@ -77,7 +77,7 @@ pub returns-clause-into_ended : goal.returns-clause-into_ended
 returns-clause-into_ended g c =
     let h = c.args.into.now.hold in
     learns_ended (token_of c.args.into.now) (tok (record { pass = c.give_back.new.pass; number = h.number; part = h.part; tail = h.tail }))
-    (idle_learns (first_of c.args.self.now.turns).value h c.give_back.new.pass c.take_turn-held.result.value c.value.result.now c.take_turn-held.ensures.found c.value.ensures.value (ap (λ (v : View Core Entry). v.seen) c.give_back.ensures.view ∙ ap (λ (j : JournalValue). j.entries) c.dismiss.ensures.kept.1))
+    (idle_learns (first_of c.args.self.now.turns).value h c.give_back.new.pass c.take_turn-held.result.value c.core_of.result.now c.take_turn-held.ensures.found c.core_of.ensures.value (ap (λ (v : View Core Entry). v.seen) c.give_back.ensures.view ∙ ap (λ (j : JournalValue). j.entries) c.dismiss.ensures.kept.1))
 
 pub returns-clause-disjoint : goal.returns-clause-disjoint
 returns-clause-disjoint g c =

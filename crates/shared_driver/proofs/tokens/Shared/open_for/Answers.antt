@@ -7,8 +7,8 @@ use Rattle.shared_driver.specs.declared.cores.TokenCount.{TokenCount}
 use Rattle.shared_driver.proofs.Opening.{all_in, begins, first_ready, first_token}
 use Rattle.shared_driver.proofs.tokens.Shared.open_for.Goals as goal
 
-pub new-requires-2 : goal.new-requires-2
-new-requires-2 c =
+pub opened-requires : goal.opened-requires
+opened-requires c =
     let windows = c.args.windows.now in
     let x = c.in_ok-core.core in
     let d = c.in_ok-core.ensures in

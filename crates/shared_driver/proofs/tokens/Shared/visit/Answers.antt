@@ -9,7 +9,7 @@ use Rattle.shared_driver.proofs.tokens.Shared.visit.Goals as goal
 
 pub give_back-requires-clause-value : goal.give_back-requires-clause-value
 give_back-requires-clause-value g c =
-    idle_returns (first_of c.args.self.now.turns).value c.take_turn-held.result.value c.value.result.now (view_of c.args.thread.now.hold.pass) (view_of c.take_turn-held.new.pass) c.value.ensures.value c.take_turn-held.ensures.view c.take_turn-held.ensures.found
+    idle_returns (first_of c.args.self.now.turns).value c.take_turn-held.result.value c.core_of.result.now (view_of c.args.thread.now.hold.pass) (view_of c.take_turn-held.new.pass) c.core_of.ensures.value c.take_turn-held.ensures.view c.take_turn-held.ensures.found
 
 pub invariant_of-thread : goal.invariant_of-thread
 invariant_of-thread g c =
@@ -17,9 +17,9 @@ invariant_of-thread g c =
     let h = t.hold in
     let f = first_of c.args.self.now.turns in
     let x = c.take_turn-held.result.value in
-    let z = c.value.result.now in
+    let z = c.core_of.result.now in
     let found = c.take_turn-held.ensures.found in
-    let lent = c.value.ensures.value in
+    let lent = c.core_of.ensures.value in
     let left = c.give_back.ensures.view in
     let view = c.take_turn-held.ensures.view in
     let q = c.give_back.new.pass in
@@ -51,4 +51,4 @@ returns-clause-mine g c =
     let h = c.args.thread.now.hold in
     let left = c.give_back.ensures.view in
     keeps_mine h (record { pass = c.give_back.new.pass; number = h.number; part = h.part; tail = h.tail }) (ap (λ (v : View Core Entry). v.number) left ∙ ap (λ (v : View Core Entry). v.number) c.take_turn-held.ensures.view)
-    (idle_learns (first_of c.args.self.now.turns).value h c.give_back.new.pass c.take_turn-held.result.value c.value.result.now c.take_turn-held.ensures.found c.value.ensures.value (ap (λ (v : View Core Entry). v.seen) left))
+    (idle_learns (first_of c.args.self.now.turns).value h c.give_back.new.pass c.take_turn-held.result.value c.core_of.result.now c.take_turn-held.ensures.found c.core_of.ensures.value (ap (λ (v : View Core Entry). v.seen) left))
