@@ -2,3 +2,6 @@ pub mod DecidingLaws
 pub mod ThreadLaws
 pub mod ReferenceLaws
 pub mod BirthLaws
+pub mod StatusLaws
+pub mod JudgingLaws
+pub mod PieceLaws

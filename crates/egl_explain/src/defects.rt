@@ -1,8 +1,11 @@
 //! What is wrong with a line of an input.
 use crate::call_words::{Argument, CallWords, call_of};
+use crate::headers::header_number_in;
 use crate::pages::{Ink, Page};
 use crate::source_lines::{line_at, put_bar, put_line};
-use crate::suspects::{ExpectedWord, Suspect, expected_line, unknown_in, word_at_fault};
+use crate::suspects::{
+    ExpectedWord, Suspect, cause_of_line, expected_line, unknown_in, word_at_fault,
+};
 use egl_calls::NoMemory;
 use std::alloc::Global;
 use trace_reader::Reason;
@@ -81,6 +84,19 @@ fn unknown_part_of(word: &[u8]) -> &[u8] {
     }
 }
 
+/// That a word, or an item of it, is the number of a name in the headers.
+fn put_header_number(page: &mut Page, word: &[u8]) {
+    if let Some((number, name)) = header_number_in(word) {
+        put_bar(page);
+        page.put("  ");
+        page.put_bytes(number);
+        page.put(" is the number of ");
+        page.put_in(Ink::Answer, name);
+        page.put(" in the headers; a trace writes the name");
+        page.end_line();
+    }
+}
+
 /// The word at fault with a mark under it, what should stand there, and the nearest name.
 fn put_suspect(page: &mut Page, line: &[u8], words: &[&[u8]], found: Suspect) {
     put_mark(
@@ -89,6 +105,7 @@ fn put_suspect(page: &mut Page, line: &[u8], words: &[&[u8]], found: Suspect) {
         word_at(words, found.word).len(),
     );
     put_expected(page, found.expected);
+    put_header_number(page, word_at(words, found.word));
     if let Some(nearest) = found.nearest {
         put_bar(page);
         page.put("  ");
@@ -117,6 +134,14 @@ fn put_head(page: &mut Page, lines: &[&[u8]], number: u64, reason: Reason) {
     put_line(page, lines, number);
 }
 
+/// What the whole line is defective for.
+fn put_cause(page: &mut Page, cause: &str) {
+    put_bar(page);
+    page.put("  ");
+    page.put(cause);
+    page.end_line();
+}
+
 /// What is wrong with a line of these words.
 fn put_words(
     alloc: Global,
@@ -126,7 +151,6 @@ fn put_words(
     reason: Reason,
     words: &[&[u8]],
 ) -> Result<(), NoMemory> {
-    put_head(page, lines, number, reason);
     let before = lines_before(lines, number);
     match word_at_fault(alloc, lines, before, words, reason)? {
         Some(found) => put_suspect(page, line_at(lines, number), words, found),
@@ -136,14 +160,21 @@ fn put_words(
     Ok(())
 }
 
-/// The first line that isn't in its form: the line, the word at fault with a mark under it, and what should stand there.
+/// The first line that isn't in its form: the line, the word at fault with a mark under it, and what should stand there. Lines lack the carriage return that may stand behind them.
 pub fn put_defect(
     alloc: Global,
     page: &mut Page,
     lines: &[&[u8]],
     number: u64,
     reason: Reason,
+    returned: bool,
 ) -> Result<(), NoMemory> {
-    let words = words(alloc, line_at(lines, number))?;
+    put_head(page, lines, number, reason);
+    let line = line_at(lines, number);
+    if let Some(cause) = cause_of_line(line, returned, reason) {
+        put_cause(page, cause);
+        return Ok(());
+    }
+    let words = words(alloc, line)?;
     put_words(alloc, page, lines, number, reason, &words)
 }

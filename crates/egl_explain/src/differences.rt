@@ -1,110 +1,22 @@
 //! Where a recording differs from its trace, and why.
-ghost use Rattle.std.specs.Prelude.{◌≡◌, ◌≤◌, OnOk};
+ghost use Rattle.std.specs.Prelude.{◌≡◌, ◌≤◌, IfOk};
+ghost use Rattle.trace_check.specs.Verdicts.{verdict};
+ghost use Rattle.egl_explain.specs.Statuses.{verdict_status};
 
-use crate::census_lines::put_census;
-use crate::entry_lines::put_outcome;
+use crate::further::{put_further, put_sum};
+use crate::judged_entries::{judge_next, play_lines};
 use crate::pages::{Ink, Page};
-use crate::source_lines::{put_bar, put_line};
-use driver_core::{Driver, Refusals};
-use egl_calls::{Entry, NoMemory};
+use crate::recorded_lines::{Pair, put_both, put_entry, put_none, put_open, put_rest};
+use driver_core::Driver;
+use egl_calls::NoMemory;
+use egl_flow::Status;
 use journal_text::{RecordedLine, Recording};
 use std::alloc::Global;
 use trace_check::{Verdict, check};
 use trace_reader::Trace;
-use trace_session::{Chains, Session, driver_of, play_turn};
+use trace_session::{Chains, Session, driver_of};
 
-/// An entry, and which rows of its call's table held before it.
-#[derive(Drop)]
-struct JudgedEntry {
-    entry: Entry,
-    refusals: Refusals,
-}
-
-/// Plays the entry that a thread has next, where it has one.
-fn play_next(
-    alloc: Global,
-    driver: &mut Driver,
-    session: &mut Session,
-    thread: u32,
-) -> Result<(), NoMemory>
-    requires made { session.old.trace.threads ≤ driver.old.made }
-    ensures trace { session.new.trace ≡ session.old.trace }
-    ensures made { driver.new.made ≡ driver.old.made }
-{
-    if let Some(mark) = session.due(driver, thread) {
-        play_turn(alloc, driver, session, thread, mark)?;
-    }
-    Ok(())
-}
-
-/// Plays the entries of some lines.
-fn play_lines(
-    alloc: Global,
-    driver: &mut Driver,
-    session: &mut Session,
-    lines: &[RecordedLine],
-) -> Result<(), NoMemory>
-    requires { session.old.trace.threads ≤ driver.old.made }
-    ensures { OnOk result (session.new.trace.threads ≤ driver.new.made) }
-{
-    'each: for line in lines {
-        if let Some(thread) = line.thread {
-            play_next(alloc, driver, session, thread)?;
-        }
-    }
-    Ok(())
-}
-
-/// Plays the entry that a thread has next, and gives it with the rows that held before it.
-fn judge_next(
-    alloc: Global,
-    driver: &mut Driver,
-    session: &mut Session,
-    thread: u32,
-) -> Result<Option<JudgedEntry>, NoMemory>
-    requires { session.old.trace.threads ≤ driver.old.made }
-{
-    let Some(mark) = session.due(driver, thread) else {
-        return Ok(None);
-    };
-    let call = session.call(alloc, thread)?;
-    let refusals = driver.refusals(thread, &call);
-    let entry = play_turn(alloc, driver, session, thread, mark)?;
-    Ok(Some(JudgedEntry { entry, refusals }))
-}
-
-/// The line that should stand at a place, or the one that stands there.
-fn put_recorded(page: &mut Page, title: &str, text: &[u8], ink: Ink) {
-    page.put(title);
-    page.begin(ink);
-    page.put_bytes(text);
-    page.end();
-    page.end_line();
-}
-
-/// The line of the trace that a recording answers otherwise, and what the specification gives there.
-fn put_entry(page: &mut Page, lines: &[&[u8]], judged: &JudgedEntry) {
-    let entry = &judged.entry;
-    put_line(page, lines, entry.mark);
-    put_outcome(page, entry.call.kind, &entry.reply, &judged.refusals);
-}
-
-/// What there is behind all entries.
-fn put_rest(page: &mut Page, driver: &Driver) {
-    put_bar(page);
-    page.put("  behind all entries");
-    page.end_line();
-    put_census(page, &driver.census());
-}
-
-/// That a thread has no entry.
-fn put_none(page: &mut Page) {
-    put_bar(page);
-    page.put("  the thread has no entry there: the trace hasn't it, it is at its end, or it waits");
-    page.end_line();
-}
-
-/// Plays the entries of some lines, and says what came of the last, where the last line is an entry's; else what there is behind all entries.
+/// Plays the entries of some lines, and says what came of the last, where the last line is an entry's; else what there is behind all entries. It answers whether what stands behind these lines may be compared.
 fn put_followed(
     alloc: Global,
     page: &mut Page,
@@ -112,25 +24,27 @@ fn put_followed(
     driver: &mut Driver,
     session: &mut Session,
     recorded: &[RecordedLine],
-) -> Result<(), NoMemory>
+    pair: Pair<'_>,
+) -> Result<bool, NoMemory>
     requires { session.old.trace.threads ≤ driver.old.made }
+    ensures { session.new.trace.threads ≤ driver.new.made }
 {
     if let [front @ .., last] = recorded {
         if let Some(thread) = last.thread {
             play_lines(alloc, driver, session, front)?;
             match judge_next(alloc, driver, session, thread)? {
-                Some(judged) => put_entry(page, lines, &judged),
+                Some(judged) => put_entry(page, lines, driver, &judged, pair),
                 None => put_none(page),
             }
-            return Ok(());
+            return Ok(pair.is_of_one_line());
         }
     }
     play_lines(alloc, driver, session, recorded)?;
-    put_rest(page, driver);
-    Ok(())
+    put_rest(page, driver, recorded, pair);
+    Ok(!pair.is_head())
 }
 
-/// Why a recording should have another line at a place.
+/// Why a recording should have another line at a place, and what else differs behind it.
 fn put_reason(
     alloc: Global,
     page: &mut Page,
@@ -138,36 +52,29 @@ fn put_reason(
     trace: &Trace,
     recorded: &[RecordedLine],
     place: u64,
+    pair: Pair<'_>,
 ) -> Result<(), NoMemory> {
     let count = (place as usize).min(recorded.len());
     let (front, _) = recorded.split_at(count);
     let mut driver = driver_of(alloc, trace)?;
     let chains = Chains::new(alloc, trace)?;
     let mut session = Session::new(alloc, trace, &chains)?;
-    put_followed(alloc, page, lines, &mut driver, &mut session, front)
+    if put_followed(alloc, page, lines, &mut driver, &mut session, front, pair)? {
+        let further = put_further(
+            alloc,
+            page,
+            lines,
+            &mut driver,
+            &mut session,
+            recorded,
+            place,
+        )?;
+        put_sum(page, further);
+    }
+    Ok(())
 }
 
-/// The first line that differs, and the one that should stand there.
-fn put_both(page: &mut Page, place: u64, expected: &[u8], found: &[u8]) {
-    page.put_in(Ink::Fault, "the recording differs");
-    page.put(" in its line ");
-    page.put_decimal(place);
-    page.end_line();
-    put_recorded(page, "found    ", found, Ink::Fault);
-    put_recorded(page, "expected ", expected, Ink::Answer);
-}
-
-/// The next line of a thread that isn't at its end.
-fn put_open(page: &mut Page, lines: &[&[u8]], thread: u32, line: u64) {
-    page.put_in(Ink::Fault, "the recording ends too early");
-    page.put(": thread ");
-    page.put_decimal(u64::from(thread));
-    page.put(" isn't at its end");
-    page.end_line();
-    put_line(page, lines, line);
-}
-
-/// What a verdict says. It answers whether the recording holds.
+/// What a verdict says, and its status.
 fn put_verdict(
     alloc: Global,
     page: &mut Page,
@@ -175,37 +82,45 @@ fn put_verdict(
     trace: &Trace,
     recording: &Recording,
     verdict: &Verdict,
-) -> Result<bool, NoMemory> {
+) -> Result<Status, NoMemory>
+    ensures { IfOk result (λ s. s ≡ verdict_status verdict.now) }
+{
     match verdict {
         Verdict::Holds => {
             page.put_in(Ink::Answer, "the recording holds");
             page.end_line();
-            Ok(true)
+            Ok(Status::Ok)
         }
         Verdict::Differs {
             place,
             expected,
             found,
         } => {
-            put_both(page, *place, expected.as_slice(), found.as_slice());
-            put_reason(alloc, page, lines, trace, recording.lines(), *place)?;
-            Ok(false)
+            let pair = Pair {
+                expected: expected.as_slice(),
+                found: found.as_slice(),
+            };
+            put_both(page, *place, pair);
+            put_reason(alloc, page, lines, trace, recording.lines(), *place, pair)?;
+            Ok(Status::Differs)
         }
         Verdict::Incomplete { thread, line } => {
             put_open(page, lines, *thread, *line);
-            Ok(false)
+            Ok(Status::Differs)
         }
     }
 }
 
-/// Whether a recording is its trace's, or where it differs first: the lines, what the specification gives there, and why. It answers whether it holds.
-pub fn put_difference(
+/// Whether a recording is its trace's, or where it differs: each line that does, what the specification gives there, and why.
+pub fn put_judgement(
     alloc: Global,
     page: &mut Page,
     lines: &[&[u8]],
     trace: &Trace,
     recording: &Recording,
-) -> Result<bool, NoMemory> {
+) -> Result<Status, NoMemory>
+    ensures { IfOk result (λ s. s ≡ verdict_status (verdict trace.now recording.now)) }
+{
     let verdict = check(alloc, trace, recording)?;
     put_verdict(alloc, page, lines, trace, recording, &verdict)
 }

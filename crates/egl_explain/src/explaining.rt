@@ -1,23 +1,31 @@
 //! The text that is made of an input.
-ghost use Rattle.std.specs.Prelude.{◌≡◌, ◌≤◌, ◌<◌, length, All, OnOk};
+ghost use Rattle.std.specs.Prelude.{◌≡◌, ◌≤◌, ◌<◌, length, take, drop, All, IfOk, OnOk};
 ghost use Rattle.egl_flow.specs.Inputs.{most_input};
+ghost use Rattle.trace_reader.specs.Grammar.{trace};
+ghost use Rattle.trace_model.specs.Serial.{serial};
+ghost use Rattle.trace_model.specs.Stalled.{IsComplete, IsStalled};
+ghost use Rattle.journal_text.specs.Readings.{recorded};
 ghost use Rattle.egl_model.specs.History.{replay_from};
 ghost use Rattle.egl_model.specs.Step.{step};
+ghost use Rattle.egl_explain.specs.Statuses.{recorded_status, run_status, status_of, status_or_defect};
 
 use crate::census_lines::put_census;
 use crate::defects::put_defect;
-use crate::differences::put_difference;
+use crate::differences::put_judgement;
 use crate::entry_lines::{put_outcome, shows_census};
 use crate::judging::play_told;
+use crate::object_words::Inventory;
 use crate::objects::{Birth, note_births, put_objects};
-use crate::pages::{Ink, Look, Page};
-use crate::source_lines::{line_at, lines_of, put_bar, put_line, says_nothing};
+use crate::pages::{Look, Page};
+use crate::races::put_races;
+use crate::source_lines::{is_returned, line_at, lines_of, put_bar, put_line, says_nothing};
+use crate::waits::put_waits;
 use driver_core::{Driver, Run};
 use egl_calls::{Bytes, Entry, NoMemory};
 use egl_flow::Status;
-use journal_text::{Cut, Recording, cut_recording, read_slice};
+use journal_text::{Cut, cut_recording, read_slice};
 use std::alloc::Global;
-use trace_reader::{Trace, TraceError};
+use trace_reader::{Reason, Trace, TraceError};
 use trace_session::{Chains, RunError, Session, driver_of, run_serial};
 
 /// How many references are looked at, about, for the objects that are told of behind calls.
@@ -43,6 +51,7 @@ fn put_between(page: &mut Page, lines: &[&[u8]], first: u64, shown: u64, number:
 fn put_inventory(
     alloc: Global,
     page: &mut Page,
+    lines: &[&[u8]],
     driver: &Driver,
     births: &[Birth],
     left: u64,
@@ -54,7 +63,12 @@ fn put_inventory(
         page.end_line();
         return Ok(0);
     }
-    Ok(left.saturating_sub(put_objects(alloc, page, driver, births)?))
+    let inventory = Inventory {
+        driver,
+        births,
+        lines,
+    };
+    Ok(left.saturating_sub(put_objects(alloc, page, &inventory)?))
 }
 
 /// An entry that a driver plays again: its line, and what came of it.
@@ -70,7 +84,7 @@ fn put_entry(
 {
     put_line(page, lines, entry.mark);
     let told = play_told(alloc, driver, entry.thread, &entry.call)?;
-    put_outcome(page, entry.call.kind, &told.reply, &told.refusals);
+    put_outcome(page, &entry.call, &told.reply, &told.refusals, usize::MAX);
     Ok(())
 }
 
@@ -95,7 +109,7 @@ fn put_entries(
         put_entry(alloc, page, lines, driver, entry)?;
         note_births(births, entry, driver.object_count())?;
         if shows_census(entry.call.kind) {
-            left = put_inventory(alloc, page, driver, births, left)?;
+            left = put_inventory(alloc, page, lines, driver, births, left)?;
         }
     }
     Ok(())
@@ -109,42 +123,34 @@ fn first_call(trace: &Trace) -> u64 {
     }
 }
 
-/// The line at which each thread waits that isn't at its end.
-fn put_threads(page: &mut Page, lines: &[&[u8]], session: &Session) {
-    'each: for thread in 0..session.threads() {
-        if let Some(number) = session.next(thread) {
-            page.put_in(Ink::Fault, "stalled: ");
-            page.put("thread ");
-            page.put_decimal(u64::from(thread));
-            page.put(" waits at");
-            page.end_line();
-            put_line(page, lines, number);
-        }
-    }
-}
-
-/// The line at which each thread of a run waits that isn't at its end.
+/// The line at which each thread of a run waits that isn't at its end, and why.
 fn put_waiting(
     alloc: Global,
     page: &mut Page,
     lines: &[&[u8]],
     trace: &Trace,
     run: &Run,
+    births: &[Birth],
 ) -> Result<(), NoMemory> {
     let chains = Chains::new(alloc, trace)?;
     let session = Session::behind(alloc, trace, &chains, &run.journal)?;
-    put_threads(page, lines, &session);
+    let inventory = Inventory {
+        driver: &run.driver,
+        births,
+        lines,
+    };
+    put_waits(page, &inventory, trace, &session);
     Ok(())
 }
 
-/// The text of a run: its entries, and what there is behind them.
+/// The text of a run: its entries, what there is behind them, and its races. It answers where the objects come from.
 fn put_run(
     alloc: Global,
     page: &mut Page,
     lines: &[&[u8]],
     trace: &Trace,
     run: &Run,
-) -> Result<(), NoMemory>
+) -> Result<Vec<Birth>, NoMemory>
     requires { All (λ e. e.thread < trace.now.threads) run.now.journal.entries }
 {
     let mut driver = driver_of(alloc, trace)?;
@@ -160,11 +166,18 @@ fn put_run(
     )?;
     page.put("at the end");
     page.end_line();
-    put_inventory(alloc, page, &driver, &births, MOST_LOOKS)?;
-    Ok(())
+    put_inventory(alloc, page, lines, &driver, &births, MOST_LOOKS)?;
+    let inventory = Inventory {
+        driver: &run.driver,
+        births: births.as_slice(),
+        lines,
+    };
+    put_races(alloc, page, &inventory, trace, run)?;
+    Ok(births)
 }
 
 /// The text of a run that came to its end.
+#[tactic(auto, using(crate::proofs::StatusLaws::ended_status))]
 fn put_ended(
     alloc: Global,
     page: &mut Page,
@@ -172,13 +185,16 @@ fn put_ended(
     trace: &Trace,
     run: &Run,
 ) -> Result<Status, NoMemory>
-    requires { All (λ e. e.thread < trace.now.threads) run.now.journal.entries }
+    requires threads { All (λ e. e.thread < trace.now.threads) run.now.journal.entries }
+    requires complete { IsComplete trace.now (serial trace.now) }
+    ensures { IfOk result (λ s. s ≡ run_status trace.now) }
 {
     put_run(alloc, page, lines, trace, run)?;
     Ok(Status::Ok)
 }
 
 /// The text of a run that stalled: the lines at which its threads wait stand behind it.
+#[tactic(auto, using(crate::proofs::StatusLaws::stalled_run_status))]
 fn put_stalled(
     alloc: Global,
     page: &mut Page,
@@ -186,10 +202,12 @@ fn put_stalled(
     trace: &Trace,
     run: &Run,
 ) -> Result<Status, NoMemory>
-    requires { All (λ e. e.thread < trace.now.threads) run.now.journal.entries }
+    requires threads { All (λ e. e.thread < trace.now.threads) run.now.journal.entries }
+    requires stalled { IsStalled trace.now (serial trace.now) }
+    ensures { IfOk result (λ s. s ≡ run_status trace.now) }
 {
-    put_run(alloc, page, lines, trace, run)?;
-    put_waiting(alloc, page, lines, trace, run)?;
+    let births = put_run(alloc, page, lines, trace, run)?;
+    put_waiting(alloc, page, lines, trace, run, &births)?;
     Ok(Status::Stalled)
 }
 
@@ -199,7 +217,9 @@ fn put_trace(
     page: &mut Page,
     lines: &[&[u8]],
     trace: &Trace,
-) -> Result<Status, NoMemory> {
+) -> Result<Status, NoMemory>
+    ensures { IfOk result (λ s. s ≡ run_status trace.now) }
+{
     // Each entry's thread is one of the trace.
     trace.in_order();
     match run_serial(alloc, trace) {
@@ -209,20 +229,19 @@ fn put_trace(
     }
 }
 
-/// The text of a defect, or want of memory.
-fn put_error(
+/// The text of the first line that isn't in its form, and whether a carriage return stands behind it.
+fn put_malformed(
     alloc: Global,
     page: &mut Page,
     lines: &[&[u8]],
-    error: TraceError,
-) -> Result<Status, NoMemory> {
-    match error {
-        TraceError::Malformed { line, reason } => {
-            put_defect(alloc, page, lines, line, reason)?;
-            Ok(Status::Malformed)
-        }
-        TraceError::NoMemory => Err(NoMemory),
-    }
+    line: u64,
+    reason: Reason,
+    returned: bool,
+) -> Result<Status, NoMemory>
+    ensures { IfOk result (λ s. s ≡ Status.Malformed) }
+{
+    put_defect(alloc, page, lines, line, reason, returned)?;
+    Ok(Status::Malformed)
 }
 
 /// The text of bytes that spell a trace, or don't.
@@ -231,25 +250,15 @@ fn put_plain(
     page: &mut Page,
     lines: &[&[u8]],
     bytes: &[u8],
-) -> Result<Status, NoMemory> {
+) -> Result<Status, NoMemory>
+    ensures { IfOk result (λ s. s ≡ status_or_defect run_status (trace bytes.now)) }
+{
     match Trace::read_slice(alloc, bytes) {
         Ok(trace) => put_trace(alloc, page, lines, &trace),
-        Err(error) => put_error(alloc, page, lines, error),
-    }
-}
-
-/// What a recording that holds comes to, or one that differs.
-fn put_judged(
-    alloc: Global,
-    page: &mut Page,
-    lines: &[&[u8]],
-    trace: &Trace,
-    recording: &Recording,
-) -> Result<Status, NoMemory> {
-    if put_difference(alloc, page, lines, trace, recording)? {
-        Ok(Status::Ok)
-    } else {
-        Ok(Status::Differs)
+        Err(TraceError::Malformed { line, reason }) => {
+            put_malformed(alloc, page, lines, line, reason, false)
+        }
+        Err(TraceError::NoMemory) => Err(NoMemory),
     }
 }
 
@@ -263,10 +272,15 @@ fn put_recorded(
     first_line: u64,
 ) -> Result<Status, NoMemory>
     requires { first_line < 4294967296 }
+    ensures { IfOk result (λ s. s ≡ recorded_status trace.now (recorded first_line bytes.now)) }
 {
     match read_slice(alloc, bytes, first_line) {
-        Ok(recording) => put_judged(alloc, page, lines, trace, &recording),
-        Err(error) => put_error(alloc, page, lines, error),
+        Ok(recording) => put_judgement(alloc, page, lines, trace, &recording),
+        Err(TraceError::Malformed { line, reason }) => {
+            let returned = is_returned(bytes, line.saturating_sub(first_line));
+            put_malformed(alloc, page, lines, line, reason, returned)
+        }
+        Err(TraceError::NoMemory) => Err(NoMemory),
     }
 }
 
@@ -280,15 +294,20 @@ fn put_claim(
 ) -> Result<Status, NoMemory>
     requires within { cut.front ≤ length bytes.now }
     requires line { cut.line < 4294967296 }
+    ensures { IfOk result (λ s. s ≡ status_or_defect (λ t. recorded_status t (recorded cut.line (drop cut.front bytes.now))) (trace (take cut.front bytes.now))) }
 {
     let (front, rest) = bytes.split_at(cut.front as usize);
     match Trace::read_slice(alloc, front) {
         Ok(trace) => put_recorded(alloc, page, lines, &trace, rest, cut.line),
-        Err(error) => put_error(alloc, page, lines, error),
+        Err(TraceError::Malformed { line, reason }) => {
+            put_malformed(alloc, page, lines, line, reason, false)
+        }
+        Err(TraceError::NoMemory) => Err(NoMemory),
     }
 }
 
 /// The text of an input.
+#[tactic(auto, unfolding(crate::specs::Statuses::status_of))]
 fn put_input(
     alloc: Global,
     page: &mut Page,
@@ -296,6 +315,7 @@ fn put_input(
     bytes: &[u8],
 ) -> Result<Status, NoMemory>
     requires { length bytes.now ≤ most_input }
+    ensures { IfOk result (λ s. s ≡ status_of bytes.now) }
 {
     match cut_recording(bytes) {
         Some(cut) => put_claim(alloc, page, lines, bytes, cut),
@@ -303,9 +323,10 @@ fn put_input(
     }
 }
 
-/// Tells of an input: of a trace what came of each of its lines when it is played by turns, and why a call was refused; what is wrong with the first line that isn't in its form; or, of a trace with a recording behind it, where that differs, and why.
+/// Tells of an input: of a trace what came of each of its lines when it is played by turns, and why a call was refused; what is wrong with the first line that isn't in its form; or, of a trace with a recording behind it, where that differs, and why. The status is `Malformed` where the bytes aren't that, `Stalled` where the run stalls, `Differs` where the recording isn't the trace's, and else `Ok`.
 pub fn explain(alloc: Global, bytes: &[u8], look: Look) -> Result<Explained, NoMemory>
     requires { length bytes.now ≤ most_input }
+    ensures { IfOk result (λ e. e.status ≡ status_of bytes.now) }
 {
     let lines = lines_of(alloc, bytes)?;
     let mut page = Page::new(alloc, look);

@@ -1,27 +1,62 @@
 //! What the rows of calls say, in words.
-use call_table::{egl_rules, gl_rules, own_rules};
-use context_state::context_gl_call;
-use egl_calls::{GlKind, Kind};
+ghost use Rattle.std.specs.Prelude.{◌≡◌, nat_lt, is_some, length};
+ghost use Rattle.call_table.specs.Rows.{egl_rules, own_rules};
+ghost use Rattle.egl_calls.specs.Calls.{CallValue};
+ghost use Rattle.egl_explain.specs.Judged.{gl_row_count, row_count};
+ghost use Rattle.context_state.specs.Kinds.{context_gl_call};
 
-/// What the row of a call of OpenGL ES at a place says.
-fn gl_row_words(kind: GlKind, place: usize) -> Option<&'static str> {
-    match context_gl_call(kind) {
-        Some(own) => context_state::words(own).get(place).copied(),
-        None => gl_rules(kind)
-            .get(place)
-            .map(|(condition, _)| condition.words()),
+use call_table::{EglCondition, egl_rules, gl_rules, own_rules};
+use context_state::context_gl_call;
+use egl_calls::{EglKind, GlKind, Kind, OwnKind};
+
+/// What a condition of EGL says. Siblings stay siblings when the image is destroyed that made them.
+fn egl_words(condition: EglCondition) -> &'static str {
+    match condition {
+        EglCondition::Sibling => "an EGL image, or what was made of one, has the pixels already",
+        _ => condition.words(),
     }
 }
 
-/// What the row of a call at a place says; nothing where the call has no such row.
-pub fn row_words(kind: Kind, place: usize) -> Option<&'static str> {
+/// What the row of a call of EGL at a place says.
+fn egl_row_words(kind: EglKind, place: usize) -> Option<&'static str>
+    ensures { is_some result ≡ nat_lt place (length (egl_rules kind)) }
+{
+    match egl_rules(kind).get(place) {
+        Some((condition, _)) => Some(egl_words(*condition)),
+        None => None,
+    }
+}
+
+/// What the row of a call of OpenGL ES at a place says.
+fn gl_row_words(kind: GlKind, place: usize) -> Option<&'static str>
+    ensures { (c : CallValue) → is_some result ≡ nat_lt place (gl_row_count (context_gl_call kind) kind c) }
+{
+    match context_gl_call(kind) {
+        Some(own) => context_state::words(own).get(place).copied(),
+        None => match gl_rules(kind).get(place) {
+            Some((condition, _)) => Some(condition.words()),
+            None => None,
+        },
+    }
+}
+
+/// What the row of a call of this project at a place says.
+fn own_row_words(kind: OwnKind, place: usize) -> Option<&'static str>
+    ensures { is_some result ≡ nat_lt place (length (own_rules kind)) }
+{
+    match own_rules(kind).get(place) {
+        Some((condition, _)) => Some(condition.words()),
+        None => None,
+    }
+}
+
+/// What the row of a call at a place says: each row of its table says something, and behind the last there is none.
+pub fn row_words(kind: Kind, place: usize) -> Option<&'static str>
+    ensures { (c : CallValue) → is_some result ≡ nat_lt place (row_count kind c) }
+{
     match kind {
-        Kind::Egl(kind) => egl_rules(kind)
-            .get(place)
-            .map(|(condition, _)| condition.words()),
+        Kind::Egl(kind) => egl_row_words(kind, place),
         Kind::Gl(kind) => gl_row_words(kind, place),
-        Kind::Own(kind) => own_rules(kind)
-            .get(place)
-            .map(|(condition, _)| condition.words()),
+        Kind::Own(kind) => own_row_words(kind, place),
     }
 }

@@ -1,0 +1,42 @@
+-- What is told of an entry: the entry itself, and each row that held before it.
+use Rattle.std.specs.Prelude.{◌≡◌, ℕ, length, slice_index_or, Option, None, Some}
+use Rattle.std.specs.Option.{option_map}
+use Rattle.call_table.specs.Rows.{egl_rules, gl_rules, own_rules}
+use Rattle.context_state.specs.Kinds.{context_gl_call}
+use Rattle.context_state.specs.Refusals.{context_rows}
+use Rattle.context_state.specs.declared.kinds.ContextCall.{ContextCall}
+use Rattle.egl_calls.specs.Calls.{CallValue}
+use Rattle.egl_calls.specs.Errors.{egl_code, gl_code}
+use Rattle.egl_calls.specs.declared.entries.Entry.{Entry}
+use Rattle.egl_calls.specs.declared.kinds.GlKind.{GlKind}
+use Rattle.egl_calls.specs.declared.kinds.Kind.{Kind}
+use Rattle.egl_calls.specs.declared.kinds.Kind.TheVariants.{Egl as of_egl, Gl as of_gl, Own as of_project}
+use Rattle.egl_model.specs.State.{State}
+use Rattle.driver_facts.specs.Verdicts.{refusals}
+use Rattle.driver_facts.specs.declared.verdicts.Refusals.{Refusals}
+use Rattle.driver_facts.specs.declared.verdicts.Refusals.TheVariants.{Egl as EglRows, Gl as GlRows, Unjudged}
+use Rattle.egl_explain.specs.declared.judged_entries.JudgedEntry.{JudgedEntry}
+
+-- the code of the error of the row at a place, where that row holds
+abbrev pub code_at : Refusals → ℕ → Option ℕ
+code_at (EglRows h) place = option_map egl_code (slice_index_or h.errors place None)
+code_at (GlRows h) place = option_map gl_code (slice_index_or h.errors place None)
+code_at Unjudged place = None
+
+-- the rows are those that hold for the entry's call before it
+abbrev pub HasItsRows : State → Option JudgedEntry → Type 0
+HasItsRows s None = Unit {0}
+HasItsRows s (Some j) = j.refusals ≡ refusals s j.entry.thread j.entry.call
+
+abbrev pub entry_in : Option JudgedEntry → Option Entry
+entry_in o = option_map (λ j. j.entry) o
+
+-- ---- How many rows the table of a call has.
+abbrev pub gl_row_count : Option ContextCall → GlKind → CallValue → ℕ
+gl_row_count (Some own) k c = length (context_rows own c)
+gl_row_count None k c = length (gl_rules k)
+
+abbrev pub row_count : Kind → CallValue → ℕ
+row_count (of_egl k) c = length (egl_rules k)
+row_count (of_gl k) c = gl_row_count (context_gl_call k) k c
+row_count (of_project k) c = length (own_rules k)
