@@ -1,0 +1,200 @@
+-- Which rows of the table say GL_OUT_OF_MEMORY, and what is known where those before them don't hold.
+use Rattle.std.proofs.Common.{◌≡◌, ℕ, Bool, true, false, not, ◌||◌, ◌&&◌, refl, sym, ap, ◌∙◌, Option, None, Some, is_some, ℤ, pos}
+use Rattle.std.specs.Prelude.{int_lt, ◌==◌}
+use Rattle.std.proofs.lemmas.Bool.{and_from, and_parts, not-false, not_from_true, or_from, or_parts}
+use Rattle.std.proofs.lemmas.Bool.Decides.{Decides-eqb}
+use Rattle.egl_calls.specs.Arguments.{number, signed}
+use Rattle.egl_calls.specs.Calls.{CallValue}
+use Rattle.egl_calls.specs.declared.errors.GlError.{GlError}
+use Rattle.egl_calls.specs.declared.errors.GlError.TheVariants.{OutOfMemory}
+use Rattle.egl_calls.specs.declared.kinds.GlKind.{GlKind}
+use Rattle.egl_calls.specs.declared.kinds.GlKind.TheVariants.{GetError}
+use Rattle.egl_calls.specs.declared.kinds.Kind.{Kind}
+use Rattle.egl_calls.specs.declared.kinds.Kind.TheVariants.{Gl, Own}
+use Rattle.egl_calls.specs.declared.kinds.OwnKind.TheVariants.{ReadBuffer}
+use Rattle.egl_names.specs.declared.codes.TheConstants.{GL_RENDERBUFFER_OES, GL_TEXTURE_2D}
+use Rattle.refusal_rows.specs.Rows.{first_error}
+use Rattle.refusal_rows.proofs.RowLaws.{first_is, is_not_said, some_says}
+use Rattle.call_table.specs.Rows.{own_rules}
+use Rattle.buffer_objects.specs.Buffers.{BufferValue}
+use Rattle.call_rules.specs.CopyRules.{has_alpha}
+use Rattle.call_rules.specs.GlAllowed.{CopyAsked, DataAsked, ImageAsked, IsSide, StorageAsked}
+use Rattle.call_rules.specs.GlRules.{gl_refusal, gl_rows, gl_rows_by, ruled}
+use Rattle.call_rules.specs.RenderbufferRules.{is_no_side}
+use Rattle.call_rules.specs.TextureRules.{is_image_format, is_image_type, is_no_level_side}
+use Rattle.call_rules.specs.declared.gl_facts.GlFacts.{GlFacts}
+use Rattle.call_rules.proofs.GlLaws.{refused_first}
+use Rattle.call_rules.proofs.TestLaws.{is_not_below, not_below}
+use Rattle.egl_model.specs.Buffers.{buffer_of}
+use Rattle.egl_model.specs.GlCalls.{bound_facts, copy_facts, data_facts, has_read_alpha, storage_facts}
+use Rattle.egl_model.specs.State.{State}
+use Rattle.history_laws.specs.Memory.{IsFaultlessCopy, IsFaultlessData, IsFaultlessLevel, IsFaultlessStorage, wants_bytes}
+
+-- ---- The error stands in the rows of four calls.
+abbrev is_out_of_memory : GlError → Bool
+is_out_of_memory OutOfMemory = true
+is_out_of_memory e = false
+
+-- a table that has it is that of one of them; one kind stands apart, so that the others are tried one by one
+said_by : (k : GlKind) (c : CallValue) (f : GlFacts) → (not (some_says is_out_of_memory (gl_rows k c f)) || wants_bytes k) ≡ true
+said_by GetError c f = refl
+said_by k c f = refl
+
+where_said : (said wants : Bool) → (not said || wants) ≡ true → (said ≡ false → ⊥) → wants ≡ true
+where_said true wants e n = e
+where_said false wants e n = absurd (n refl)
+
+pub four_want : (c : CallValue) (f : GlFacts) (k : GlKind) → c.kind ≡ Gl k → gl_refusal c f ≡ Some OutOfMemory → wants_bytes k ≡ true
+four_want c f k h n =
+    let first = first_is OutOfMemory (gl_rows k c f) (refused_first c f k OutOfMemory h n) in
+    where_said (some_says is_out_of_memory (gl_rows k c f)) (wants_bytes k) (said_by k c f) (λ s. is_not_said is_out_of_memory OutOfMemory (gl_rows k c f) refl s first)
+
+pub read_wants_none : (c : CallValue) (f : GlFacts) → c.kind ≡ Own ReadBuffer → gl_refusal c f ≡ Some OutOfMemory → ⊥
+unfolding gl_refusal
+read_wants_none c f h n = is_not_said is_out_of_memory OutOfMemory (ruled (own_rules ReadBuffer) c f) refl refl (sym (ap (λ (kind : Kind). first_error (gl_rows_by kind c f)) h) ∙ n)
+
+-- ---- Tests of two things.
+equal : (a b : ℕ) → not (a == b) ≡ false → a ≡ b
+equal a b h = (Decides-eqb a b).0 (not-false (a == b) h)
+
+is_equal : (a b : ℕ) → a ≡ b → not (a == b) ≡ false
+is_equal a b h = not_from_true (a == b) ((Decides-eqb a b).1 h)
+
+implied : (a b : Bool) → (a && not b) ≡ false → a ≡ true → b ≡ true
+implied true true h e = refl
+implied true false h e = absurd (let g : true ≡ false = h in cc)
+implied false b h e = absurd (let g : false ≡ true = e in cc)
+
+is_implied : (a b : Bool) → (a ≡ true → b ≡ true) → (a && not b) ≡ false
+is_implied true b h = not_from_true b (h refl)
+is_implied false b h = refl
+
+side : (z : ℤ) → is_no_side z ≡ false → IsSide z
+side z h = let o = or_parts (int_lt z (pos 0)) (int_lt (pos 2048) z) h in record { low = not_below _ _ o.0; high = not_below _ _ o.1 }
+
+is_side : (z : ℤ) → IsSide z → is_no_side z ≡ false
+is_side z s = or_from _ _ (is_not_below z (pos 0) s.low) (is_not_below (pos 2048) z s.high)
+
+-- ---- Nothing but bytes is wrong where no row before the last holds.
+pub level_faultless : (c : CallValue) → ImageAsked c → IsFaultlessLevel c
+level_faultless c a =
+    let kinds = and_parts (is_image_format (number c 6)) (is_image_type (number c 7)) (not-false _ a.1.0) in
+    let sides = or_parts (is_no_level_side (number c 1) (signed c 3)) (is_no_level_side (number c 1) (signed c 4)) a.1.1.1.1.0 in
+    record {
+      target = equal (number c 0) GL_TEXTURE_2D a.0;
+      format = kinds.0;
+      kind = kinds.1;
+      internal = not-false _ a.1.1.0;
+      level = a.1.1.1.0;
+      width = sides.0;
+      height = sides.1;
+      border = not-false _ a.1.1.1.1.1.0;
+      same = equal (number c 2) (number c 6) a.1.1.1.1.1.1.0;
+      pair = not-false _ a.1.1.1.1.1.1.1.0;
+    }
+
+pub level_asked : (c : CallValue) → IsFaultlessLevel c → ImageAsked c
+level_asked c f = (
+  is_equal (number c 0) GL_TEXTURE_2D f.target,
+  (
+    not_from_true _ (and_from (is_image_format (number c 6)) (is_image_type (number c 7)) f.format f.kind),
+    (
+      not_from_true _ f.internal,
+      (
+        f.level,
+        (
+          or_from (is_no_level_side (number c 1) (signed c 3)) (is_no_level_side (number c 1) (signed c 4)) f.width f.height,
+          (
+            not_from_true _ f.border,
+            (
+              is_equal (number c 2) (number c 6) f.same,
+              (not_from_true _ f.pair, tt),
+            ),
+          ),
+        ),
+      ),
+    ),
+  ),
+)
+
+pub copy_faultless : (s : State) (t : ℕ) (c : CallValue) → CopyAsked c (copy_facts s t c) → IsFaultlessCopy s t c
+copy_faultless s t c a =
+    let sides = or_parts (is_no_level_side (number c 1) (signed c 5)) (is_no_level_side (number c 1) (signed c 6)) a.1.1.1.0 in
+    record {
+      target = equal (number c 0) GL_TEXTURE_2D a.0;
+      internal = not-false _ a.1.0;
+      level = a.1.1.0;
+      width = sides.0;
+      height = sides.1;
+      border = not-false _ a.1.1.1.1.0;
+      complete = not-false _ a.1.1.1.1.1.0;
+      alpha = implied (has_alpha (number c 2)) (has_read_alpha s t) a.1.1.1.1.1.1.0;
+    }
+
+pub copy_asked : (s : State) (t : ℕ) (c : CallValue) → IsFaultlessCopy s t c → CopyAsked c (copy_facts s t c)
+copy_asked s t c f = (
+  is_equal (number c 0) GL_TEXTURE_2D f.target,
+  (
+    not_from_true _ f.internal,
+    (
+      f.level,
+      (
+        or_from (is_no_level_side (number c 1) (signed c 5)) (is_no_level_side (number c 1) (signed c 6)) f.width f.height,
+        (
+          not_from_true _ f.border,
+          (
+            not_from_true _ f.complete,
+            (is_implied (has_alpha (number c 2)) (has_read_alpha s t) f.alpha, tt),
+          ),
+        ),
+      ),
+    ),
+  ),
+)
+
+bound_where : (o : Option BufferValue) → (bound_facts o).is_bound ≡ is_some o
+bound_where None = refl
+bound_where (Some b) = refl
+
+pub data_faultless : (s : State) (n : ℕ) (c : CallValue) → DataAsked c (data_facts s n c) → IsFaultlessData s n c
+data_faultless s n c a = record {
+  target = not-false _ a.0;
+  usage = not-false _ a.1.0;
+  size = not_below (signed c 1) (pos 0) a.1.1.0;
+  bound = sym (bound_where (buffer_of s n c)) ∙ not-false _ a.1.1.1.0;
+}
+
+pub data_asked : (s : State) (n : ℕ) (c : CallValue) → IsFaultlessData s n c → DataAsked c (data_facts s n c)
+data_asked s n c f = (
+  not_from_true _ f.target,
+  (
+    not_from_true _ f.usage,
+    (
+      is_not_below (signed c 1) (pos 0) f.size,
+      (not_from_true _ (bound_where (buffer_of s n c) ∙ f.bound), tt),
+    ),
+  ),
+)
+
+pub storage_faultless : (s : State) (n : ℕ) (c : CallValue) → StorageAsked c (storage_facts s n c) → IsFaultlessStorage s n c
+storage_faultless s n c a =
+    let sides = or_parts (is_no_side (signed c 2)) (is_no_side (signed c 3)) a.1.1.0 in
+    record {
+      target = equal (number c 0) GL_RENDERBUFFER_OES a.0;
+      format = not-false _ a.1.0;
+      width = side _ sides.0;
+      height = side _ sides.1;
+      bound = not-false _ a.1.1.1.0;
+    }
+
+pub storage_asked : (s : State) (n : ℕ) (c : CallValue) → IsFaultlessStorage s n c → StorageAsked c (storage_facts s n c)
+storage_asked s n c f = (
+  is_equal (number c 0) GL_RENDERBUFFER_OES f.target,
+  (
+    not_from_true _ f.format,
+    (
+      or_from (is_no_side (signed c 2)) (is_no_side (signed c 3)) (is_side _ f.width) (is_side _ f.height),
+      (not_from_true _ f.bound, tt),
+    ),
+  ),
+)

@@ -1,0 +1,6 @@
+mod LineCounts
+mod HeadThreads
+mod DigitLines
+mod GenLaws
+mod GenBody
+mod SizeLaws
