@@ -1,0 +1,12 @@
+pub mod AnswerLaws
+pub mod ConfigLaws
+pub mod ErrorLaws
+pub mod FactLaws
+pub mod FrontLaws
+pub mod ListLaws
+pub mod NameLaws
+pub mod OrderLaws
+pub mod OutcomeLaws
+pub mod PixelLaws
+pub mod RunLaws
+pub mod StepLaws

@@ -1,0 +1,8 @@
+use Rattle.std.proofs.Common.{◌≡◌, [], drop, map}
+use Rattle.std.specs.Prelude.{fold}
+use Rattle.log_reader.specs.declared.outcomes.LogOutcome.TheVariants.{Gl}
+use Rattle.driver_judge.specs.Outcomes.{errors_in, with_outcome}
+use Rattle.driver_judge.proofs.outcomes.gl_errors.Given as goal
+
+abbrev pub invariant-each : goal.invariant-each
+invariant-each l = fold with_outcome l.found (map Gl (errors_in (drop l.error-index l.errors))) ≡ fold with_outcome [] (map Gl (errors_in l.errors))

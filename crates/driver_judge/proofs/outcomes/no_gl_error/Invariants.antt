@@ -1,0 +1,7 @@
+use Rattle.std.proofs.Common.{◌≡◌, drop, map}
+use Rattle.log_reader.specs.declared.outcomes.LogOutcome.TheVariants.{Gl}
+use Rattle.driver_judge.specs.Outcomes.{are_none, errors_in}
+use Rattle.driver_judge.proofs.outcomes.no_gl_error.Given as goal
+
+abbrev pub invariant-each : goal.invariant-each
+invariant-each l = are_none (map Gl (errors_in (drop l.error-index l.errors))) ≡ are_none (map Gl (errors_in l.errors))

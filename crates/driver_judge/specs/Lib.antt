@@ -1,0 +1,14 @@
+pub mod Sorts
+pub mod Configs
+pub mod Maps
+pub mod Variables
+pub mod UsedNames
+pub mod Outcomes
+pub mod Fences
+pub mod Fronts
+pub mod Pixels
+pub mod Answers
+pub mod Judging
+pub mod Values
+pub mod Judgements
+pub mod Laws

@@ -1,0 +1,144 @@
+//! The names that a call has as numbers.
+ghost use Rattle.std.specs.Prelude.{◌≡◌, pos, slice_index_or};
+ghost use Rattle.std.specs.List.{list_any};
+ghost use Rattle.egl_model.specs.Images.{source_kind};
+ghost use Rattle.driver_judge.specs.UsedNames.{gl_names, is_ever_renamed, is_other, is_renamed, is_renamed_in, name_places, uses_renamed};
+
+use crate::maps::{Both, Entries, found, name_key};
+use egl_calls::places::{ASKED_NAME, ATTACHED_NAME, BOUND_NAME, CLIENT_BUFFER, IMAGE_SOURCE};
+use egl_calls::{EglKind, GlKind, Kind, unsigned};
+use egl_names::codes::EGL_GL_TEXTURE_2D;
+use share_group::NameKind;
+use trace_reader::{Line, LineCall};
+
+/// Where a call has names, and of which kind.
+#[derive(Clone, Copy, Debug, PartialEq, Eq, Drop)]
+pub enum NamePlaces {
+    /// One, at this place.
+    AtPlace(NameKind, u64),
+    /// The items of its list.
+    InList(NameKind),
+    /// That of which an image is made.
+    OfImage,
+}
+
+fn gl_names(kind: GlKind) -> Option<NamePlaces>
+    ensures { result ≡ gl_names kind }
+{
+    let asked = ASKED_NAME as u64;
+    let bound = BOUND_NAME as u64;
+    let attached = ATTACHED_NAME as u64;
+    match kind {
+        GlKind::IsTexture => Some(NamePlaces::AtPlace(NameKind::Texture, asked)),
+        GlKind::IsBuffer => Some(NamePlaces::AtPlace(NameKind::Buffer, asked)),
+        GlKind::IsRenderbuffer => Some(NamePlaces::AtPlace(NameKind::Renderbuffer, asked)),
+        GlKind::IsFramebuffer => Some(NamePlaces::AtPlace(NameKind::Framebuffer, asked)),
+        GlKind::BindTexture => Some(NamePlaces::AtPlace(NameKind::Texture, bound)),
+        GlKind::BindBuffer => Some(NamePlaces::AtPlace(NameKind::Buffer, bound)),
+        GlKind::BindRenderbuffer => Some(NamePlaces::AtPlace(NameKind::Renderbuffer, bound)),
+        GlKind::BindFramebuffer => Some(NamePlaces::AtPlace(NameKind::Framebuffer, bound)),
+        GlKind::FramebufferTexture2d => Some(NamePlaces::AtPlace(NameKind::Texture, attached)),
+        GlKind::FramebufferRenderbuffer => {
+            Some(NamePlaces::AtPlace(NameKind::Renderbuffer, attached))
+        }
+        GlKind::DeleteTextures => Some(NamePlaces::InList(NameKind::Texture)),
+        GlKind::DeleteBuffers => Some(NamePlaces::InList(NameKind::Buffer)),
+        GlKind::DeleteRenderbuffers => Some(NamePlaces::InList(NameKind::Renderbuffer)),
+        GlKind::DeleteFramebuffers => Some(NamePlaces::InList(NameKind::Framebuffer)),
+        _ => None,
+    }
+}
+
+/// Where a call has names.
+fn name_places(kind: Kind) -> Option<NamePlaces>
+    ensures { result ≡ name_places kind }
+{
+    match kind {
+        Kind::Egl(EglKind::CreateImage) => Some(NamePlaces::OfImage),
+        Kind::Gl(kind) => gl_names(kind),
+        _ => None,
+    }
+}
+
+fn is_other(known: Option<i128>, name: i64) -> bool
+    ensures { result ≡ is_other known name }
+{
+    match known {
+        Some(known) => known != i128::from(name),
+        None => false,
+    }
+}
+
+fn is_renamed(names: &Both, group: u64, kind: NameKind, name: i64) -> bool
+    ensures { result ≡ is_renamed names.now group kind name }
+{
+    is_other(names.given_for(group, kind, i128::from(name)), name)
+        || is_other(names.given_as(group, kind, i128::from(name)), name)
+}
+
+/// Whether a number is a name in a group that is another's on the other side.
+fn is_renamed_in(names: &Both, group: Option<u64>, kind: NameKind, name: i64) -> bool
+    ensures { result ≡ is_renamed_in names.now group kind name }
+{
+    match group {
+        Some(group) => is_renamed(names, group, kind, name),
+        None => false,
+    }
+}
+
+/// Whether one of the items is such a number.
+fn has_renamed(names: &Both, group: Option<u64>, kind: NameKind, items: &[i64]) -> bool
+    ensures { result ≡ list_any (is_renamed_in names.now group kind) items.now }
+{
+    'each: for item in items {
+        if is_renamed_in(names, group, kind, *item) {
+            return true;
+        }
+    }
+    false
+}
+
+/// Whether a number ever was a name of a kind with another number on the other side.
+fn is_ever_renamed(renamed: &Entries, kind: NameKind, name: i64) -> bool
+    ensures { result ≡ is_ever_renamed renamed.now.entries kind name }
+{
+    found(renamed, name_key(0, kind, i128::from(name))).is_some()
+}
+
+fn source_kind(call: &LineCall) -> NameKind
+    ensures { result ≡ source_kind call.now }
+{
+    if unsigned(argument_at(call, IMAGE_SOURCE as u64)) == EGL_GL_TEXTURE_2D {
+        NameKind::Texture
+    } else {
+        NameKind::Renderbuffer
+    }
+}
+
+#[tactic(auto, using(std::proofs::lemmas::List::get_or_past))]
+fn argument_at(call: &LineCall, place: u64) -> i64
+    ensures { result ≡ slice_index_or call.now.args place (pos 0) }
+{
+    let args = call.args();
+    if place < 8 { args[place as usize] } else { 0 }
+}
+
+/// Whether the call of a line has a name as a number that is another's in theirs.
+#[tactic(auto, unfolding(crate::specs::UsedNames::uses_renamed))]
+pub fn uses_renamed(renamed: &Entries, names: &Both, group: Option<u64>, line: &Line) -> bool
+    ensures { result ≡ uses_renamed renamed.now.entries names.now group line.now }
+{
+    let call = &line.call;
+    match name_places(call.kind()) {
+        None => false,
+        Some(NamePlaces::AtPlace(kind, place)) => {
+            is_renamed_in(names, group, kind, argument_at(call, place))
+        }
+        Some(NamePlaces::InList(kind)) => has_renamed(names, group, kind, call.list()),
+        Some(NamePlaces::OfImage) => is_ever_renamed(
+            renamed,
+            source_kind(call),
+            argument_at(call, CLIENT_BUFFER as u64),
+        ),
+    }
+}

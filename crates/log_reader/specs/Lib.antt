@@ -1,0 +1,13 @@
+pub mod Reasons
+pub mod Numbers
+pub mod Outcomes
+pub mod Answers
+pub mod Forms
+pub mod Lines
+pub mod Configs
+pub mod Heads
+pub mod Items
+pub mod Logs
+pub mod Order
+pub mod Grammar
+pub mod Reading
