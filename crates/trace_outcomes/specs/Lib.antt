@@ -1,0 +1,5 @@
+pub mod Histories
+pub mod Outcomes
+pub mod Schedules
+pub mod Listings
+pub mod Plays

@@ -1,0 +1,34 @@
+-- What histories and outcomes are, apart from the order in which they are looked for.
+use Rattle.std.specs.Prelude.{◌≡◌, ◌⊎◌, List, [], ◌∷◌}
+use Rattle.egl_calls.specs.declared.entries.Entry.{Entry}
+use Rattle.trace_reader.specs.Traces.{TraceValue}
+use Rattle.trace_model.specs.Follows.{IsPlayOf}
+use Rattle.trace_model.specs.Stalled.{IsComplete, IsStalled}
+use Rattle.trace_outcomes.specs.Outcomes.{OutcomeValue, outcome_of, key_of}
+
+-- one of a list
+abbrev pub IsAmong : {A : Type 0} → A → List A → Type 0
+IsAmong x [] = ⊥
+IsAmong x (y ∷ ys) = (y ≡ x) ⊎ IsAmong x ys
+
+-- a journal plays the trace to the end of all its threads, or until none can go on
+pub record IsHistory (t : TraceValue) (journal : List Entry) : Type 0 where
+  pub play : IsPlayOf t journal
+  pub over : IsComplete t journal ⊎ IsStalled t journal
+
+-- a history has this outcome
+pub record HasOutcome (t : TraceValue) (o : OutcomeValue) : Type 0 where
+  pub journal : List Entry
+  pub history : IsHistory t journal
+  pub outcome : outcome_of t journal ≡ o
+
+-- an outcome of these is that of a history, by all but its order
+pub record IsListed (t : TraceValue) (journal : List Entry) (found : List OutcomeValue) : Type 0 where
+  pub outcome : OutcomeValue
+  pub among : IsAmong outcome found
+  pub same : key_of outcome ≡ key_of (outcome_of t journal)
+
+-- no item is equal to one behind it
+abbrev pub AreDistinct : {A : Type 0} → List A → Type 0
+AreDistinct [] = Unit {0}
+AreDistinct (x ∷ xs) = (IsAmong x xs → ⊥) × AreDistinct xs

@@ -1,0 +1,54 @@
+//! All outcomes of a trace.
+ghost use Rattle.std.specs.Prelude.{IfOk};
+ghost use Rattle.trace_session.specs.Chains.{AreChains};
+ghost use Rattle.trace_outcomes.specs.Listings.{IsListing};
+
+use crate::found::Found;
+use crate::histories::{Schedule, play_first, push_schedule};
+use crate::outcomes::Outcome;
+use egl_calls::NoMemory;
+use std::alloc::Global;
+use trace_reader::Trace;
+use trace_session::Chains;
+
+/// How many histories are played at most.
+pub const MOST_HISTORIES: u64 = 1_000_000;
+
+/// All outcomes of a trace, each once, and how many histories the trace has.
+#[derive(Drop)]
+pub struct Listing {
+    pub outcomes: Vec<Outcome>,
+    pub histories: u64,
+}
+
+/// Plays history after history.
+fn search(alloc: Global, trace: &Trace, chains: &Chains) -> Result<Option<Listing>, NoMemory>
+    requires { AreChains trace.now chains.now }
+    ensures { IfOk result (IsListing trace.now) }
+{
+    let mut pending = Vec::new(alloc);
+    let first = Schedule::new(alloc);
+    push_schedule(&mut pending, first)?;
+    let mut found = Found::new(alloc, trace.key());
+    let mut histories = 0u64;
+    'each: while let Some(schedule) = pending.pop() {
+        if histories >= MOST_HISTORIES {
+            return Ok(None);
+        }
+        let outcome = play_first(alloc, trace, chains, schedule, &mut pending)?;
+        found.add(alloc, outcome)?;
+        histories += 1;
+    }
+    Ok(Some(Listing {
+        outcomes: found.into_outcomes(),
+        histories,
+    }))
+}
+
+/// The outcomes of all histories of a trace, each once, in the order in which the histories are played: at each turn a lower thread first. There is no listing where there are more histories than are played.
+pub fn list_outcomes(alloc: Global, trace: &Trace) -> Result<Option<Listing>, NoMemory>
+    ensures { IfOk result (IsListing trace.now) }
+{
+    let chains = Chains::new(alloc, trace)?;
+    search(alloc, trace, &chains)
+}
