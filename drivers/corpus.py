@@ -138,7 +138,9 @@ def is_dropped(name, args, places, dropped):
     items = [item for arg in args for item in arg.strip("[]").split(",")]
     numbers = [int(item) for item in items if item.isdigit()]
     sides = {"glTexImage2D": args[3:5], "glCopyTexImage2D": args[5:7]}.get(name, [])
-    is_side = any(side.isdigit() and (int(side) & (int(side) - 1) or int(side) > 1_024) for side in sides)
+    is_side = any(side.isdigit() and (int(side) & (int(side) - 1) or int(side) > 1_024 >> min(max(int(args[1]), 0), 10)) for side in sides)
+    # Greater storages, and levels to draw to, which an extension allows.
+    is_side = is_side or name == "glRenderbufferStorageOES" and any(side.isdigit() and int(side) > 2_048 for side in args[2:4]) or name == "glFramebufferTexture2DOES" and args[4] != "0"
     is_many = name.startswith("glGen") and numbers[:1] == [257]
     is_other_display = places[:1] == [0] and args[0] != "$d"
     return name in ("census", "readFront", "readBuffer") or is_side or is_many or is_other_display or any(number > 2_147_483_647 for number in numbers) or any(item.partition(".")[0] in dropped for item in items if item.startswith("$"))

@@ -74,6 +74,8 @@ const char *open_driver(struct calls *calls, const char *egl, const char *gles) 
     return calls->glGetError == NULL || calls->glGetIntegerv == NULL ? "it lacks calls of OpenGL ES 1.0" : NULL;
 }
 
+int usual_surfaces = EGL_PBUFFER_BIT;
+
 static int attribute(const struct calls *calls, void *display, void *config, int name) {
     int value = 0;
     calls->eglGetConfigAttrib(display, config, name, &value);
@@ -87,7 +89,7 @@ int list_configs(const struct calls *calls, void *display, struct config *config
     for (int k = 0; k < count; k++) {
         configs[k].id = attribute(calls, display, handles[k], EGL_CONFIG_ID);
         for (int size = 0; size < 6; size++) configs[k].sizes[size] = attribute(calls, display, handles[k], sizes[size]);
-        configs[k].usual = (attribute(calls, display, handles[k], EGL_SURFACE_TYPE) & EGL_PBUFFER_BIT) != 0 &&
+        configs[k].usual = (attribute(calls, display, handles[k], EGL_SURFACE_TYPE) & usual_surfaces) == usual_surfaces &&
                            (attribute(calls, display, handles[k], EGL_RENDERABLE_TYPE) & EGL_OPENGL_ES_BIT) != 0 &&
                            attribute(calls, display, handles[k], EGL_SAMPLES) == 0 &&
                            attribute(calls, display, handles[k], EGL_CONFIG_CAVEAT) == EGL_NONE;

@@ -16,6 +16,8 @@ struct config {
     int usual;
 };
 
+// Which surfaces a usual config has: pbuffers at first.
+extern int usual_surfaces;
 // Opens the libraries. Answers NULL, or which of them or of their calls isn't there.
 const char *open_driver(struct calls *calls, const char *egl, const char *gles);
 // Another call of the libraries, NULL where they have none of that name.

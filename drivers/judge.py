@@ -13,7 +13,7 @@ sys.path.insert(0, os.path.dirname(os.path.abspath(__file__)))
 from logs import NAMES, OWN, Malformed, is_number, read, variables_of
 from oracle import Oracle, Trouble
 from pixels import pixels_of
-from shadow import BINDINGS, CONFIGS, CREATING, NAMED, Shadow
+from shadow import BINDINGS, CONFIGS, CREATING, NAMED, Pixels, Shadow
 
 # By a call the place of its config.
 CONFIG_PLACES = {"eglGetConfigAttrib": 1, "eglCreateWindowSurface": 1, "eglCreatePbufferSurface": 1, "eglCreateContext": 1}
@@ -23,6 +23,8 @@ CONFIG_QUERIES = ("eglGetConfigAttrib", "eglQuerySurface", "eglQueryContext")
 OWN_ATTRIBUTES = ("EGL_NATIVE_VISUAL_ID", "EGL_NATIVE_VISUAL_TYPE", "EGL_MAX_PBUFFER_WIDTH", "EGL_MAX_PBUFFER_HEIGHT", "EGL_MAX_PBUFFER_PIXELS", "EGL_MAX_SWAP_INTERVAL", "EGL_MIN_SWAP_INTERVAL")
 # By a call the kind and the place of a name that it is given.
 NAME_PLACES = {"glBindTexture": 1, "glBindBuffer": 1, "glBindRenderbufferOES": 1, "glBindFramebufferOES": 1, "glIsTexture": 0, "glIsBuffer": 0, "glIsRenderbufferOES": 0, "glIsFramebufferOES": 0, "glDeleteTextures": 0, "glDeleteBuffers": 0, "glDeleteRenderbuffersOES": 0, "glDeleteFramebuffersOES": 0, "glFramebufferTexture2DOES": 3, "glFramebufferRenderbufferOES": 3, "eglCreateImage": 3}
+# By a kind of names the calls that rest on its binding alone; those of textures and framebuffers change what is drawn, so all calls of OpenGL ES do.
+RESTING = {"renderbuffer": ("glRenderbufferStorageOES", "glGetRenderbufferParameterivOES", "glEGLImageTargetRenderbufferStorageOES", "glGetIntegerv"), "buffer": ("glBufferData", "glBufferSubData", "glGetBufferParameteriv", "glGetIntegerv")}
 WORDS = {**dict.fromkeys(("EGL_FALSE", "GL_FALSE", "EGL_DEFAULT_DISPLAY", "EGL_NO_DISPLAY", "EGL_NO_CONTEXT", "EGL_NO_SURFACE", "EGL_NO_SYNC", "EGL_NO_IMAGE"), 0), "EGL_TRUE": 1, "GL_TRUE": 1, "EGL_DONT_CARE": -1, "EGL_FOREVER": -1}
 # The waits of a fence that has not been signalled, and of one that has.
 UNSIGNALLED, SIGNALLED = ("EGL_TIMEOUT_EXPIRED", "EGL_UNSIGNALED"), ("EGL_CONDITION_SATISFIED", "EGL_SIGNALED")
@@ -205,6 +207,20 @@ class Judge:
         if line.name == "eglMakeCurrent" and why == "after":
             self.leave_out_drawing(line, cause)
 
+    def leave_out_named(self, line):
+        """With a call that gives another name: what rests on its binding, up to the next one of the kind; with a delete all that names one of the kind."""
+        kind, has_drawn = kind_of(line.name), False
+        for other in self.log.lines:
+            if other.number <= line.number or other.number in self.unplayed or other.name == "glGetError":
+                continue
+            if other.thread == line.thread and other.name == line.name and line.name.startswith("glBind") and other.words[0] == line.words[0] and not has_drawn:
+                return
+            rests = other.thread == line.thread and (kind not in RESTING or other.name in RESTING[kind]) and other.name.startswith("gl") and not other.name.startswith(("glDelete", "glGen", "glIs"))
+            has_drawn |= rests and kind not in RESTING and other.name.startswith(("glClear", "glDraw", "glCopy", "glTexImage", "glTexSub", "glFramebuffer"))
+            if rests or line.name.startswith("glDelete") and other.name in NAME_PLACES and kind_of(other.name) == kind:
+                self.unplayed[other.number] = "after", line.number
+                self.lose(other, line.number)
+
     def leave_out_drawing(self, line, cause):
         for other in self.log.lines:
             if other.number > line.number and other.thread == line.thread:
@@ -285,6 +301,8 @@ class Pass:
         if self.has_other_name(line):
             self.judge.leave_out(line, "name", line.number)
             self.judge.lose(line, line.number)
+            if line.name.startswith(("glBind", "glDelete")):
+                self.judge.leave_out_named(line)
             raise Again
 
     def has_other_name(self, line):
@@ -358,7 +376,7 @@ class Pass:
         if is_own:
             self.found.own += 1
         elif pixels:
-            self.compare_pixels(line, read, pixels)
+            self.compare_pixels(line, args, read, pixels)
         elif name in CREATING:
             self.compare_created(line, args, value)
         elif name.startswith("glGen"):
@@ -385,12 +403,21 @@ class Pass:
         if line.name == "front":
             window = args[0]
             head = next((words for words in (text.split() for text in self.judge.log.head.values()) if words[:2] == ["window", str(window)]), None)
-            return (int(head[2]), int(head[3]), self.shadow.windows.get(window, (8, 8, 8, 8)), False, 1) if head else None
+            return (int(head[2]), int(head[3]), self.shown(window).bits, False, 1) if head else None
         if line.name != "glReadPixels" or not self.shadow.context(line.thread):
             return None
-        return args[2], args[3], self.shadow.read_bits(line.thread), args[4] == "GL_RGB", self.shadow.context(line.thread).pack
+        return args[2], args[3], self.shadow.read_from(line.thread).bits, args[4] == "GL_RGB", self.shadow.context(line.thread).pack
 
-    def compare_pixels(self, line, ours, pixels):
+    def shown(self, window):
+        """The pixels that a window shows."""
+        return self.shadow.fronts.get(window) or Pixels(self.shadow.windows[window].bits if window in self.shadow.windows else (8, 8, 8, 8))
+
+    def may_be_any(self, line, args, told):
+        """Whether all pixels that differ may never have been written, or lie outside."""
+        source, left, bottom = (self.shown(args[0]), 0, 0) if line.name == "front" else (self.shadow.read_from(line.thread), args[0], args[1])
+        return source.is_unwritten or all(not (0 <= left + x < source.width and 0 <= bottom + y < source.height) for x, y in zip(told.columns, told.rows))
+
+    def compare_pixels(self, line, args, ours, pixels):
         theirs = line.answer.bytes
         if len(ours) != len(theirs):
             self.differ(line, "length", str(len(ours)), str(len(theirs)))
@@ -398,7 +425,7 @@ class Pass:
         told = pixels_of(ours, theirs, *pixels).told(self.judge.delta) if ours else None
         if told:
             self.differ(line, "pixels", told.first[2].hex(), told.first[3].hex(), told.text())
-            self.found.differences[-1].is_zero = told.is_zero
+            self.found.differences[-1].is_zero = told.is_zero and self.may_be_any(line, args, told)
 
     def compare_created(self, line, args, value):
         ours, theirs, kind = int(value), line.answer.value, CREATING[line.name]

@@ -190,10 +190,16 @@ static const struct {
 #define DEADLY (sizeof deadly / sizeof *deadly)
 static struct sigaction before[DEADLY];
 
+const char *log_signal(int number) {
+    for (size_t k = 0; k < DEADLY; k++)
+        if (deadly[k].number == number) return deadly[k].word;
+    return "signal";
+}
+
 static void on_signal(int number) {
     size_t k = 0;
     while (k < DEADLY && deadly[k].number != number) k++;
-    log_cut(k < DEADLY ? deadly[k].word : "signal");
+    log_cut(log_signal(number));
     if (dying_status != 0) _exit(dying_status);
     // The program's own handler, or the signal's own act.
     if (k < DEADLY) sigaction(number, &before[k], NULL);

@@ -40,6 +40,8 @@ void log_cut(const char *word);
 // From here on deadly signals end the log so. What is done behind that is the signal's own act where `status` is 0, else the end of the
 // program with that status.
 void log_on_signals(int status);
+// The word of a deadly signal.
+const char *log_signal(int number);
 // Each further thread gives its handlers a stack of its own.
 void log_in_thread(void);
 

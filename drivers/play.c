@@ -16,6 +16,7 @@
 
 #include "egl_words.h"
 #include "log.h"
+#include "windows.h"
 
 enum status {
     USAGE = 2,
@@ -221,9 +222,15 @@ static int ready(const struct line *line) {
 
 static void log_front(int thread, int window) {
     const struct window *size = &play.trace.window[window];
-    if (play.windows[window].front == NULL) return;
+    struct window_state *state = &play.windows[window];
+    if (state->swapped && state->front == NULL) state->front = calloc((size_t)(4 * size->width * size->height), 1);
+    if (state->front == NULL) return;
+    if (state->swapped && !read_window(state->native, state->alpha, (int)size->width, (int)size->height, state->front)) {
+        log_text("# no front "), log_number(size->id), log_text("\n");
+        return;
+    }
     log_text("front "), log_number(thread), log_text(" "), log_number(size->id), log_text(" ");
-    log_digits(play.windows[window].front, (size_t)(4 * size->width * size->height));
+    log_digits(state->front, (size_t)(4 * size->width * size->height));
     log_text("\n");
 }
 
@@ -343,7 +350,7 @@ static void play_all(void) {
     play_end();
 }
 
-static void begin_threads(void) {
+static void begin_threads(void *(*act)(void *)) {
     pthread_condattr_t clock;
     pthread_condattr_init(&clock);
     pthread_condattr_setclock(&clock, CLOCK_MONOTONIC);
@@ -354,7 +361,76 @@ static void begin_threads(void) {
         play.players[k].egl_error = EGL_SUCCESS;
         advance(&workers[k]);
         pthread_cond_init(&workers[k].called, &clock);
-        if (pthread_create(&thread, NULL, work, &workers[k]) != 0) stop(NO_MEMORY, "a thread can't be made");
+        if (pthread_create(&thread, NULL, act, &workers[k]) != 0) stop(NO_MEMORY, "a thread can't be made");
+    }
+}
+
+// ---- threads that run free
+
+// What a thread lets pass before a call, so that runs aren't all alike.
+static void dawdle(unsigned *random) {
+    *random ^= *random << 13, *random ^= *random >> 17, *random ^= *random << 5;
+    for (volatile unsigned left = *random & ((1u << (*random >> 28)) - 1); left > 0; left--) continue;
+}
+
+// The lines of a thread, each as soon as it has all that it waits for; only what stands around a call is done by turns.
+static void *work_free(void *argument) {
+    struct worker *worker = argument;
+    unsigned random = (unsigned)(worker->number + 1) * 2654435761u ^ (unsigned)getpid() * 40503u;
+    pthread_mutex_lock(&turn);
+    for (; worker->next < play.trace.lines; advance(worker)) {
+        const struct line *line = &play.trace.line[worker->next];
+        while (!ready(line)) pthread_cond_wait(&returned, &turn);
+        if (line->call >= DRIVER_CALLS)
+            play_own(line);
+        else {
+            worker->skipped = prepare(&worker->request, line);
+            worker->waits = 1;
+            pthread_mutex_unlock(&turn);
+            dawdle(&random);
+            if (worker->skipped == NULL) perform(&worker->request, &worker->answer);
+            pthread_mutex_lock(&turn);
+            conclude(worker);
+        }
+        pthread_cond_broadcast(&returned);
+    }
+    ended++;
+    pthread_cond_broadcast(&returned);
+    pthread_mutex_unlock(&turn);
+    return NULL;
+}
+
+// Plays the trace once: the lines stand in the order in which they were done. Where threads don't come to their ends, those that are left
+// are told.
+static void play_free(int run) {
+    log_text("# run "), log_number(run), log_text("\n");
+    if (open_windows()) usual_surfaces |= EGL_WINDOW_BIT;
+    pthread_mutex_lock(&turn);
+    begin_threads(work_free);
+    for (struct timespec until = in_milliseconds(seconds * 1000); ended < play.trace.threads;)
+        if (pthread_cond_timedwait(&returned, &turn, &until) != 0) break;
+    for (int k = 0; k < play.trace.threads; k++)
+        if (workers[k].next < play.trace.lines)
+            log_text("# stalled "), log_number(k), log_text(" "), log_number(play.trace.line[workers[k].next].number), log_text("\n");
+    finish(0);
+}
+
+// Plays the trace so many times, each in a process of its own. Of one that dies the crash is all that is told.
+static void play_runs(int runs) {
+    play.is_free = 1;
+    // The driver's own libraries are there from here on; what it opens later isn't opened in each run.
+    void *display = play.calls.eglGetDisplay(NULL);
+    if (play.calls.eglInitialize(display, NULL, NULL)) play.calls.eglTerminate(display);
+    for (int run = 1; run <= runs; run++) {
+        int status = 0;
+        if (!log_flush()) stop(WRITE_FAULT, "the log can't be written");
+        pid_t child = fork();
+        if (child < 0) stop(NO_MEMORY, "a process can't be made");
+        if (child == 0) play_free(run);
+        waitpid(child, &status, 0);
+        if (WIFEXITED(status) && WEXITSTATUS(status) == 0) continue;
+        log_text("# run "), log_number(run), log_text("\ncrash ");
+        log_text(WIFSIGNALED(status) ? log_signal(WTERMSIG(status)) : "exit"), log_text("\n");
     }
 }
 
@@ -421,8 +497,9 @@ static _Noreturn void ask_here(int to, const char *egl, const char *gles) {
     static char name[512];
     int place = 0;
     alarm((unsigned)seconds);
+    if (open_windows()) usual_surfaces |= EGL_WINDOW_BIT;
     const char *fault = open_driver(&play.calls, egl, gles);
-    void *display = fault == NULL ? play.calls.eglGetDisplay(NULL) : NULL;
+    void *display = fault == NULL ? play.calls.eglGetDisplay(native_display()) : NULL;
     if (fault != NULL)
         told.status = NO_DRIVER, snprintf(told.said, sizeof told.said, "%s", fault);
     else if (display == NULL || !play.calls.eglInitialize(display, NULL, NULL)) {
@@ -489,7 +566,10 @@ int main(int argc, char **argv) {
     const char *gles = option(&argc, &argv, "--gles", "GLES_LIBRARY", "libGLESv1_CM.so.1");
     const char *patience = option(&argc, &argv, "--seconds", "PLAY_SECONDS", "10");
     seconds = atol(patience);
-    if (argc != 0 || seconds < 1 || seconds > 86400) stop(USAGE, "usage: play [--egl PATH] [--gles PATH] [--seconds N] < TRACE > LOG");
+    int runs = atoi(option(&argc, &argv, "--free", "PLAY_FREE", "0"));
+    play.asks_colour = strcmp(option(&argc, &argv, "--cure", "PLAY_CURE", ""), "colour") == 0;
+    if (argc != 0 || seconds < 1 || seconds > 86400 || runs < 0)
+        stop(USAGE, "usage: play [--egl PATH] [--gles PATH] [--seconds N] [--free RUNS] [--cure colour] < TRACE > LOG");
     char *text = read_input(&size);
     const char *reason = read_trace(&play.trace, text, size, &line);
     if (reason != NULL && line == 0) stop(NO_MEMORY, "memory ran out");
@@ -504,11 +584,14 @@ int main(int argc, char **argv) {
     ask_driver(egl, gles);
     log_to(log);
     write_head();
-    log_on_signals(CUT);
-    atexit(on_exit_of_driver);
+    if (runs == 0) log_on_signals(CUT), atexit(on_exit_of_driver);
+    // A server's connection is a process's own.
+    if (runs == 0 && open_windows()) usual_surfaces |= EGL_WINDOW_BIT;
     const char *fault = open_driver(&play.calls, egl, gles);
     if (fault != NULL) stop(NO_DRIVER, "%s", fault);
-    begin_threads();
-    play_all();
+    if (runs > 0)
+        play_runs(runs);
+    else
+        begin_threads(work), play_all();
     finish(0);
 }

@@ -29,12 +29,14 @@ struct variable {
     uint64_t *list;
 };
 
-// A window of the trace, in whose place stands a pbuffer.
-struct stand_in {
+// A window of the trace: the platform's, or a pbuffer in its place.
+struct window_state {
     void *display, *surface;
     int valid;
-    // The pixels at its last swap.
+    // The pixels at its last swap; a window of the platform is asked for them.
     unsigned char *front;
+    unsigned long native;
+    int visual, alpha, swapped, taken;
 };
 
 struct player {
@@ -47,8 +49,12 @@ struct play {
     struct calls calls;
     struct config configs[MOST_CONFIGS];
     int configs_count;
+    // Whether threads take no turns.
+    int is_free;
+    // Whether the current colour is asked for in front of each draw, which makes Mesa look whether it is new.
+    int asks_colour;
     struct variable *variables;
-    struct stand_in windows[64];
+    struct window_state windows[64];
     struct player players[16];
 };
 extern struct play play;
@@ -70,6 +76,8 @@ struct request {
 // Makes a line ready. Answers NULL, or why it isn't played.
 const char *prepare(struct request *request, const struct line *line);
 void release(struct request *request);
+// Whether a window has a surface: one that has its handle, or is current to a thread.
+int window_in_use(const struct window_state *window);
 // Makes the call.
 void perform(const struct request *request, struct answer *answer);
 

@@ -1,9 +1,11 @@
 // The calls of a line, made over the driver.
+#include <pthread.h>
 #include <stdlib.h>
 #include <string.h>
 
 #include "egl_words.h"
 #include "play.h"
+#include "windows.h"
 
 #define HANDLE_OF(place) ((void *)(intptr_t)number[place])
 #define INT(place) ((int)number[place])
@@ -32,7 +34,7 @@ static void object_value(struct answer *answer, int attribute, int value) {
 }
 
 static void configs(struct answer *answer, void *display, const int *attributes) {
-    static void *found[MOST_CONFIGS];
+    static _Thread_local void *found[MOST_CONFIGS];
     int count = 0;
     if (attributes == NULL)
         answer->value = play.calls.eglGetConfigs(display, found, MOST_CONFIGS, &count);
@@ -50,7 +52,7 @@ static void configs(struct answer *answer, void *display, const int *attributes)
 
 // ---- windows
 
-static struct stand_in *window_of(int64_t id, int64_t *width, int64_t *height) {
+static struct window_state *window_of(int64_t id, int64_t *width, int64_t *height) {
     for (int k = 0; k < play.trace.windows; k++)
         if (play.trace.window[k].id == id) {
             *width = play.trace.window[k].width, *height = play.trace.window[k].height;
@@ -59,10 +61,30 @@ static struct stand_in *window_of(int64_t id, int64_t *width, int64_t *height) {
     return NULL;
 }
 
+static int config_attribute(void *display, void *config, int attribute) {
+    int value = 0;
+    play.calls.eglGetConfigAttrib(display, config, attribute, &value);
+    return value;
+}
+
+// A window of the platform is made for the first config that asks for it, and again for another one as long as it has no surface.
+static void prepare_window(struct window_state *window, void *display, void *config, int width, int height) {
+    int visual = config_attribute(display, config, EGL_NATIVE_VISUAL_ID), alpha = config_attribute(display, config, EGL_ALPHA_SIZE);
+    if (window->native != 0 && (window_in_use(window) || (window->visual == visual && window->alpha == alpha))) return;
+    *window = (struct window_state){.native = make_window(visual, alpha, width, height), .visual = visual, .alpha = alpha};
+}
+
 static void window_surface(const struct request *request, struct answer *answer) {
     const int64_t *number = request->number;
     int64_t width, height;
-    struct stand_in *window = window_of(number[2], &width, &height);
+    struct window_state *window = window_of(number[2], &width, &height);
+    if (window != NULL && has_windows()) {
+        prepare_window(window, HANDLE_OF(0), request->config, (int)width, (int)height);
+        void *surface = play.calls.eglCreateWindowSurface(HANDLE_OF(0), request->config, (void *)window->native, request->list);
+        if (surface != NULL) window->display = HANDLE_OF(0), window->surface = surface, window->valid = 1;
+        handle(answer, surface);
+        return;
+    }
     if (window == NULL) {
         handle(answer, play.calls.eglCreateWindowSurface(HANDLE_OF(0), request->config, NULL, request->list));
         return;
@@ -84,6 +106,10 @@ static void keep_front(struct player *player, void *display, void *surface) {
     int k = 0, framebuffer = 0, alignment = 4;
     while (k < play.trace.windows && !(play.windows[k].surface == surface && play.windows[k].display == display)) k++;
     if (k == play.trace.windows || player->draw != surface || player->context == NULL) return;
+    if (has_windows()) {
+        play.windows[k].swapped = 1;
+        return;
+    }
     const struct window *size = &play.trace.window[k];
     unsigned char *front = play.windows[k].front;
     if (front == NULL) front = play.windows[k].front = calloc((size_t)(4 * size->width * size->height), 1);
@@ -109,7 +135,7 @@ static void perform_egl(const struct request *request, struct answer *answer) {
     int value = 0;
     intptr_t wide = 0;
     switch (request->line->call) {
-    case CALL_eglGetDisplay: handle(answer, calls->eglGetDisplay(HANDLE_OF(0))); break;
+    case CALL_eglGetDisplay: handle(answer, calls->eglGetDisplay(number[0] == 0 ? native_display() : HANDLE_OF(0))); break;
     case CALL_eglInitialize: answer->value = calls->eglInitialize(HANDLE_OF(0), NULL, NULL); break;
     case CALL_eglTerminate: answer->value = calls->eglTerminate(HANDLE_OF(0)); break;
     case CALL_eglGetConfigs: configs(answer, HANDLE_OF(0), NULL); break;
@@ -171,7 +197,7 @@ static void after_egl(const struct request *request, const struct answer *answer
         if (done) forget_surface(HANDLE_OF(0), HANDLE_OF(1));
         return;
     case CALL_eglSwapBuffers:
-        if (done) keep_front(player, HANDLE_OF(0), HANDLE_OF(1));
+        if (done && !play.is_free) keep_front(player, HANDLE_OF(0), HANDLE_OF(1));
         return;
     case CALL_eglMakeCurrent:
     case CALL_eglReleaseThread: break;
@@ -189,17 +215,17 @@ static void after_egl(const struct request *request, const struct answer *answer
 static struct kept {
     void *context;
     unsigned error;
+    struct kept *next;
 } * kept;
-static size_t kept_count;
+static pthread_mutex_t kept_lock = PTHREAD_MUTEX_INITIALIZER;
 
 static unsigned *kept_error(void *context) {
-    for (size_t k = 0; k < kept_count; k++)
-        if (kept[k].context == context) return &kept[k].error;
-    struct kept *more = realloc(kept, (kept_count + 1) * sizeof *kept);
-    if (more == NULL) return NULL;
-    kept = more;
-    kept[kept_count] = (struct kept){context, 0};
-    return &kept[kept_count++].error;
+    pthread_mutex_lock(&kept_lock);
+    struct kept *found = kept;
+    while (found != NULL && found->context != context) found = found->next;
+    if (found == NULL && (found = malloc(sizeof *found)) != NULL) *found = (struct kept){context, 0, kept}, kept = found;
+    pthread_mutex_unlock(&kept_lock);
+    return found == NULL ? NULL : &found->error;
 }
 
 static void names(struct answer *answer, void (*generate)(int, unsigned *), int count) {
@@ -277,6 +303,13 @@ static void perform_names(const struct request *request, struct answer *answer) 
     }
 }
 
+#define CURRENT_COLOR 0x0B00
+
+static void ask_colour(void) {
+    int colour[4];
+    if (play.asks_colour) play.calls.glGetIntegerv(CURRENT_COLOR, colour);
+}
+
 static void perform_gl(const struct request *request, struct answer *answer, const struct player *player) {
     const struct calls *calls = &play.calls;
     const int64_t *number = request->number;
@@ -298,8 +331,8 @@ static void perform_gl(const struct request *request, struct answer *answer, con
     case CALL_glGetIntegerv: calls->glGetIntegerv(ENUM(0), value), integer(answer, value[INT(1)], PLAIN); break;
     case CALL_glClear: calls->glClear(ENUM(0)); break;
     case CALL_glReadPixels: pixels(request, answer, player); break;
-    case CALL_glDrawTexiOES: calls->glDrawTexiOES(INT(0), INT(1), INT(2), INT(3), INT(4)); break;
-    case CALL_glDrawTexxOES: calls->glDrawTexxOES(INT(0), INT(1), INT(2), INT(3), INT(4)); break;
+    case CALL_glDrawTexiOES: ask_colour(), calls->glDrawTexiOES(INT(0), INT(1), INT(2), INT(3), INT(4)); break;
+    case CALL_glDrawTexxOES: ask_colour(), calls->glDrawTexxOES(INT(0), INT(1), INT(2), INT(3), INT(4)); break;
     case CALL_glGetBufferParameteriv:
         calls->glGetBufferParameteriv(ENUM(0), ENUM(1), value), integer(answer, value[0], ENUM(1) == GL_BUFFER_USAGE ? GL_NAME : PLAIN);
         break;

@@ -6,6 +6,7 @@
 #include "egl_words.h"
 #include "log.h"
 #include "play.h"
+#include "windows.h"
 
 // The configs that the driver gave for a display, with their handles.
 static struct config here[MOST_CONFIGS];
@@ -163,8 +164,7 @@ static const char *argument(struct request *request, int place, struct text *tex
     return put(text, word.text, word.length) ? NULL : "memory";
 }
 
-// Whether a window has a surface: one that has its handle, or is current to a thread.
-static int in_use(const struct stand_in *window) {
+int window_in_use(const struct window_state *window) {
     if (window->valid) return 1;
     for (int k = 0; window->surface != NULL && k < play.trace.threads; k++)
         if (play.players[k].draw == window->surface || play.players[k].read == window->surface) return 1;
@@ -174,6 +174,7 @@ static int in_use(const struct stand_in *window) {
 // What a pbuffer in the place of a window can't answer: a second surface of it, attributes of windows, and what a swap leaves.
 static int needs_window(const struct request *request) {
     int creates = request->line->call == CALL_eglCreateWindowSurface;
+    if (has_windows()) return 0;
     if (!creates && request->line->call != CALL_eglSurfaceAttrib) return 0;
     for (int k = 0; k < play.trace.windows; k++) {
         if (!creates && (intptr_t)play.windows[k].surface == request->number[1] && play.windows[k].surface != NULL &&
@@ -184,7 +185,8 @@ static int needs_window(const struct request *request) {
             if (request->list[item] != EGL_RENDER_BUFFER ||
                 (request->list[item + 1] != EGL_BACK_BUFFER && request->list[item + 1] != EGL_SINGLE_BUFFER))
                 return 1;
-        return in_use(&play.windows[k]);
+        // Two pbuffers of free threads can't stand for one window.
+        return window_in_use(&play.windows[k]) || (play.is_free && play.windows[k].taken++ > 0);
     }
     return 0;
 }
@@ -194,6 +196,8 @@ static const char *unlike_c(const struct request *request) {
     int64_t first = request->number[0];
     if (needs_window(request)) return "window";
     switch (request->line->call) {
+    // Any other number would be read as the address of a server's connection.
+    case CALL_eglGetDisplay: return first != 0 && has_windows() ? "display" : NULL;
     case CALL_glGetIntegerv: {
         int most = first == GL_VIEWPORT || first == GL_SCISSOR_BOX ? 3 : 0;
         return request->number[1] < 0 || request->number[1] > most ? "index" : NULL;

@@ -294,6 +294,14 @@ void know_configs(void *display, void **configs, int count) {
     }
 }
 
+// The place of each config in the list that a line answers is its name from there on.
+void know_listed(void **configs, int count) {
+    for (int k = 0; k < count; k++) {
+        struct known *known = find_known(CONFIG, (uint64_t)(uintptr_t)configs[k]);
+        if (known != NULL) known->letter = making_letter, known->variable = making, known->place = k;
+    }
+}
+
 // A number of its own for each window and each display, in the order in which they come.
 static int counted(enum space space, void *handle, int *count) {
     struct known *known = find_known((int)space + SPACES * 1000000, (uint64_t)(uintptr_t)handle);
@@ -373,10 +381,13 @@ void put_handle(enum space space, void *handle) {
         log_text(handle == NULL ? "0" : "4294967295");
 }
 
+// One that no list had has its ID.
 void put_config(void *config) {
     const struct known *known = find_known(CONFIG, (uint64_t)(uintptr_t)config);
     log_text(" ");
-    if (known != NULL)
+    if (known != NULL && known->place >= 0)
+        put_known(known);
+    else if (known != NULL)
         log_unsigned(known->value);
     else
         log_text(config == NULL ? "0" : "4294967295");

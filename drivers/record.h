@@ -105,6 +105,7 @@ void close_line(void);
 void know_handle(enum space space, void *handle);
 void know_names(enum space space, int count, const unsigned *names);
 void know_configs(void *display, void **configs, int count);
+void know_listed(void **configs, int count);
 void know_context(void *handle, void *share);
 void know_current(void *handle);
 void know_window(int id, int width, int height);

@@ -142,6 +142,7 @@ static void answer_configs(void *display, unsigned done, void **configs, int cou
         close_line();
     else {
         know_configs(display, configs, count);
+        know_listed(configs, count);
         log_number(done), log_text(" [");
         for (int k = 0; k < count; k++) {
             int id = 0;

@@ -16,8 +16,18 @@ BINDINGS = {"GL_TEXTURE_BINDING_2D": "texture", "GL_ARRAY_BUFFER_BINDING": "buff
 COLOR, PLAIN = "GL_COLOR_ATTACHMENT0_OES", (8, 8, 8, 8)
 
 
+@dataclass(eq=False)
+class Pixels:
+    """The bits of a component, the sides, and whether some may never have been written, or come from such ones."""
+
+    bits: tuple = PLAIN
+    width: int = 0
+    height: int = 0
+    is_unwritten: bool = True
+
+
 class Thing:
-    """A texture, a renderbuffer or a framebuffer: by a level, or by a point, the bits of its pixels or what is attached."""
+    """A texture, a renderbuffer or a framebuffer: by a level its pixels, or by a point what is attached."""
 
     def __init__(self):
         self.parts = {}
@@ -37,6 +47,9 @@ class Context:
     error: str = None
     pack: int = 4
     own: Thing = field(default_factory=Thing)
+    # What is enabled, and whether each component is written.
+    on: set = field(default_factory=set)
+    is_masked: bool = False
     # By a kind the object that is bound.
     bound: dict = field(default_factory=dict)
 
@@ -46,8 +59,9 @@ class Shadow:
         # By a thread its error, and the handles of its context and of the surfaces it draws to and reads from.
         self.errors, self.current = {}, {}
         # By a handle of ours its kind and its display, while it is valid; the driver's number; and what it stands for.
-        self.valid, self.theirs, self.contexts, self.bits, self.images = {}, {}, {}, {}, {}
-        self.displays, self.windows = {}, {}
+        self.valid, self.theirs, self.contexts, self.surfaces, self.images = {}, {}, {}, {}, {}
+        # By a window the pixels of its surface, and what it shows.
+        self.displays, self.windows, self.fronts = {}, {}, {}
 
     def context(self, thread):
         return self.contexts.get(self.current.get(thread, (0, 0, 0))[2])
@@ -87,10 +101,19 @@ class Shadow:
         self.contexts[value] = Context(args[0], shared.group if shared else Group())
 
     def eglCreateWindowSurface(self, thread, args, value, listed):
-        self.bits[value] = self.windows[args[2]] = CONFIGS[args[1]][:4]
+        self.surfaces[value] = self.windows[args[2]] = Pixels(CONFIGS[args[1]][:4], 1 << 30, 1 << 30)
 
     def eglCreatePbufferSurface(self, thread, args, value, listed):
-        self.bits[value] = CONFIGS[args[1]][:4]
+        sides = dict(zip(args[2][::2], args[2][1::2]))
+        self.surfaces[value] = Pixels(CONFIGS[args[1]][:4], sides.get("EGL_WIDTH", 0), sides.get("EGL_HEIGHT", 0))
+
+    def eglSwapBuffers(self, thread, args, value, listed):
+        surface = self.surfaces.get(args[1])
+        for window, pixels in self.windows.items():
+            if pixels is surface:
+                self.fronts[window] = Pixels(pixels.bits, pixels.width, pixels.height, pixels.is_unwritten)
+                # What a swap leaves is a driver's own.
+                pixels.is_unwritten = True
 
     def eglMakeCurrent(self, thread, args, value, listed):
         self.current[thread] = args[1:4]
@@ -104,7 +127,7 @@ class Shadow:
         thing, level = self.contexts[args[1]].group.objects.get((kind, args[3])), 0
         for which, given in zip(args[4][::2], args[4][1::2]):
             level = given if which == "EGL_GL_TEXTURE_LEVEL" else level
-        self.images[value] = thing.parts.get(level, PLAIN) if thing else PLAIN
+        self.images[value] = thing.parts.get(level, Pixels()) if thing else Pixels()
 
     def target(self, thread, kind):
         context = self.context(thread)
@@ -112,19 +135,51 @@ class Shadow:
 
     def glTexImage2D(self, thread, args, value, listed):
         form, kind = args[6:8]
-        self.target(thread, "texture").parts[args[1]] = FORMS.get(kind) or FORMS.get(form, PLAIN)
+        self.target(thread, "texture").parts[args[1]] = Pixels(FORMS.get(kind) or FORMS.get(form, PLAIN), args[3], args[4], args[8] == "-")
 
     def glCopyTexImage2D(self, thread, args, value, listed):
-        self.target(thread, "texture").parts[args[1]] = FORMS.get(args[2], PLAIN)
+        self.target(thread, "texture").parts[args[1]] = Pixels(FORMS.get(args[2], PLAIN), args[5], args[6], self.takes_unwritten(thread, *args[3:7]))
+
+    def glCopyTexSubImage2D(self, thread, args, value, listed):
+        pixels = self.target(thread, "texture").parts.get(args[1])
+        if pixels and self.takes_unwritten(thread, *args[4:8]):
+            pixels.is_unwritten = True
+
+    def takes_unwritten(self, thread, left, bottom, width, height):
+        """Whether a rectangle of what is read from may have pixels that were never written, or lies outside."""
+        source = self.read_from(thread)
+        return source.is_unwritten or left < 0 or bottom < 0 or left + width > source.width or bottom + height > source.height
+
+    def glEnable(self, thread, args, value, listed):
+        self.context(thread).on.add(args[0])
+
+    def glDisable(self, thread, args, value, listed):
+        self.context(thread).on.discard(args[0])
+
+    def glColorMask(self, thread, args, value, listed):
+        self.context(thread).is_masked = 0 in args
+
+    def glClear(self, thread, args, value, listed):
+        context = self.context(thread)
+        is_colour = args[0] & 1 if isinstance(args[0], int) else "COLOR" in args[0]
+        if is_colour and "GL_SCISSOR_TEST" not in context.on and not context.is_masked:
+            self.drawn_to(thread).is_unwritten = False
+
+    def glDrawTexiOES(self, thread, args, value, listed):
+        context = self.context(thread)
+        if "GL_TEXTURE_2D" in context.on and any(pixels.is_unwritten for pixels in self.target(thread, "texture").parts.values()):
+            self.drawn_to(thread).is_unwritten = True
+
+    glDrawTexxOES = glDrawTexiOES
 
     def glRenderbufferStorageOES(self, thread, args, value, listed):
-        self.target(thread, "renderbuffer").parts[0] = FORMS.get(args[1], PLAIN)
+        self.target(thread, "renderbuffer").parts[0] = Pixels(FORMS.get(args[1], PLAIN), args[2], args[3])
 
     def glEGLImageTargetTexture2DOES(self, thread, args, value, listed):
-        self.target(thread, "texture").parts = {0: self.images.get(args[1], PLAIN)}
+        self.target(thread, "texture").parts = {0: self.images.get(args[1], Pixels())}
 
     def glEGLImageTargetRenderbufferStorageOES(self, thread, args, value, listed):
-        self.target(thread, "renderbuffer").parts = {0: self.images.get(args[1], PLAIN)}
+        self.target(thread, "renderbuffer").parts = {0: self.images.get(args[1], Pixels())}
 
     def attach(self, thread, point, kind, name):
         self.target(thread, "framebuffer").parts[point] = self.context(thread).group.objects.get((kind, name))
@@ -165,10 +220,16 @@ class Shadow:
         if thing and framebuffer:
             framebuffer.parts = {point: other for point, other in framebuffer.parts.items() if other is not thing}
 
-    def read_bits(self, thread):
-        """The bits of a component of what a thread reads from."""
+    def pixels(self, thread, place):
+        """The pixels of what a thread has bound as its framebuffer, or those of a surface of its own."""
         framebuffer = self.context(thread).bound.get("framebuffer")
         if framebuffer:
             attached = framebuffer.parts.get(COLOR)
-            return attached.parts.get(0, PLAIN) if attached else PLAIN
-        return self.bits.get(self.current[thread][1], PLAIN)
+            return attached.parts.get(0) or Pixels() if attached else Pixels()
+        return self.surfaces.get(self.current[thread][place]) or Pixels()
+
+    def drawn_to(self, thread):
+        return self.pixels(thread, 0)
+
+    def read_from(self, thread):
+        return self.pixels(thread, 1)

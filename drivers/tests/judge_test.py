@@ -13,7 +13,7 @@ from c_program import c_program
 from judge import Difference, judge
 from logs import Malformed, read
 from oracle import Oracle
-from waivers import Waiver, waive
+from waivers import Waiver, cure_of, waive
 
 INNER = ("census", "readFront", "readBuffer")
 PRE = """egl-log 1 2
@@ -38,6 +38,8 @@ CASES = [
     ("handles by the map", "0 eglGetCurrentContext => ok 78\n0 eglGetCurrentSurface EGL_DRAW => ok 78\n0 eglGetCurrentDisplay => ok 1390\n", "difference 10 value 77 78"),
     ("configs by their sizes", "0 eglGetConfigs $d => ok 1 [7,12,9]\n0 eglQuerySurface $d $s EGL_CONFIG_ID => ok 12\n0 eglCreatePbufferSurface $d 9 [] => ok 80\n0 eglGetConfigAttrib $d 12 EGL_NATIVE_VISUAL_ID => ok 33\n", "unjudged 11 config"),
     ("names by the map", "0 $t = glGenTextures 2 => ok 0 [2,1]\n0 glBindTexture GL_TEXTURE_2D $t.0 => ok 0\n0 glGetIntegerv GL_TEXTURE_BINDING_2D 0 => ok 2\n0 glBindTexture GL_TEXTURE_2D 1 => ok 0\n0 glDeleteTextures [$t.0,$t.1] => ok 0\n0 glBindTexture GL_TEXTURE_2D 1 => ok 0\n0 glGetIntegerv GL_TEXTURE_BINDING_2D 0 => ok 1\n", "unjudged 12 name"),
+    ("what rests on the binding of another name isn't judged", "0 $r = glGenRenderbuffersOES 2 => ok 0 [2,1]\n0 glBindRenderbufferOES GL_RENDERBUFFER_OES 1 => ok 0\n0 glRenderbufferStorageOES GL_RENDERBUFFER_OES GL_RGBA4_OES 1 1 => GL_INVALID_OPERATION\n0 glBindRenderbufferOES GL_RENDERBUFFER_OES $r.0 => ok 0\n0 glRenderbufferStorageOES GL_RENDERBUFFER_OES GL_RGBA4_OES 1 1 => ok 0\n", "unjudged 10 name\nafter 11 10"),
+    ("nor what is drawn with another texture", "0 $t = glGenTextures 2 => ok 0 [2,1]\n0 glBindTexture GL_TEXTURE_2D 1 => ok 0\n0 glDrawTexiOES 0 0 0 1 1 => ok 0\n0 glBindTexture GL_TEXTURE_2D 0 => ok 0\n0 glReadPixels 0 0 1 1 GL_RGBA GL_UNSIGNED_BYTE => ok 0 [] 01020304\n1 eglGetError => ok EGL_SUCCESS\n", "unjudged 10 name\nafter 11 10\nafter 12 10\nafter 13 10"),
     ("names that aren't apart", "0 $t = glGenTextures 2 => ok 0 [1,1]\n0 glBindTexture GL_TEXTURE_2D $t.0 => ok 0\n", "difference 9 list [1,2] [1,1]\nafter 10 9"),
     ("a fence that is signalled early", "0 $y = eglCreateSync $d EGL_SYNC_FENCE [] => ok 5\n1 eglGetSyncAttrib $d $y EGL_SYNC_STATUS => ok EGL_SIGNALED\n1 eglClientWaitSync $d $y 0 EGL_FOREVER => ok EGL_CONDITION_SATISFIED\n0 eglGetError => ok EGL_SUCCESS\n", ""),
     ("a fence that isn't signalled late", "0 $y = eglCreateSync $d EGL_SYNC_FENCE [] => ok 5\n0 eglClientWaitSync $d $y 0 0 => ok EGL_TIMEOUT_EXPIRED\n0 glFlush => ok 0\n1 eglClientWaitSync $d $y 0 0 => ok EGL_TIMEOUT_EXPIRED\n", "difference 12 value EGL_CONDITION_SATISFIED EGL_TIMEOUT_EXPIRED"),
@@ -185,6 +187,19 @@ class Tests:
         program_text = c_program(read(Wrong().log("\n".join(small) + "\n")), "a title", ["an end"])
         self.check("a program in C has each call", [name for name in ("eglInitialize(v_d, NULL, NULL)", "v_s = eglCreatePbufferSurface(v_d", "glScissor(0, 0, 1, 1)", "glReadPixels(0, 0, 1, 1, GL_RGBA, GL_UNSIGNED_BYTE, pixels)") if name not in program_text], [])
 
+    def unwritten(self):
+        """Pixels that are to be zero count as any where they were never written, or lie outside."""
+        for name, lines, wanted in [
+            ("pixels that were never written", "", [True]),
+            ("pixels that were cleared", "0 glClear GL_COLOR_BUFFER_BIT => ok 0\n", [False]),
+            ("pixels of which a part was cleared", "0 glEnable GL_SCISSOR_TEST => ok 0\n0 glClear GL_COLOR_BUFFER_BIT => ok 0\n", [True]),
+            ("pixels of a copy from outside", "0 glClear GL_COLOR_BUFFER_BIT => ok 0\n0 glCopyTexImage2D GL_TEXTURE_2D 0 GL_RGBA 1 0 2 1 0 => ok 0\n0 glTexParameterx GL_TEXTURE_2D GL_TEXTURE_MIN_FILTER GL_NEAREST => ok 0\n0 glEnable GL_TEXTURE_2D => ok 0\n0 glDrawTexiOES 0 0 0 1 1 => ok 0\n", [True]),
+        ]:
+            log = PRE + lines + "0 glReadPixels 0 0 1 1 GL_RGBA GL_UNSIGNED_BYTE => ok 0 [] 01020304\n"
+            self.check(name, [difference.is_zero for difference in judge(log, 0, self.oracle).differences], wanted)
+        log = PRE + "0 glClear GL_COLOR_BUFFER_BIT => ok 0\n0 glReadPixels 2 0 1 1 GL_RGBA GL_UNSIGNED_BYTE => ok 0 [] 01020304\n"
+        self.check("pixels outside", [difference.is_zero for difference in judge(log, 0, self.oracle).differences], [True])
+
     def waived(self):
         waivers = [Waiver("", "gl*", "pixels", "1", "*", None), Waiver("", "glEnable", "GL_INVALID_ENUM", "ok", "some_*", None), Waiver("", "eglGetError", "*", "*", "*", "glFlush")]
         pixels = Difference(3, "pixels", "00", "01", "1 1 1 0 0 0 0 0 0 00 01", "glReadPixels")
@@ -192,6 +207,10 @@ class Tests:
         log = "egl-log 1 1\n0 glFinish => ok 0\n"
         self.check("differences are waived, with the error that is asked for behind them", waive(waivers, "some trace", [pixels, enable, asked], log), [])
         self.check("and others aren't", waive(waivers, "a trace", [pixels, enable, asked], log), [enable, asked])
+        cured = [Waiver("", "gl*", "pixels", "1", "*", None, "colour")]
+        self.check("a waiver with a cure covers nothing itself", waive(cured, "a trace", [pixels], log), [pixels])
+        self.check("but says how to play again", cure_of(cured, "a trace", [pixels], log), cured[0])
+        self.check("and not where another covers it", cure_of(cured + waivers, "a trace", [pixels], log), None)
         self.check("nor are those behind a call that isn't there", len(waive(waivers, "a", [Difference(6, "value", "1", "2", "", "eglGetError")], log)), 1)
 
     def converted(self):
@@ -217,7 +236,7 @@ def script(name):
 def main():
     path = sys.argv[sys.argv.index("--program") + 1] if "--program" in sys.argv else None
     tests = Tests(Oracle(path))
-    for part in (tests.relations, tests.shrinks, tests.waived, tests.converted, tests.drawn):
+    for part in (tests.relations, tests.unwritten, tests.shrinks, tests.waived, tests.converted, tests.drawn):
         part()
     tests.own_runs()
     print(f"{tests.count} tests, {tests.failed} failed")
