@@ -1,6 +1,7 @@
 //! Logs of a driver, and of how many of their lines something is told.
 use crate::log_texts::log;
 use driver_judge::judge;
+use egl_judge::judgement_text;
 
 /// A log; how many of its lines agree, how many of these with a value that is the driver's own, and how many don't.
 type Row = (&'static str, u64, u64, u64);
@@ -55,4 +56,26 @@ fn lines_agree_or_are_told(rt: HostRuntime) {
             "{text}"
         );
     }
+}
+
+/// A call that was carried out and should have been refused, and the call that was under way at the end.
+static DIFFERS: &str = "egl-log 1 1\n0 eglTerminate 9 => ok 1\n0 eglGetDisplay 0\ncrash SIGSEGV\n";
+
+static DIFFERS_TEXT: &str = "\
+judged 1 agreed 0 differences 1 after 0 unjudged 0 own 0 cut
+difference 2 outcome EGL_BAD_DISPLAY ok
+cut 3 eglGetDisplay SIGSEGV
+end
+";
+
+#[test]
+fn what_is_told_of_a_log(rt: HostRuntime) {
+    let log = log(&rt, rt.alloc(), DIFFERS);
+    let Ok(judgement) = judge(rt.alloc(), &log, 0) else {
+        panic!(rt; "no memory");
+    };
+    let Ok(text) = judgement_text(rt.alloc(), &judgement) else {
+        panic!(rt; "no memory");
+    };
+    assert_eq!(rt; text.as_slice(), DIFFERS_TEXT.as_bytes());
 }
