@@ -3,3 +3,4 @@ pub mod Causes
 pub mod Memory
 pub mod Statuses
 pub mod Inputs
+pub mod Responses

@@ -8,6 +8,7 @@
 mod inputs;
 mod memory;
 mod reading;
+mod responding;
 mod statuses;
 mod streams;
 mod telling;
@@ -17,6 +18,7 @@ mod writing;
 pub use inputs::{MOST_INPUT, READ_FAULT_TEXT, TOO_LONG_TEXT};
 pub use memory::{MemorySink, MemorySource};
 pub use reading::{Failed, ReadError, Source, read_all};
+pub use responding::{Answer, Responder, respond};
 pub use statuses::Status;
 pub use streams::{StdSink, StdSource};
 pub use telling::finish;
