@@ -16,24 +16,23 @@ use Rattle.egl_calls.specs.Ranges.{unsigned}
 use Rattle.egl_names.specs.declared.codes.TheConstants.{GL_RGB, GL_RGBA, GL_UNSIGNED_BYTE, GL_UNSIGNED_SHORT_5_6_5}
 use Rattle.call_rules.specs.declared.gl_facts.GlFacts.{GlFacts}
 use Rattle.refusal_rows.specs.Rows.{AllOff, IsFirst, Row, ◌⇒◌, first_error}
-use Rattle.call_table.specs.Roles.{is_own_state}
-use Rattle.call_table.specs.Rows.{gl_role, gl_rules, own_rules}
-use Rattle.context_state.specs.Kinds.{context_gl_call}
+use Rattle.call_table.specs.Rows.{gl_rules, own_rules}
 use Rattle.egl_calls.specs.Arguments.{number, signed}
 use Rattle.pixel_rows.specs.Rects.{IsInSide}
 use Rattle.call_rules.specs.GlRules.{buffer_bits, is_read_format, is_read_type, is_read_pair, read_format, read_type, gl_rows, gl_rows_by, gl_refusal, no_gl_facts, ruled}
-use Rattle.call_rules.specs.TextureRules.{is_no_level_side, is_no_part}
+use Rattle.call_rules.specs.TextureRules.{is_image_format, is_image_type, is_no_level_side, is_no_part}
+use Rattle.texture_objects.specs.Forms.{form_of}
 use Rattle.call_rules.specs.GlAllowed.{but_last, ClearAllowed, CopyAllowed, CopyAsked, CopyPartAllowed, ImageAllowed, ImageAsked, IsSide, PartAllowed, ReadAllowed, BufferPartAllowed, DataAsked, StorageAllowed, StorageAsked}
 use Rattle.call_rules.specs.RenderbufferRules.{is_no_side}
 use Rattle.refusal_rows.proofs.RowLaws.{all_off, first_is, first_of, from_others, none_on, past_off}
-use Rattle.call_rules.proofs.TestLaws.{not_below, is_not_below, within, past, is_past}
+use Rattle.call_rules.proofs.TestLaws.{not_below, is_not_below, within, past, is_past, given_last, unless}
 
 -- the rows of a call before the last, and a last one that asks for bytes
 abbrev asked : GlKind → CallValue → GlFacts → List (Row GlError)
 asked k c f = ruled (but_last (gl_rules k)) c f
 
-abbrev memory_row : GlFacts → Row GlError
-memory_row f = nat_lt f.video_limit (f.live_bytes + f.new_bytes) ⇒ OutOfMemory
+abbrev memory_row : GlFacts → ℕ → Row GlError
+memory_row f bytes = nat_lt f.video_limit (f.live_bytes + bytes) ⇒ OutOfMemory
 
 of_kind : (c : CallValue) (f : GlFacts) (k : GlKind) → c.kind ≡ Gl k → gl_refusal c f ≡ first_error (gl_rows k c f)
 unfolding gl_refusal
@@ -87,7 +86,7 @@ read_allowed c f h n =
     record {
       width = side _ sides.0;
       height = side _ sides.1;
-      pair = pair (read_format c) (read_type c) GL_RGBA GL_RGB GL_UNSIGNED_BYTE GL_UNSIGNED_SHORT_5_6_5 (not-false _ a.1.1.0);
+      pair = pair (read_format c) (read_type c) GL_RGBA GL_RGB GL_UNSIGNED_BYTE GL_UNSIGNED_SHORT_5_6_5 (not-false _ (given_last (not (is_read_pair (read_format c) (read_type c))) (is_read_format (read_format c) && is_read_type (read_type c)) (not-false _ a.1.0) a.1.1.0));
       complete = not-false _ a.1.1.1.0;
     }
 
@@ -105,13 +104,17 @@ read_passes c f h a = refused_not c f ReadPixels h (
   (
     off _ (pair_known (read_format c) (read_type c) a.pair),
     (
-      off _ (pair_read (read_format c) (read_type c) a.pair),
+      unless (is_read_pair (read_format c) (read_type c)) (is_read_format (read_format c) && is_read_type (read_type c)) (pair_read (read_format c) (read_type c) a.pair),
       (off _ a.complete, tt),
     ),
   ),
 )
 
 -- ---- Pixels that are given.
+-- a format and a type that there are, and that go together
+known_pair : (c : CallValue) → not (is_image_format (number c 6) && is_image_type (number c 7)) ≡ false → (not (is_some (form_of (number c 6) (number c 7))) && (is_image_format (number c 6) && is_image_type (number c 7))) ≡ false → is_some (form_of (number c 6) (number c 7)) ≡ true
+known_pair c k h = not-false _ (given_last (not (is_some (form_of (number c 6) (number c 7)))) (is_image_format (number c 6) && is_image_type (number c 7)) (not-false _ k) h)
+
 pub image_allowed : (c : CallValue) (f : GlFacts) → c.kind ≡ Gl TexImage2d → gl_refusal c f ≡ None → ImageAllowed c f
 image_allowed c f h n =
     let a = rows_off c f TexImage2d h n in
@@ -120,8 +123,8 @@ image_allowed c f h n =
       level = a.1.1.1.0;
       width = sides.0;
       height = sides.1;
-      form = not-false _ a.1.1.1.1.1.1.1.0;
-      room = within f.video_limit (f.live_bytes + f.new_bytes) a.1.1.1.1.1.1.1.1.0;
+      form = known_pair c a.1.0 a.1.1.1.1.1.1.1.0;
+      room = within f.video_limit (f.live_bytes + f.image_bytes) a.1.1.1.1.1.1.1.1.0;
     }
 
 -- where there are no more bytes
@@ -133,15 +136,15 @@ last : (b : Bool) (e : GlError) → first_error ((b ⇒ e) ∷ []) ≡ Some e �
 last true e h = refl
 last false e h = absurd (let g : Some e ≡ None = sym h in cc)
 
-pub image_wants : (c : CallValue) (f : GlFacts) → c.kind ≡ Gl TexImage2d → gl_refusal c f ≡ Some OutOfMemory → ImageAsked c × (f.video_limit < f.live_bytes + f.new_bytes)
+pub image_wants : (c : CallValue) (f : GlFacts) → c.kind ≡ Gl TexImage2d → gl_refusal c f ≡ Some OutOfMemory → ImageAsked c × (f.video_limit < f.live_bytes + f.image_bytes)
 image_wants c f h n =
-    let o = from_others is_out_of_memory OutOfMemory (asked TexImage2d c no_gl_facts) (memory_row f ∷ []) refl (refl, (refl, (refl, (refl, (refl, (refl, (refl, (refl, tt)))))))) (sym (of_kind c f TexImage2d h) ∙ n) in
-    (o.0, past f.video_limit (f.live_bytes + f.new_bytes) (last (nat_lt f.video_limit (f.live_bytes + f.new_bytes)) OutOfMemory o.1))
+    let o = from_others is_out_of_memory OutOfMemory (asked TexImage2d c no_gl_facts) (memory_row f f.image_bytes ∷ []) refl (refl, (refl, (refl, (refl, (refl, (refl, (refl, (refl, tt)))))))) (sym (of_kind c f TexImage2d h) ∙ n) in
+    (o.0, past f.video_limit (f.live_bytes + f.image_bytes) (last (nat_lt f.video_limit (f.live_bytes + f.image_bytes)) OutOfMemory o.1))
 
-pub wanting_image : (c : CallValue) (f : GlFacts) → c.kind ≡ Gl TexImage2d → ImageAsked c × (f.video_limit < f.live_bytes + f.new_bytes) → gl_refusal c f ≡ Some OutOfMemory
+pub wanting_image : (c : CallValue) (f : GlFacts) → c.kind ≡ Gl TexImage2d → ImageAsked c × (f.video_limit < f.live_bytes + f.image_bytes) → gl_refusal c f ≡ Some OutOfMemory
 wanting_image c f h w =
-    of_kind c f TexImage2d h ∙ past_off (asked TexImage2d c no_gl_facts) (memory_row f ∷ []) w.0
-    ∙ ap (λ b. first_error ((b ⇒ OutOfMemory) ∷ [])) (is_past f.video_limit (f.live_bytes + f.new_bytes) w.1)
+    of_kind c f TexImage2d h ∙ past_off (asked TexImage2d c no_gl_facts) (memory_row f f.image_bytes ∷ []) w.0
+    ∙ ap (λ b. first_error ((b ⇒ OutOfMemory) ∷ [])) (is_past f.video_limit (f.live_bytes + f.image_bytes) w.1)
 
 ends_inside : (side : ℕ) (a b : ℤ) → pos 0 ≤ℤ a → pos 0 ≤ℤ b → unsigned a + unsigned b ≤ side → (a +ℤ b) ≤ℤ pos side
 ends_inside side a b h k l = grind (arith, ints)
@@ -156,12 +159,14 @@ part_inside side first size h =
 pub part_allowed : (c : CallValue) (f : GlFacts) → c.kind ≡ Gl TexSubImage2d → gl_refusal c f ≡ None → PartAllowed c f
 part_allowed c f h n =
     let a = rows_off c f TexSubImage2d h n in
-    let sides = or_parts (is_no_part f.stored_width (signed c 2) (signed c 4)) (is_no_part f.stored_height (signed c 3) (signed c 5)) a.1.1.1.1.0 in
+    let stored = not-false f.is_stored a.1.1.1.0 in
+    let outside = is_no_part f.stored_width (signed c 2) (signed c 4) || is_no_part f.stored_height (signed c 3) (signed c 5) in
+    let sides = or_parts (is_no_part f.stored_width (signed c 2) (signed c 4)) (is_no_part f.stored_height (signed c 3) (signed c 5)) (given_last outside f.is_stored stored a.1.1.1.1.0) in
     record {
       level = a.1.1.0;
-      stored = not-false _ a.1.1.1.0;
+      stored = stored;
       inside = record { columns = part_inside f.stored_width (signed c 2) (signed c 4) sides.0; rows = part_inside f.stored_height (signed c 3) (signed c 5) sides.1 };
-      form = not-false _ a.1.1.1.1.1.1.0;
+      form = known_pair c a.1.0 a.1.1.1.1.1.1.0;
     }
 
 -- ---- Pixels that are copied.
@@ -174,49 +179,52 @@ copy_allowed c f h n =
       width = sides.0;
       height = sides.1;
       complete = not-false _ a.1.1.1.1.1.0;
-      room = within f.video_limit (f.live_bytes + f.new_bytes) a.1.1.1.1.1.1.1.0;
+      room = within f.video_limit (f.live_bytes + f.copied_bytes) a.1.1.1.1.1.1.1.0;
     }
 
-pub copy_wants : (c : CallValue) (f : GlFacts) → c.kind ≡ Gl CopyTexImage2d → gl_refusal c f ≡ Some OutOfMemory → CopyAsked c f × (f.video_limit < f.live_bytes + f.new_bytes)
+pub copy_wants : (c : CallValue) (f : GlFacts) → c.kind ≡ Gl CopyTexImage2d → gl_refusal c f ≡ Some OutOfMemory → CopyAsked c f × (f.video_limit < f.live_bytes + f.copied_bytes)
 copy_wants c f h n =
-    let o = from_others is_out_of_memory OutOfMemory (asked CopyTexImage2d c f) (memory_row f ∷ []) refl (refl, (refl, (refl, (refl, (refl, (refl, (refl, tt))))))) (sym (of_kind c f CopyTexImage2d h) ∙ n) in
-    (o.0, past f.video_limit (f.live_bytes + f.new_bytes) (last (nat_lt f.video_limit (f.live_bytes + f.new_bytes)) OutOfMemory o.1))
+    let o = from_others is_out_of_memory OutOfMemory (asked CopyTexImage2d c f) (memory_row f f.copied_bytes ∷ []) refl (refl, (refl, (refl, (refl, (refl, (refl, (refl, tt))))))) (sym (of_kind c f CopyTexImage2d h) ∙ n) in
+    (o.0, past f.video_limit (f.live_bytes + f.copied_bytes) (last (nat_lt f.video_limit (f.live_bytes + f.copied_bytes)) OutOfMemory o.1))
 
-pub wanting_copy : (c : CallValue) (f : GlFacts) → c.kind ≡ Gl CopyTexImage2d → CopyAsked c f × (f.video_limit < f.live_bytes + f.new_bytes) → gl_refusal c f ≡ Some OutOfMemory
+pub wanting_copy : (c : CallValue) (f : GlFacts) → c.kind ≡ Gl CopyTexImage2d → CopyAsked c f × (f.video_limit < f.live_bytes + f.copied_bytes) → gl_refusal c f ≡ Some OutOfMemory
 wanting_copy c f h w =
-    of_kind c f CopyTexImage2d h ∙ past_off (asked CopyTexImage2d c f) (memory_row f ∷ []) w.0
-    ∙ ap (λ b. first_error ((b ⇒ OutOfMemory) ∷ [])) (is_past f.video_limit (f.live_bytes + f.new_bytes) w.1)
+    of_kind c f CopyTexImage2d h ∙ past_off (asked CopyTexImage2d c f) (memory_row f f.copied_bytes ∷ []) w.0
+    ∙ ap (λ b. first_error ((b ⇒ OutOfMemory) ∷ [])) (is_past f.video_limit (f.live_bytes + f.copied_bytes) w.1)
 
 pub copy_part_allowed : (c : CallValue) (f : GlFacts) → c.kind ≡ Gl CopyTexSubImage2d → gl_refusal c f ≡ None → CopyPartAllowed c f
 copy_part_allowed c f h n =
     let a = rows_off c f CopyTexSubImage2d h n in
-    let sides = or_parts (is_no_part f.stored_width (signed c 2) (signed c 6)) (is_no_part f.stored_height (signed c 3) (signed c 7)) a.1.1.1.0 in
+    let stored = not-false f.is_stored a.1.1.0 in
+    let outside = is_no_part f.stored_width (signed c 2) (signed c 6) || is_no_part f.stored_height (signed c 3) (signed c 7) in
+    let sides = or_parts (is_no_part f.stored_width (signed c 2) (signed c 6)) (is_no_part f.stored_height (signed c 3) (signed c 7)) (given_last outside f.is_stored stored a.1.1.1.0) in
     record {
       level = a.1.0;
-      stored = not-false _ a.1.1.0;
+      stored = stored;
       columns = part_inside f.stored_width (signed c 2) (signed c 6) sides.0;
       rows = part_inside f.stored_height (signed c 3) (signed c 7) sides.1;
       complete = not-false _ a.1.1.1.1.0;
     }
 
 -- ---- Buffers.
-pub data_room : (c : CallValue) (f : GlFacts) → c.kind ≡ Gl BufferData → gl_refusal c f ≡ None → f.live_bytes + f.new_bytes ≤ f.video_limit
-data_room c f h n = within f.video_limit (f.live_bytes + f.new_bytes) (rows_off c f BufferData h n).1.1.1.1.0
+pub data_room : (c : CallValue) (f : GlFacts) → c.kind ≡ Gl BufferData → gl_refusal c f ≡ None → f.live_bytes + f.data_bytes ≤ f.video_limit
+data_room c f h n = within f.video_limit (f.live_bytes + f.data_bytes) (rows_off c f BufferData h n).1.1.1.1.0
 
-pub data_wants : (c : CallValue) (f : GlFacts) → c.kind ≡ Gl BufferData → gl_refusal c f ≡ Some OutOfMemory → DataAsked c f × (f.video_limit < f.live_bytes + f.new_bytes)
+pub data_wants : (c : CallValue) (f : GlFacts) → c.kind ≡ Gl BufferData → gl_refusal c f ≡ Some OutOfMemory → DataAsked c f × (f.video_limit < f.live_bytes + f.data_bytes)
 data_wants c f h n =
-    let o = from_others is_out_of_memory OutOfMemory (asked BufferData c f) (memory_row f ∷ []) refl (refl, (refl, (refl, (refl, tt)))) (sym (of_kind c f BufferData h) ∙ n) in
-    (o.0, past f.video_limit (f.live_bytes + f.new_bytes) (last (nat_lt f.video_limit (f.live_bytes + f.new_bytes)) OutOfMemory o.1))
+    let o = from_others is_out_of_memory OutOfMemory (asked BufferData c f) (memory_row f f.data_bytes ∷ []) refl (refl, (refl, (refl, (refl, tt)))) (sym (of_kind c f BufferData h) ∙ n) in
+    (o.0, past f.video_limit (f.live_bytes + f.data_bytes) (last (nat_lt f.video_limit (f.live_bytes + f.data_bytes)) OutOfMemory o.1))
 
-pub wanting_data : (c : CallValue) (f : GlFacts) → c.kind ≡ Gl BufferData → DataAsked c f × (f.video_limit < f.live_bytes + f.new_bytes) → gl_refusal c f ≡ Some OutOfMemory
+pub wanting_data : (c : CallValue) (f : GlFacts) → c.kind ≡ Gl BufferData → DataAsked c f × (f.video_limit < f.live_bytes + f.data_bytes) → gl_refusal c f ≡ Some OutOfMemory
 wanting_data c f h w =
-    of_kind c f BufferData h ∙ past_off (asked BufferData c f) (memory_row f ∷ []) w.0
-    ∙ ap (λ b. first_error ((b ⇒ OutOfMemory) ∷ [])) (is_past f.video_limit (f.live_bytes + f.new_bytes) w.1)
+    of_kind c f BufferData h ∙ past_off (asked BufferData c f) (memory_row f f.data_bytes ∷ []) w.0
+    ∙ ap (λ b. first_error ((b ⇒ OutOfMemory) ∷ [])) (is_past f.video_limit (f.live_bytes + f.data_bytes) w.1)
 
 buffer_part : (c : CallValue) (f : GlFacts) → AllOff (ruled (own_rules ReadBuffer) c f) → BufferPartAllowed c f
 buffer_part c f a =
     let o = or_parts (int_lt (signed c 1) (pos 0)) (int_lt (signed c 2) (pos 0)) a.1.0 in
-    record { offset = not_below _ _ o.0; size = not_below _ _ o.1; bound = not-false _ a.1.1.0; inside = within f.bound_size (number c 1 + number c 2) a.1.1.1.0 }
+    let bound = not-false f.is_buffer_bound a.1.1.0 in
+    record { offset = not_below _ _ o.0; size = not_below _ _ o.1; bound = bound; inside = within f.buffer_size (number c 1 + number c 2) (given_last (nat_lt f.buffer_size (number c 1 + number c 2)) f.is_buffer_bound bound a.1.1.1.0) }
 
 pub buffer_part_allowed : (c : CallValue) (f : GlFacts) → c.kind ≡ Gl BufferSubData → gl_refusal c f ≡ None → BufferPartAllowed c f
 buffer_part_allowed c f h n = buffer_part c f (rows_off c f BufferSubData h n)
@@ -235,18 +243,18 @@ storage_allowed c f h n =
       width = side _ sides.0;
       height = side _ sides.1;
       bound = not-false _ a.1.1.1.0;
-      room = within f.video_limit (f.live_bytes + f.new_bytes) a.1.1.1.1.0;
+      room = within f.video_limit (f.live_bytes + f.storage_bytes) a.1.1.1.1.0;
     }
 
-pub storage_wants : (c : CallValue) (f : GlFacts) → c.kind ≡ Gl RenderbufferStorage → gl_refusal c f ≡ Some OutOfMemory → StorageAsked c f × (f.video_limit < f.live_bytes + f.new_bytes)
+pub storage_wants : (c : CallValue) (f : GlFacts) → c.kind ≡ Gl RenderbufferStorage → gl_refusal c f ≡ Some OutOfMemory → StorageAsked c f × (f.video_limit < f.live_bytes + f.storage_bytes)
 storage_wants c f h n =
-    let o = from_others is_out_of_memory OutOfMemory (asked RenderbufferStorage c f) (memory_row f ∷ []) refl (refl, (refl, (refl, (refl, tt)))) (sym (of_kind c f RenderbufferStorage h) ∙ n) in
-    (o.0, past f.video_limit (f.live_bytes + f.new_bytes) (last (nat_lt f.video_limit (f.live_bytes + f.new_bytes)) OutOfMemory o.1))
+    let o = from_others is_out_of_memory OutOfMemory (asked RenderbufferStorage c f) (memory_row f f.storage_bytes ∷ []) refl (refl, (refl, (refl, (refl, tt)))) (sym (of_kind c f RenderbufferStorage h) ∙ n) in
+    (o.0, past f.video_limit (f.live_bytes + f.storage_bytes) (last (nat_lt f.video_limit (f.live_bytes + f.storage_bytes)) OutOfMemory o.1))
 
-pub wanting_storage : (c : CallValue) (f : GlFacts) → c.kind ≡ Gl RenderbufferStorage → StorageAsked c f × (f.video_limit < f.live_bytes + f.new_bytes) → gl_refusal c f ≡ Some OutOfMemory
+pub wanting_storage : (c : CallValue) (f : GlFacts) → c.kind ≡ Gl RenderbufferStorage → StorageAsked c f × (f.video_limit < f.live_bytes + f.storage_bytes) → gl_refusal c f ≡ Some OutOfMemory
 wanting_storage c f h w =
-    of_kind c f RenderbufferStorage h ∙ past_off (asked RenderbufferStorage c f) (memory_row f ∷ []) w.0
-    ∙ ap (λ b. first_error ((b ⇒ OutOfMemory) ∷ [])) (is_past f.video_limit (f.live_bytes + f.new_bytes) w.1)
+    of_kind c f RenderbufferStorage h ∙ past_off (asked RenderbufferStorage c f) (memory_row f f.storage_bytes ∷ []) w.0
+    ∙ ap (λ b. first_error ((b ⇒ OutOfMemory) ∷ [])) (is_past f.video_limit (f.live_bytes + f.storage_bytes) w.1)
 
 -- ---- Any call, by its rows.
 pub refused_first : (c : CallValue) (f : GlFacts) (k : GlKind) (e : GlError) → c.kind ≡ Gl k → gl_refusal c f ≡ Some e → IsFirst e (gl_rows k c f)
@@ -255,7 +263,7 @@ refused_first c f k e h n = first_of e (gl_rows k c f) (sym (of_kind c f k h) �
 pub first_refused : (c : CallValue) (f : GlFacts) (k : GlKind) (e : GlError) → c.kind ≡ Gl k → IsFirst e (gl_rows k c f) → gl_refusal c f ≡ Some e
 first_refused c f k e h n = of_kind c f k h ∙ first_is e (gl_rows k c f) n
 
--- ---- The table's role of a call; one kind stands apart, so that the others are tried one by one.
-pub told_role : (k : GlKind) → is_own_state (gl_role k) ≡ is_some (context_gl_call k)
-told_role GetError = refl
-told_role k = refl
+-- ---- The rows of a call are those of the table; one kind stands apart, so that the others are tried one by one.
+pub told_rows : (k : GlKind) (c : CallValue) (f : GlFacts) → gl_rows k c f ≡ ruled (gl_rules k) c f
+told_rows GetError c f = refl
+told_rows k c f = refl

@@ -60,7 +60,7 @@ pub record ImageAllowed (c : CallValue) (f : GlFacts) : Type 0 where
   pub width : is_no_level_side (number c LEVEL) (signed c IMAGE_WIDTH) ≡ false
   pub height : is_no_level_side (number c LEVEL) (signed c IMAGE_HEIGHT) ≡ false
   pub form : IsSome (given_form c)
-  pub room : f.live_bytes + f.new_bytes ≤ f.video_limit
+  pub room : f.live_bytes + f.image_bytes ≤ f.video_limit
 
 -- glTexSubImage2D (section 3.7.2): a level, a part of its storage, and a format and a type that go together
 pub record PartAllowed (c : CallValue) (f : GlFacts) : Type 0 where
@@ -79,7 +79,7 @@ pub record CopyAllowed (c : CallValue) (f : GlFacts) : Type 0 where
   pub width : is_no_level_side (number c LEVEL) (signed c COPIED_WIDTH) ≡ false
   pub height : is_no_level_side (number c LEVEL) (signed c COPIED_HEIGHT) ≡ false
   pub complete : f.is_framebuffer_complete ≡ true
-  pub room : f.live_bytes + f.new_bytes ≤ f.video_limit
+  pub room : f.live_bytes + f.copied_bytes ≤ f.video_limit
 
 -- glCopyTexSubImage2D (section 3.7.2): a level and a part of its storage
 pub record CopyPartAllowed (c : CallValue) (f : GlFacts) : Type 0 where
@@ -97,8 +97,8 @@ DataAsked c f = IsAsked BufferData c f
 pub record BufferPartAllowed (c : CallValue) (f : GlFacts) : Type 0 where
   pub offset : pos 0 ≤ℤ signed c BUFFER_OFFSET
   pub size : pos 0 ≤ℤ signed c BUFFER_PART_SIZE
-  pub bound : f.is_bound ≡ true
-  pub inside : number c BUFFER_OFFSET + number c BUFFER_PART_SIZE ≤ f.bound_size
+  pub bound : f.is_buffer_bound ≡ true
+  pub inside : number c BUFFER_OFFSET + number c BUFFER_PART_SIZE ≤ f.buffer_size
 
 -- glRenderbufferStorageOES (OES_framebuffer_object): nothing is wrong but that bytes may want
 abbrev pub StorageAsked : CallValue → GlFacts → Type 0
@@ -109,5 +109,5 @@ pub record StorageAllowed (c : CallValue) (f : GlFacts) : Type 0 where
   pub format : is_internal (number c STORED_FORMAT) ≡ true
   pub width : IsSide (signed c STORED_WIDTH)
   pub height : IsSide (signed c STORED_HEIGHT)
-  pub bound : f.is_bound ≡ true
-  pub room : f.live_bytes + f.new_bytes ≤ f.video_limit
+  pub bound : f.is_renderbuffer_bound ≡ true
+  pub room : f.live_bytes + f.storage_bytes ≤ f.video_limit

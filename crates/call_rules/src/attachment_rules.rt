@@ -10,7 +10,7 @@ use egl_names::codes::{
 };
 
 /// Whether a name is given; 0 detaches.
-pub(crate) fn attaches(call: &Call) -> bool
+pub fn attaches(call: &Call) -> bool
     ensures { result ≡ attaches call.now }
 {
     !is_zero(call, ATTACHED_NAME)

@@ -1,6 +1,6 @@
 //! When each call of EGL is refused.
 ghost use Rattle.std.specs.Prelude.{◌≡◌, ◌+◌, nat_lt, ◌<◌};
-ghost use Rattle.call_rules.specs.EglRules.{egl_refusal, egl_rows_by, egl_holds, has_attributes, has_code, is_one_alone, is_release_by, is_wrong, is_long, is_later_version, is_supported_version};
+ghost use Rattle.call_rules.specs.EglRules.{egl_refusal, egl_judged, egl_holds, no_facts, has_attributes, has_code, is_one_alone, is_release_by, is_wrong, is_long, is_later_version, is_supported_version};
 
 use crate::egl_facts::EglFacts;
 use call_table::{EglCondition, Role, egl_role, egl_rules};
@@ -15,26 +15,29 @@ use egl_names::codes::{
 };
 use refusal_rows::{Judge, Verdict};
 
-fn is_long(side: i64) -> bool
+/// Whether a side of a pbuffer is above 2,048.
+pub fn is_long(side: i64) -> bool
     ensures { result ≡ is_long side }
 {
     side > 2_048
 }
 
 /// Whether so many in all are more than the limit.
-pub(crate) fn exceeds(limit: u64, live: u64, new: u64) -> bool
+pub fn exceeds(limit: u64, live: u64, new: u64) -> bool
     ensures { result ≡ nat_lt limit (live + new) }
 {
     u128::from(live) + u128::from(new) > u128::from(limit)
 }
 
-fn is_later_version(version: i64, minor: i64) -> bool
+/// Whether there is such a version of OpenGL ES, which no config supports.
+pub fn is_later_version(version: i64, minor: i64) -> bool
     ensures { result ≡ is_later_version version minor }
 {
     version == 2 && minor == 0 || version == 3 && (minor == 0 || minor == 1 || minor == 2)
 }
 
-fn is_supported_version(version: i64, minor: i64) -> bool
+/// Whether it is OpenGL ES 1.0 or 1.1.
+pub fn is_supported_version(version: i64, minor: i64) -> bool
     ensures { result ≡ is_supported_version version minor }
 {
     version == 1 && (minor == 0 || minor == 1)
@@ -74,7 +77,7 @@ fn is_one_alone(call: &Call) -> bool
 fn is_release_by(role: Role, call: &Call) -> bool
     ensures { result ≡ is_release_by role call.now }
 {
-    matches!(role, Role::Binds)
+    matches!(role, Role::MakesCurrent)
         && is_zero(call, DRAW)
         && is_zero(call, READ)
         && is_zero(call, CONTEXT)
@@ -100,14 +103,24 @@ impl<'a> Judge<EglCondition> for EglCase<'a> {
             EglCondition::NoContext => !facts.is_context,
             EglCondition::NoSync => !facts.is_sync,
             EglCondition::NoImage => !facts.is_image,
-            EglCondition::NoAttribute => !facts.is_attribute,
-            EglCondition::WrongList => !facts.is_list_allowed,
+            EglCondition::NoConfigAttribute => !facts.is_config_attribute,
+            EglCondition::NoSurfaceAttribute => !facts.is_surface_attribute,
+            EglCondition::NoContextAttribute => !facts.is_context_attribute,
+            EglCondition::NoSyncAttribute => !facts.is_sync_attribute,
+            EglCondition::WrongConfigList => !facts.is_config_list,
+            EglCondition::WrongWindowList => !facts.is_window_list,
+            EglCondition::WrongPbufferList => !facts.is_pbuffer_list,
+            EglCondition::WrongContextList => !facts.is_context_list,
+            EglCondition::WrongImageList => !facts.is_image_list,
             EglCondition::SomeList => has_attributes(call),
-            EglCondition::NoVideo => {
-                exceeds(facts.video_limit, facts.live_bytes, facts.new_bytes)
+            EglCondition::NoWindowVideo => {
+                exceeds(facts.video_limit, facts.live_bytes, facts.window_bytes)
+            }
+            EglCondition::NoPbufferVideo => {
+                exceeds(facts.video_limit, facts.live_bytes, facts.pbuffer_bytes)
             }
             EglCondition::NoHandle => facts.are_handles_used_up,
-            EglCondition::NoWindowBit => !facts.is_window_config,
+            EglCondition::NoWindowBit => !facts.is_window_config && facts.is_config,
             EglCondition::NoWindow => !facts.is_window,
             EglCondition::WindowUsed => facts.is_window_used,
             EglCondition::NegativeSide => facts.width < 0 || facts.height < 0,
@@ -121,13 +134,16 @@ impl<'a> Judge<EglCondition> for EglCase<'a> {
             }
             EglCondition::NoApi => !has_code(call, API, EGL_OPENGL_ES_API),
             EglCondition::NoShare => !facts.is_share,
-            EglCondition::ShareElsewhere => !facts.is_share_here,
+            EglCondition::ShareElsewhere => !facts.is_share_here && facts.is_share,
             EglCondition::LaterVersion => is_later_version(facts.version, facts.minor_version),
-            EglCondition::NoVersion => !is_supported_version(facts.version, facts.minor_version),
+            EglCondition::NoVersion => {
+                !is_supported_version(facts.version, facts.minor_version)
+                    && !is_later_version(facts.version, facts.minor_version)
+            }
             EglCondition::WrongSurface => {
                 is_wrong(call, DRAW, facts.is_draw) || is_wrong(call, READ, facts.is_read)
             }
-            EglCondition::WrongContext => is_wrong(call, CONTEXT, facts.is_context),
+            EglCondition::WrongContext => is_wrong(call, CONTEXT, facts.is_given_context),
             EglCondition::WithoutContext => is_zero(call, CONTEXT),
             EglCondition::OneSurface => is_one_alone(call),
             EglCondition::NotCompatible => is_wrong(call, DRAW, facts.is_compatible),
@@ -144,26 +160,35 @@ impl<'a> Judge<EglCondition> for EglCase<'a> {
                 !(has_code(call, IMAGE_SOURCE, EGL_GL_TEXTURE_2D)
                     || has_code(call, IMAGE_SOURCE, EGL_GL_RENDERBUFFER))
             }
-            EglCondition::NoPixels => !facts.is_source,
+            EglCondition::NoPixels => !facts.is_source && facts.is_context,
             EglCondition::NotComplete => facts.is_incomplete,
-            EglCondition::NoLevel => !facts.is_level,
+            EglCondition::NoLevel => !facts.is_level && facts.is_source,
             EglCondition::Sibling => facts.is_sibling,
-            EglCondition::NotDrawnTo => !facts.is_drawn_to,
+            EglCondition::NotDrawnTo => !facts.is_drawn_to && facts.is_surface,
         }
     }
 }
 
-/// What the rows of a call of EGL tell, in the order of the tests. A call of another interface has no row.
-pub fn egl_verdict<V: Verdict<EglError>>(call: &Call, facts: &EglFacts) -> V
-    ensures { result ≡ V.told (egl_rows_by call.now.kind call.now facts.now) }
+/// Whether a condition that asks for nothing but the call holds. One that asks for more holds as it does where no fact does.
+pub fn egl_call_meets(condition: EglCondition, call: &Call) -> bool
+    ensures { result ≡ egl_holds condition call.now no_facts }
+{
+    let facts = &EglFacts::none();
+    let case = EglCase { call, facts };
+    case.holds(condition)
+}
+
+/// What the rows of a call of EGL tell, in the order of the tests, their conditions held against a judge. A call of another interface has no row.
+pub fn egl_verdict<V: Verdict<EglError>, J: Judge<EglCondition>>(judge: &J, call: &Call) -> V
+    ensures { result ≡ V.told (egl_judged (J.meets judge.now) call.now.kind call.now) }
 {
     let Kind::Egl(kind) = call.kind else {
         return V::tell(&[]);
     };
     if is_release_by(egl_role(kind), call) {
-        return V::tell(&[(!facts.is_display, EglError::BadDisplay)]);
+        return V::tell(&[(judge.holds(EglCondition::NoDisplay), EglError::BadDisplay)]);
     }
-    V::judge(&EglCase { call, facts }, egl_rules(kind))
+    V::judge(judge, egl_rules(kind))
 }
 
 /// The error that a call of EGL answers, and None where it isn't refused: that of the first of its rows that holds.
@@ -171,5 +196,5 @@ pub fn egl_verdict<V: Verdict<EglError>>(call: &Call, facts: &EglFacts) -> V
 pub fn egl_refusal(call: &Call, facts: &EglFacts) -> Option<EglError>
     ensures { result ≡ egl_refusal call.now facts.now }
 {
-    egl_verdict(call, facts)
+    egl_verdict(&EglCase { call, facts }, call)
 }

@@ -1,8 +1,8 @@
 //! When each call of OpenGL ES is refused.
-ghost use Rattle.std.specs.Prelude.{◌≡◌, ◌<◌, ◌||◌};
+ghost use Rattle.std.specs.Prelude.{◌≡◌, ◌<◌, ◌||◌, ◌&&◌, not};
 ghost use Rattle.egl_calls.specs.Arguments.{number, signed};
-ghost use Rattle.call_rules.specs.TextureRules.{is_no_level_side, is_no_part};
-ghost use Rattle.call_rules.specs.GlRules.{gl_refusal, gl_rows_by, gl_holds, draws_nothing, is_clear_mask, is_read_format, is_read_type, is_read_pair};
+ghost use Rattle.call_rules.specs.TextureRules.{is_image_format, is_image_type, is_no_level_side, is_no_part};
+ghost use Rattle.call_rules.specs.GlRules.{gl_refusal, gl_judged, gl_holds, no_gl_facts, draws_nothing, is_clear_mask, is_read_format, is_read_type, is_read_pair, read_format, read_type};
 
 use crate::attachment_rules::{attaches, is_attachment_parameter};
 use crate::buffer_rules::{is_buffer_parameter, is_buffer_target, is_usage};
@@ -14,7 +14,7 @@ use crate::texture_rules::{
     is_image_format, is_image_type, is_no_count, is_no_level, is_no_level_side, is_no_part,
 };
 use call_table::{GlCondition, gl_rules, own_rules};
-use context_state::context_gl_call;
+use context_state::{context_gl_call, context_meets};
 use egl_calls::arguments::{is_zero, number, signed};
 use egl_calls::places::{
     ATTACHED_LEVEL, ATTACHED_TARGET, ATTACHMENT, ATTACHMENT_PNAME, BORDER, BOUND_NAME, BOUND_PARAM,
@@ -61,6 +61,27 @@ fn is_read_pair(format: u64, kind: u64) -> bool
         || format == GL_RGB && kind == GL_UNSIGNED_SHORT_5_6_5
 }
 
+/// Whether there is the format, and the type of its components, of pixels that are read.
+fn has_read_kind(call: &Call) -> bool
+    ensures { result ≡ (is_read_format (read_format call.now) && is_read_type (read_type call.now)) }
+{
+    is_read_format(number(call, FORMAT)) && is_read_type(number(call, TYPE))
+}
+
+/// The same of pixels that are given.
+fn has_image_kind(call: &Call) -> bool
+    ensures { result ≡ (is_image_format (number call.now IMAGE_FORMAT) && is_image_type (number call.now IMAGE_TYPE)) }
+{
+    is_image_format(number(call, IMAGE_FORMAT)) && is_image_type(number(call, IMAGE_TYPE))
+}
+
+/// Whether there are pixels to be read, and they have no alpha.
+fn lacks_alpha(facts: &GlFacts) -> bool
+    ensures { result ≡ (not facts.now.has_read_alpha && facts.now.is_framebuffer_complete) }
+{
+    !facts.has_read_alpha && facts.is_framebuffer_complete
+}
+
 fn draws_nothing(call: &Call) -> bool
     ensures { result ≡ draws_nothing call.now }
 {
@@ -75,19 +96,19 @@ fn has_no_level_side(call: &Call, width: usize, height: usize) -> bool
     is_no_level_side(level, signed(call, width)) || is_no_level_side(level, signed(call, height))
 }
 
-fn is_outside(call: &Call, facts: &GlFacts, width: usize, height: usize) -> bool
+/// Whether a part doesn't lie within a level's sides; its own stand at two places.
+pub fn is_outside(
+    call: &Call,
+    stored_width: u64,
+    stored_height: u64,
+    width: usize,
+    height: usize,
+) -> bool
     requires { (width < 8) × (height < 8) }
-    ensures { result ≡ (is_no_part facts.now.stored_width (signed call.now X_OFFSET) (signed call.now width) || is_no_part facts.now.stored_height (signed call.now Y_OFFSET) (signed call.now height)) }
+    ensures { result ≡ (is_no_part stored_width (signed call.now X_OFFSET) (signed call.now width) || is_no_part stored_height (signed call.now Y_OFFSET) (signed call.now height)) }
 {
-    is_no_part(
-        facts.stored_width,
-        signed(call, X_OFFSET),
-        signed(call, width),
-    ) || is_no_part(
-        facts.stored_height,
-        signed(call, Y_OFFSET),
-        signed(call, height),
-    )
+    is_no_part(stored_width, signed(call, X_OFFSET), signed(call, width))
+        || is_no_part(stored_height, signed(call, Y_OFFSET), signed(call, height))
 }
 
 /// A call, and the facts about the state in which it is made.
@@ -107,33 +128,42 @@ impl<'a> Judge<GlCondition> for GlCase<'a> {
             GlCondition::NoBufferTarget => !is_buffer_target(number(call, TARGET)),
             GlCondition::NoRenderbufferTarget => number(call, TARGET) != GL_RENDERBUFFER_OES,
             GlCondition::NoFramebufferTarget => number(call, TARGET) != GL_FRAMEBUFFER_OES,
-            GlCondition::NothingBound => !facts.is_bound,
+            GlCondition::NoBufferBound => !facts.is_buffer_bound,
+            GlCondition::NoRenderbufferBound => !facts.is_renderbuffer_bound,
+            GlCondition::NoFramebufferBound => !facts.is_framebuffer_bound,
             GlCondition::WrongCount => is_no_count(signed(call, COUNT)),
             GlCondition::NegativeName => signed(call, BOUND_NAME) < 0,
-            GlCondition::NoVideo => {
-                exceeds(facts.video_limit, facts.live_bytes, facts.new_bytes)
+            GlCondition::NoImageVideo => {
+                exceeds(facts.video_limit, facts.live_bytes, facts.image_bytes)
+            }
+            GlCondition::NoCopiedVideo => {
+                exceeds(facts.video_limit, facts.live_bytes, facts.copied_bytes)
+            }
+            GlCondition::NoDataVideo => {
+                exceeds(facts.video_limit, facts.live_bytes, facts.data_bytes)
+            }
+            GlCondition::NoStorageVideo => {
+                exceeds(facts.video_limit, facts.live_bytes, facts.storage_bytes)
             }
             GlCondition::NotComplete => !facts.is_framebuffer_complete,
             GlCondition::NoBufferBit => !is_clear_mask(signed(call, MASK)),
             GlCondition::WrongReadSides => {
                 is_no_side(signed(call, WIDTH)) || is_no_side(signed(call, HEIGHT))
             }
-            GlCondition::NoReadKind => {
-                !(is_read_format(number(call, FORMAT)) && is_read_type(number(call, TYPE)))
+            GlCondition::NoReadKind => { !has_read_kind(call) }
+            GlCondition::NoReadPair => {
+                !is_read_pair(number(call, FORMAT), number(call, TYPE)) && has_read_kind(call)
             }
-            GlCondition::NoReadPair => !is_read_pair(number(call, FORMAT), number(call, TYPE)),
             GlCondition::DrawsNothing => draws_nothing(call),
             GlCondition::NoCropParameter => number(call, BOUND_PNAME) != GL_TEXTURE_CROP_RECT_OES,
             GlCondition::WrongCropLength => call.list.len() != 4,
             GlCondition::NoTextureParameter => {
                 !is_parameter_pair(number(call, BOUND_PNAME), number(call, BOUND_PARAM))
             }
-            GlCondition::NoImageKind => {
-                !(is_image_format(number(call, IMAGE_FORMAT))
-                    && is_image_type(number(call, IMAGE_TYPE)))
-            }
+            GlCondition::NoImageKind => { !has_image_kind(call) }
             GlCondition::NoImagePair => {
                 form_of(signed(call, IMAGE_FORMAT), signed(call, IMAGE_TYPE)).is_none()
+                    && has_image_kind(call)
             }
             GlCondition::NoInternalFormat => !is_image_format(number(call, INTERNAL_FORMAT)),
             GlCondition::NoLevel => is_no_level(signed(call, LEVEL)),
@@ -143,27 +173,45 @@ impl<'a> Judge<GlCondition> for GlCase<'a> {
                 number(call, INTERNAL_FORMAT) != number(call, IMAGE_FORMAT)
             }
             GlCondition::NoStorage => !facts.is_stored,
-            GlCondition::OutsideLevel => is_outside(call, facts, PART_WIDTH, PART_HEIGHT),
-            GlCondition::OtherLevelFormat => number(call, IMAGE_FORMAT) != facts.stored_base,
+            GlCondition::OutsideLevel => {
+                is_outside(
+                    call,
+                    facts.stored_width,
+                    facts.stored_height,
+                    PART_WIDTH,
+                    PART_HEIGHT,
+                ) && facts.is_stored
+            }
+            GlCondition::OtherLevelFormat => {
+                number(call, IMAGE_FORMAT) != facts.stored_base && facts.is_stored
+            }
             GlCondition::WrongCopiedSides => has_no_level_side(call, COPIED_WIDTH, COPIED_HEIGHT),
             GlCondition::SomeCopiedBorder => !is_zero(call, COPIED_BORDER),
             GlCondition::NoInternalAlpha => {
-                has_alpha(number(call, INTERNAL_FORMAT)) && !facts.has_read_alpha
+                has_alpha(number(call, INTERNAL_FORMAT)) && lacks_alpha(facts)
             }
             GlCondition::CopiedOutsideLevel => {
-                is_outside(call, facts, COPIED_PART_WIDTH, COPIED_PART_HEIGHT)
+                is_outside(
+                    call,
+                    facts.stored_width,
+                    facts.stored_height,
+                    COPIED_PART_WIDTH,
+                    COPIED_PART_HEIGHT,
+                ) && facts.is_stored
             }
-            GlCondition::NoLevelAlpha => has_alpha(facts.stored_base) && !facts.has_read_alpha,
+            GlCondition::NoLevelAlpha => has_alpha(facts.stored_base) && lacks_alpha(facts),
             GlCondition::NoUsage => !is_usage(number(call, BUFFER_USAGE)),
             GlCondition::NegativeSize => signed(call, BUFFER_SIZE) < 0,
             GlCondition::NegativePart => {
                 signed(call, BUFFER_OFFSET) < 0 || signed(call, BUFFER_PART_SIZE) < 0
             }
-            GlCondition::PartBehindEnd => exceeds(
-                facts.bound_size,
-                number(call, BUFFER_OFFSET),
-                number(call, BUFFER_PART_SIZE),
-            ),
+            GlCondition::PartBehindEnd => {
+                exceeds(
+                    facts.buffer_size,
+                    number(call, BUFFER_OFFSET),
+                    number(call, BUFFER_PART_SIZE),
+                ) && facts.is_buffer_bound
+            }
             GlCondition::NoBufferParameter => !is_buffer_parameter(number(call, BOUND_PNAME)),
             GlCondition::NoRenderbufferFormat => !is_internal(number(call, STORED_FORMAT)),
             GlCondition::WrongStorageSides => {
@@ -173,7 +221,8 @@ impl<'a> Judge<GlCondition> for GlCase<'a> {
                 !is_renderbuffer_parameter(number(call, BOUND_PNAME))
             }
             GlCondition::NoAttachment => !is_attachment(number(call, ATTACHMENT)),
-            GlCondition::NoObjectNamed => attaches(call) && !facts.is_named,
+            GlCondition::NoTextureNamed => attaches(call) && !facts.is_texture_named,
+            GlCondition::NoRenderbufferNamed => attaches(call) && !facts.is_renderbuffer_named,
             GlCondition::NoAttachedTarget => {
                 attaches(call) && number(call, ATTACHED_TARGET) != GL_TEXTURE_2D
             }
@@ -187,23 +236,41 @@ impl<'a> Judge<GlCondition> for GlCase<'a> {
             GlCondition::NothingAttached => {
                 number(call, ATTACHMENT_PNAME) == GL_FRAMEBUFFER_ATTACHMENT_OBJECT_NAME_OES
                     && !facts.is_attached
+                    && facts.is_framebuffer_bound
             }
             GlCondition::NoImage => !facts.is_image,
-            GlCondition::NotRenderable => !facts.is_renderable,
+            GlCondition::NotRenderable => !facts.is_renderable && facts.is_image,
+            GlCondition::NoEnabledCapability
+            | GlCondition::NoCapability
+            | GlCondition::NegativeBox
+            | GlCondition::NoEnvironment
+            | GlCondition::NoStore
+            | GlCondition::NoAlignment
+            | GlCondition::NoContextParameter
+            | GlCondition::NoIndex => context_meets(condition, call),
         }
     }
 }
 
-/// What the rows of a call of OpenGL ES, or of a `readBuffer`, tell, in the order of the tests. Another call has no row.
-pub fn gl_verdict<V: Verdict<GlError>>(call: &Call, facts: &GlFacts) -> V
-    ensures { result ≡ V.told (gl_rows_by call.now.kind call.now facts.now) }
+/// Whether a condition that asks for nothing but the call holds. One that asks for more holds as it does where no fact does.
+pub fn gl_call_meets(condition: GlCondition, call: &Call) -> bool
+    ensures { result ≡ gl_holds condition call.now no_gl_facts }
+{
+    let facts = &GlFacts::none();
+    let case = GlCase { call, facts };
+    case.holds(condition)
+}
+
+/// What the rows of a call of OpenGL ES, or of a `readBuffer`, tell, in the order of the tests, their conditions held against a judge. Another call has no row.
+pub fn gl_verdict<V: Verdict<GlError>, J: Judge<GlCondition>>(judge: &J, call: &Call) -> V
+    ensures { result ≡ V.told (gl_judged (J.meets judge.now) call.now.kind call.now) }
 {
     match call.kind {
         Kind::Gl(kind) => match context_gl_call(kind) {
             Some(own) => context_state::verdict(own, call),
-            None => V::judge(&GlCase { call, facts }, gl_rules(kind)),
+            None => V::judge(judge, gl_rules(kind)),
         },
-        Kind::Own(kind) => V::judge(&GlCase { call, facts }, own_rules(kind)),
+        Kind::Own(kind) => V::judge(judge, own_rules(kind)),
         Kind::Egl(_) => V::tell(&[]),
     }
 }
@@ -213,5 +280,5 @@ pub fn gl_verdict<V: Verdict<GlError>>(call: &Call, facts: &GlFacts) -> V
 pub fn gl_refusal(call: &Call, facts: &GlFacts) -> Option<GlError>
     ensures { result ≡ gl_refusal call.now facts.now }
 {
-    gl_verdict(call, facts)
+    gl_verdict(&GlCase { call, facts }, call)
 }

@@ -10,6 +10,8 @@ use Rattle.egl_calls.specs.declared.kinds.OwnKind.TheVariants.{WaitEnd, Halt}
 use Rattle.egl_calls.specs.contracts.kinds.EglKind as egl_kinds
 use Rattle.egl_calls.specs.contracts.kinds.GlKind as gl_kinds
 use Rattle.egl_calls.specs.contracts.kinds.OwnKind as own_kinds
+use Rattle.call_table.specs.declared.answers.AnswerSort.{AnswerSort}
+use Rattle.call_table.specs.declared.answers.AnswerSort.TheVariants.{Same}
 use Rattle.call_table.specs.declared.egl_conditions.EglCondition.{EglCondition}
 use Rattle.call_table.specs.declared.egl_table.TheConstants.{EGL_CALLS}
 use Rattle.call_table.specs.declared.gl_conditions.GlCondition.{GlCondition}
@@ -34,6 +36,13 @@ egl_role k = slice_index_or (map (λ r. r.5) EGL_CALLS) (tag_of egl_kinds.the_ty
 
 abbrev pub gl_role : GlKind → Role
 gl_role k = slice_index_or (map (λ r. r.5) GL_CALLS) (tag_of gl_kinds.the_type k) Plain
+
+-- what a call answers
+abbrev pub egl_answers : EglKind → AnswerSort
+egl_answers k = slice_index_or (map (λ r. r.6) EGL_CALLS) (tag_of egl_kinds.the_type k) Same
+
+abbrev pub gl_answers : GlKind → AnswerSort
+gl_answers k = slice_index_or (map (λ r. r.6) GL_CALLS) (tag_of gl_kinds.the_type k) Same
 
 -- the kind in the row that is looked up for a kind
 abbrev pub egl_kind : EglKind → Option EglKind

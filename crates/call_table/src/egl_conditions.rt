@@ -4,13 +4,21 @@
 pub enum EglCondition {
     NoDisplay,
     NotInitialized,
-    WrongList,
+    WrongConfigList,
+    WrongWindowList,
+    WrongPbufferList,
+    WrongContextList,
+    WrongImageList,
     NoConfig,
-    NoAttribute,
+    NoConfigAttribute,
+    NoSurfaceAttribute,
+    NoContextAttribute,
+    NoSyncAttribute,
     NoWindowBit,
     NoWindow,
     WindowUsed,
-    NoVideo,
+    NoWindowVideo,
+    NoPbufferVideo,
     NoHandle,
     NegativeSide,
     LongSide,
@@ -52,15 +60,24 @@ impl EglCondition {
         match self {
             EglCondition::NoDisplay => "the display is none that eglGetDisplay gives",
             EglCondition::NotInitialized => "the display isn't initialized",
-            EglCondition::WrongList => {
+            EglCondition::WrongConfigList
+            | EglCondition::WrongWindowList
+            | EglCondition::WrongPbufferList
+            | EglCondition::WrongContextList
+            | EglCondition::WrongImageList => {
                 "the list has an attribute or a value that the call doesn't take"
             }
-            EglCondition::NoConfig => "the config is none of the display's",
-            EglCondition::NoAttribute => "there is no such attribute",
+            EglCondition::NoConfig => "there is no such config",
+            EglCondition::NoConfigAttribute => "there is no such attribute of a config",
+            EglCondition::NoSurfaceAttribute => "there is no such attribute of a surface",
+            EglCondition::NoContextAttribute => "there is no such attribute of a context",
+            EglCondition::NoSyncAttribute => "there is no such attribute of a sync",
             EglCondition::NoWindowBit => "the config has no EGL_WINDOW_BIT in EGL_SURFACE_TYPE",
             EglCondition::NoWindow => "the window isn't declared",
             EglCondition::WindowUsed => "a surface of the window exists already",
-            EglCondition::NoVideo => "too few bytes are left for the pixels",
+            EglCondition::NoWindowVideo | EglCondition::NoPbufferVideo => {
+                "too few bytes are left for the pixels"
+            }
             EglCondition::NoHandle => "the numbers of handles are used up",
             EglCondition::NegativeSide => "EGL_WIDTH or EGL_HEIGHT is negative",
             EglCondition::LongSide => {

@@ -1,14 +1,15 @@
 //! The calls of EGL (EGL 1.5, chapter 3).
 ghost use Rattle.std.specs.Prelude.{◌≡◌};
-ghost use Rattle.call_table.specs.Rows.{egl_role, egl_rules};
+ghost use Rattle.call_table.specs.Rows.{egl_answers, egl_role, egl_rules};
 
+use crate::answers::AnswerSort;
 use crate::egl_conditions::EglCondition;
 use crate::forms::Form;
 use crate::roles::Role;
 use display_table::HandleKind;
 use egl_calls::{EglError, EglKind};
 
-/// A call: the word that names it, its kind, the forms of its arguments in the order of the standard's parameters without those that are answered, a word for each, the conditions that refuse it with their errors in the order in which they are tried, and its role.
+/// A call: the word that names it, its kind, the forms of its arguments in the order of the standard's parameters without those that are answered, a word for each, the conditions that refuse it with their errors in the order in which they are tried, its role, and what it answers.
 pub type EglRow = (
     &'static str,
     EglKind,
@@ -16,11 +17,12 @@ pub type EglRow = (
     &'static [&'static str],
     &'static [(EglCondition, EglError)],
     Role,
+    AnswerSort,
 );
 
-/// A call: its kind and its name, its arguments, its role, and what refuses it.
+/// A call: its kind and its name, its arguments, its role, what it answers, and what refuses it.
 macro_rules! calls {
-    ($($kind:ident $name:literal [$($word:literal: $form:ident),*] $role:ident $(($handle:ident))? => [$($condition:ident: $error:ident),* $(,)?];)*) => {
+    ($($kind:ident $name:literal [$($word:literal: $form:ident),*] $role:ident $(($handle:ident))? -> $answers:ident $(($made:ident))? => [$($condition:ident: $error:ident),* $(,)?];)*) => {
         [$((
             $name,
             EglKind::$kind,
@@ -28,6 +30,7 @@ macro_rules! calls {
             &[$($word),*],
             &[$((EglCondition::$condition, EglError::$error)),*],
             Role::$role $((HandleKind::$handle))?,
+            AnswerSort::$answers $((HandleKind::$made))?,
         )),*]
     };
 }
@@ -35,70 +38,70 @@ macro_rules! calls {
 /// The calls, in the order of their kinds.
 pub static EGL_CALLS: [EglRow; 31] = calls![
     // Section 3.1
-    GetError "eglGetError" [] Plain => [];
+    GetError "eglGetError" [] OwnState -> Same => [];
     // Section 3.2
-    GetDisplay "eglGetDisplay" ["identifier": Number] Plain => [];
-    Initialize "eglInitialize" ["display": NumberOrVariable] Plain => [
+    GetDisplay "eglGetDisplay" ["identifier": Number] OwnState -> Displays => [];
+    Initialize "eglInitialize" ["display": NumberOrVariable] Plain -> Same => [
         NoDisplay: BadDisplay,
     ];
-    Terminate "eglTerminate" ["display": NumberOrVariable] Releases => [
+    Terminate "eglTerminate" ["display": NumberOrVariable] Releases -> Same => [
         NoDisplay: BadDisplay,
     ];
     // Section 3.4
-    GetConfigs "eglGetConfigs" ["display": NumberOrVariable] Plain => [
+    GetConfigs "eglGetConfigs" ["display": NumberOrVariable] Plain -> ConfigLists => [
         NoDisplay: BadDisplay,
         NotInitialized: NotInitialized,
     ];
     // Section 3.4.1
-    ChooseConfig "eglChooseConfig" ["display": NumberOrVariable, "attributes": AttributeList] Plain => [
+    ChooseConfig "eglChooseConfig" ["display": NumberOrVariable, "attributes": AttributeList] Plain -> ConfigLists => [
         NoDisplay: BadDisplay,
         NotInitialized: NotInitialized,
-        WrongList: BadAttribute,
+        WrongConfigList: BadAttribute,
     ];
     // Section 3.4.3
-    GetConfigAttrib "eglGetConfigAttrib" ["display": NumberOrVariable, "config": Number, "attribute": Number] Plain => [
+    GetConfigAttrib "eglGetConfigAttrib" ["display": NumberOrVariable, "config": Number, "attribute": Number] Plain -> ConfigAttributes => [
         NoDisplay: BadDisplay,
         NotInitialized: NotInitialized,
         NoConfig: BadConfig,
-        NoAttribute: BadAttribute,
+        NoConfigAttribute: BadAttribute,
     ];
     // Section 3.5.1
-    CreateWindowSurface "eglCreateWindowSurface" ["display": NumberOrVariable, "config": Number, "window": Number, "attributes": AttributeList] Creates(Surface) => [
+    CreateWindowSurface "eglCreateWindowSurface" ["display": NumberOrVariable, "config": Number, "window": Number, "attributes": AttributeList] Creates(Surface) -> Makes(Surface) => [
         NoDisplay: BadDisplay,
         NotInitialized: NotInitialized,
         NoConfig: BadConfig,
-        WrongList: BadAttribute,
+        WrongWindowList: BadAttribute,
         NoWindowBit: BadMatch,
         NoWindow: BadNativeWindow,
         WindowUsed: BadAlloc,
-        NoVideo: BadAlloc,
+        NoWindowVideo: BadAlloc,
         NoHandle: BadAlloc,
     ];
     // Section 3.5.2
-    CreatePbufferSurface "eglCreatePbufferSurface" ["display": NumberOrVariable, "config": Number, "attributes": AttributeList] Creates(Surface) => [
+    CreatePbufferSurface "eglCreatePbufferSurface" ["display": NumberOrVariable, "config": Number, "attributes": AttributeList] Creates(Surface) -> Makes(Surface) => [
         NoDisplay: BadDisplay,
         NotInitialized: NotInitialized,
         NoConfig: BadConfig,
-        WrongList: BadAttribute,
+        WrongPbufferList: BadAttribute,
         NegativeSide: BadParameter,
         LongSide: BadAlloc,
-        NoVideo: BadAlloc,
+        NoPbufferVideo: BadAlloc,
         NoHandle: BadAlloc,
     ];
     // Section 3.5.5
-    DestroySurface "eglDestroySurface" ["display": NumberOrVariable, "surface": NumberOrVariable] Destroys(Surface) => [
+    DestroySurface "eglDestroySurface" ["display": NumberOrVariable, "surface": NumberOrVariable] Destroys(Surface) -> Same => [
         NoDisplay: BadDisplay,
         NotInitialized: NotInitialized,
         NoSurface: BadSurface,
     ];
     // Section 3.5.6
-    QuerySurface "eglQuerySurface" ["display": NumberOrVariable, "surface": NumberOrVariable, "attribute": Number] Plain => [
+    QuerySurface "eglQuerySurface" ["display": NumberOrVariable, "surface": NumberOrVariable, "attribute": Number] Plain -> Attributes => [
         NoDisplay: BadDisplay,
         NotInitialized: NotInitialized,
         NoSurface: BadSurface,
-        NoAttribute: BadAttribute,
+        NoSurfaceAttribute: BadAttribute,
     ];
-    SurfaceAttrib "eglSurfaceAttrib" ["display": NumberOrVariable, "surface": NumberOrVariable, "attribute": Number, "value": Number] Plain => [
+    SurfaceAttrib "eglSurfaceAttrib" ["display": NumberOrVariable, "surface": NumberOrVariable, "attribute": Number, "value": Number] Plain -> Same => [
         NoDisplay: BadDisplay,
         NotInitialized: NotInitialized,
         NoSurface: BadSurface,
@@ -106,16 +109,16 @@ pub static EGL_CALLS: [EglRow; 31] = calls![
         NoSwapBehavior: BadParameter,
     ];
     // Section 3.7
-    BindApi "eglBindAPI" ["api": Number] Plain => [
+    BindApi "eglBindAPI" ["api": Number] OwnState -> Same => [
         NoApi: BadParameter,
     ];
-    QueryApi "eglQueryAPI" [] Plain => [];
+    QueryApi "eglQueryAPI" [] OwnState -> Same => [];
     // Section 3.7.1
-    CreateContext "eglCreateContext" ["display": NumberOrVariable, "config": Number, "share": NumberOrVariable, "attributes": AttributeList] Creates(Context) => [
+    CreateContext "eglCreateContext" ["display": NumberOrVariable, "config": Number, "share": NumberOrVariable, "attributes": AttributeList] Creates(Context) -> Makes(Context) => [
         NoDisplay: BadDisplay,
         NotInitialized: NotInitialized,
         NoConfig: BadConfig,
-        WrongList: BadAttribute,
+        WrongContextList: BadAttribute,
         NoShare: BadContext,
         ShareElsewhere: BadMatch,
         LaterVersion: BadConfig,
@@ -123,13 +126,13 @@ pub static EGL_CALLS: [EglRow; 31] = calls![
         NoHandle: BadAlloc,
     ];
     // Section 3.7.2
-    DestroyContext "eglDestroyContext" ["display": NumberOrVariable, "context": NumberOrVariable] Destroys(Context) => [
+    DestroyContext "eglDestroyContext" ["display": NumberOrVariable, "context": NumberOrVariable] Destroys(Context) -> Same => [
         NoDisplay: BadDisplay,
         NotInitialized: NotInitialized,
         NoContext: BadContext,
     ];
     // Section 3.7.3
-    MakeCurrent "eglMakeCurrent" ["display": NumberOrVariable, "draw": NumberOrVariable, "read": NumberOrVariable, "context": NumberOrVariable] Binds => [
+    MakeCurrent "eglMakeCurrent" ["display": NumberOrVariable, "draw": NumberOrVariable, "read": NumberOrVariable, "context": NumberOrVariable] MakesCurrent -> Same => [
         NoDisplay: BadDisplay,
         NotInitialized: NotInitialized,
         WrongSurface: BadSurface,
@@ -141,30 +144,30 @@ pub static EGL_CALLS: [EglRow; 31] = calls![
         SurfaceElsewhere: BadAccess,
     ];
     // Section 3.7.4
-    GetCurrentContext "eglGetCurrentContext" [] Plain => [];
-    GetCurrentSurface "eglGetCurrentSurface" ["which": Number] Plain => [
+    GetCurrentContext "eglGetCurrentContext" [] OwnState -> Currents(Context) => [];
+    GetCurrentSurface "eglGetCurrentSurface" ["which": Number] OwnState -> Currents(Surface) => [
         NoReaddraw: BadParameter,
     ];
-    GetCurrentDisplay "eglGetCurrentDisplay" [] Plain => [];
-    QueryContext "eglQueryContext" ["display": NumberOrVariable, "context": NumberOrVariable, "attribute": Number] Plain => [
+    GetCurrentDisplay "eglGetCurrentDisplay" [] OwnState -> Displays => [];
+    QueryContext "eglQueryContext" ["display": NumberOrVariable, "context": NumberOrVariable, "attribute": Number] Plain -> Attributes => [
         NoDisplay: BadDisplay,
         NotInitialized: NotInitialized,
         NoContext: BadContext,
-        NoAttribute: BadAttribute,
+        NoContextAttribute: BadAttribute,
     ];
     // Section 3.10.1
-    SwapBuffers "eglSwapBuffers" ["display": NumberOrVariable, "surface": NumberOrVariable] Plain => [
+    SwapBuffers "eglSwapBuffers" ["display": NumberOrVariable, "surface": NumberOrVariable] Plain -> Same => [
         NoDisplay: BadDisplay,
         NotInitialized: NotInitialized,
         NoSurface: BadSurface,
         NotDrawnTo: BadSurface,
     ];
     // Section 3.8
-    WaitClient "eglWaitClient" [] Flushes => [];
+    WaitClient "eglWaitClient" [] Flushes -> Same => [];
     // Section 3.12
-    ReleaseThread "eglReleaseThread" [] Releases => [];
+    ReleaseThread "eglReleaseThread" [] Releases -> Same => [];
     // Section 3.8.1
-    CreateSync "eglCreateSync" ["display": NumberOrVariable, "type": Number, "attributes": AttributeList] Creates(Sync) => [
+    CreateSync "eglCreateSync" ["display": NumberOrVariable, "type": Number, "attributes": AttributeList] Creates(Sync) -> Makes(Sync) => [
         NoDisplay: BadDisplay,
         NotInitialized: NotInitialized,
         NoFence: BadAttribute,
@@ -172,19 +175,19 @@ pub static EGL_CALLS: [EglRow; 31] = calls![
         NoContextHere: BadMatch,
         NoHandle: BadAlloc,
     ];
-    DestroySync "eglDestroySync" ["display": NumberOrVariable, "sync": NumberOrVariable] Destroys(Sync) => [
+    DestroySync "eglDestroySync" ["display": NumberOrVariable, "sync": NumberOrVariable] Destroys(Sync) -> Same => [
         NoDisplay: BadDisplay,
         NotInitialized: NotInitialized,
         NoSync: BadParameter,
     ];
     // Section 3.8.1.1
-    ClientWaitSync "eglClientWaitSync" ["display": NumberOrVariable, "sync": NumberOrVariable, "flags": Number, "timeout": Timeout] ClientWaits => [
+    ClientWaitSync "eglClientWaitSync" ["display": NumberOrVariable, "sync": NumberOrVariable, "flags": Number, "timeout": Timeout] ClientWaits -> Same => [
         NoDisplay: BadDisplay,
         NotInitialized: NotInitialized,
         NoSync: BadParameter,
     ];
     // Section 3.8.1.2
-    WaitSync "eglWaitSync" ["display": NumberOrVariable, "sync": NumberOrVariable, "flags": Number] ServerWaits => [
+    WaitSync "eglWaitSync" ["display": NumberOrVariable, "sync": NumberOrVariable, "flags": Number] ServerWaits -> Same => [
         NoDisplay: BadDisplay,
         NotInitialized: NotInitialized,
         NoSync: BadParameter,
@@ -192,26 +195,26 @@ pub static EGL_CALLS: [EglRow; 31] = calls![
         NotCurrent: BadMatch,
     ];
     // Section 3.8.1.3
-    GetSyncAttrib "eglGetSyncAttrib" ["display": NumberOrVariable, "sync": NumberOrVariable, "attribute": Number] Plain => [
+    GetSyncAttrib "eglGetSyncAttrib" ["display": NumberOrVariable, "sync": NumberOrVariable, "attribute": Number] Plain -> Same => [
         NoDisplay: BadDisplay,
         NotInitialized: NotInitialized,
         NoSync: BadParameter,
-        NoAttribute: BadAttribute,
+        NoSyncAttribute: BadAttribute,
     ];
     // Section 3.9
-    CreateImage "eglCreateImage" ["display": NumberOrVariable, "context": NumberOrVariable, "target": Number, "buffer": NumberOrVariable, "attributes": AttributeList] Creates(Image) => [
+    CreateImage "eglCreateImage" ["display": NumberOrVariable, "context": NumberOrVariable, "target": Number, "buffer": NumberOrVariable, "attributes": AttributeList] Creates(Image) -> Makes(Image) => [
         NoDisplay: BadDisplay,
         NotInitialized: NotInitialized,
         NoContext: BadContext,
         NoImageSource: BadParameter,
-        WrongList: BadParameter,
+        WrongImageList: BadParameter,
         NoPixels: BadParameter,
         NotComplete: BadParameter,
         NoLevel: BadMatch,
         Sibling: BadAccess,
         NoHandle: BadAlloc,
     ];
-    DestroyImage "eglDestroyImage" ["display": NumberOrVariable, "image": NumberOrVariable] Destroys(Image) => [
+    DestroyImage "eglDestroyImage" ["display": NumberOrVariable, "image": NumberOrVariable] Destroys(Image) -> Same => [
         NoDisplay: BadDisplay,
         NotInitialized: NotInitialized,
         NoImage: BadParameter,
@@ -230,4 +233,11 @@ pub fn egl_role(kind: EglKind) -> Role
     ensures { result ≡ egl_role kind }
 {
     EGL_CALLS[kind as usize].5
+}
+
+/// What a call answers, as its row says.
+pub fn egl_answers(kind: EglKind) -> AnswerSort
+    ensures { result ≡ egl_answers kind }
+{
+    EGL_CALLS[kind as usize].6
 }

@@ -1,7 +1,15 @@
 //! What refuses calls of OpenGL ES.
-/// A condition that refuses a call of OpenGL ES which asks or changes more than its context's own state, or a `readBuffer`. What it is of the state and of the call stands in `call_rules`.
+/// A condition that refuses a call of OpenGL ES, or a `readBuffer`. What it is of the state and of the call stands in `call_rules`.
 #[derive(Clone, Copy, Debug, PartialEq, Eq, Drop)]
 pub enum GlCondition {
+    NoEnabledCapability,
+    NoCapability,
+    NegativeBox,
+    NoEnvironment,
+    NoStore,
+    NoAlignment,
+    NoContextParameter,
+    NoIndex,
     NoBufferBit,
     NotComplete,
     WrongReadSides,
@@ -24,7 +32,10 @@ pub enum GlCondition {
     SomeBorder,
     OtherFormat,
     NoImagePair,
-    NoVideo,
+    NoImageVideo,
+    NoCopiedVideo,
+    NoDataVideo,
+    NoStorageVideo,
     NoStorage,
     OutsideLevel,
     OtherLevelFormat,
@@ -35,7 +46,9 @@ pub enum GlCondition {
     NoLevelAlpha,
     NoUsage,
     NegativeSize,
-    NothingBound,
+    NoBufferBound,
+    NoRenderbufferBound,
+    NoFramebufferBound,
     NegativePart,
     PartBehindEnd,
     NoBufferParameter,
@@ -44,7 +57,8 @@ pub enum GlCondition {
     NoRenderbufferParameter,
     NoAttachment,
     NoAttachedTarget,
-    NoObjectNamed,
+    NoTextureNamed,
+    NoRenderbufferNamed,
     SomeAttachedLevel,
     NoAttachedRenderbufferTarget,
     NoAttachmentParameter,
@@ -57,6 +71,15 @@ impl GlCondition {
     /// What holds, in words.
     pub fn words(self) -> &'static str {
         match self {
+            GlCondition::NoEnabledCapability => {
+                "the capability is none of GL_TEXTURE_2D, GL_SCISSOR_TEST and GL_DITHER"
+            }
+            GlCondition::NoCapability => "there is no such capability",
+            GlCondition::NegativeBox => "the width or the height is negative",
+            GlCondition::NoEnvironment => "there is no such target, parameter or value",
+            GlCondition::NoStore | GlCondition::NoContextParameter => "there is no such parameter",
+            GlCondition::NoAlignment => "the alignment is none of 1, 2, 4 and 8",
+            GlCondition::NoIndex => "the parameter has no value at the index",
             GlCondition::NoBufferBit => "the mask has a bit that is no buffer's",
             GlCondition::NotComplete => "the framebuffer isn't complete",
             GlCondition::WrongReadSides => "a side is negative or above 2,048",
@@ -78,14 +101,17 @@ impl GlCondition {
                 "there is no such format, or no such type of its components"
             }
             GlCondition::NoInternalFormat => "there is no such internal format",
-            GlCondition::NoLevel => "the level is none from 0 to 10",
+            GlCondition::NoLevel => "the level isn't from 0 to 10",
             GlCondition::WrongLevelSides => {
                 "a side is no power of two and not 0, or too long for the level"
             }
             GlCondition::SomeBorder => "the border isn't 0",
-            GlCondition::OtherFormat => "the internal format isn't the format",
+            GlCondition::OtherFormat => "the internal format isn't that of the data",
             GlCondition::NoImagePair => "the format doesn't go with the type of its components",
-            GlCondition::NoVideo => "too few bytes are left",
+            GlCondition::NoImageVideo
+            | GlCondition::NoCopiedVideo
+            | GlCondition::NoDataVideo
+            | GlCondition::NoStorageVideo => "too few bytes are left",
             GlCondition::NoStorage => "the level has no pixels",
             GlCondition::OutsideLevel => "the part doesn't lie within the level",
             GlCondition::OtherLevelFormat => "the format isn't that of the level",
@@ -102,7 +128,9 @@ impl GlCondition {
             }
             GlCondition::NoUsage => "the usage is neither GL_STATIC_DRAW nor GL_DYNAMIC_DRAW",
             GlCondition::NegativeSize => "the size is negative",
-            GlCondition::NothingBound => "the name 0 is bound",
+            GlCondition::NoBufferBound
+            | GlCondition::NoRenderbufferBound
+            | GlCondition::NoFramebufferBound => "nothing is bound to the target",
             GlCondition::NegativePart => "the offset or the size is negative",
             GlCondition::PartBehindEnd => "the part ends behind the buffer's end",
             GlCondition::NoBufferParameter => "there is no such parameter",
@@ -111,7 +139,9 @@ impl GlCondition {
             GlCondition::NoRenderbufferParameter => "there is no such parameter",
             GlCondition::NoAttachment => "there is no such attachment point",
             GlCondition::NoAttachedTarget => "the target of the texture isn't GL_TEXTURE_2D",
-            GlCondition::NoObjectNamed => "the name has no object of the kind",
+            GlCondition::NoTextureNamed | GlCondition::NoRenderbufferNamed => {
+                "the name has no object of the kind"
+            }
             GlCondition::SomeAttachedLevel => "the level isn't 0",
             GlCondition::NoAttachedRenderbufferTarget => {
                 "the target of the renderbuffer isn't GL_RENDERBUFFER_OES"

@@ -37,7 +37,7 @@ pub static OWN_CALLS: [OwnRow; 5] = calls![
     ReadBuffer "readBuffer" ["target": Number, "offset": Number, "size": Number] => [
         NoBufferTarget: InvalidEnum,
         NegativePart: InvalidValue,
-        NothingBound: InvalidOperation,
+        NoBufferBound: InvalidOperation,
         PartBehindEnd: InvalidValue,
     ];
 ];

@@ -9,8 +9,11 @@ use Rattle.egl_calls.specs.declared.errors.GlError.TheVariants.{NoError}
 use Rattle.egl_calls.specs.declared.errors.Outcome.TheVariants.{Done, Gl}
 use Rattle.egl_names.specs.declared.codes.TheConstants.{GL_TEXTURE_2D, GL_SCISSOR_TEST, GL_REPLACE, GL_UNPACK_ALIGNMENT, GL_PACK_ALIGNMENT, GL_VIEWPORT, GL_SCISSOR_BOX, GL_MAX_TEXTURE_SIZE}
 use Rattle.egl_calls.specs.declared.places.TheConstants.{CAP, ENVIRONMENT_PARAM, INDEX, PARAM, PNAME}
-use Rattle.context_state.specs.declared.kinds.ContextCall.{ContextCall}
-use Rattle.context_state.specs.declared.kinds.ContextCall.TheVariants.{GetError, Enable, Disable, Scissor, Viewport, ClearColorx, Color4x, ClearDepthx, ClearStencil, ColorMask, TexEnvx, PixelStorei, GetIntegerv}
+use Rattle.call_table.specs.Rows.{gl_role}
+use Rattle.call_table.specs.declared.roles.Role.{Role}
+use Rattle.call_table.specs.declared.roles.Role.TheVariants.{OwnState}
+use Rattle.egl_calls.specs.declared.kinds.GlKind.{GlKind}
+use Rattle.egl_calls.specs.declared.kinds.GlKind.TheVariants.{GetError, Enable, Disable, Scissor, Viewport, ClearColorx, Color4x, ClearDepthx, ClearStencil, ColorMask, TexEnvx, PixelStorei, GetIntegerv}
 use Rattle.egl_calls.specs.Arguments.{number}
 use Rattle.context_state.specs.Arguments.{box, colour, mask}
 use Rattle.context_state.specs.Bindings.{name_bound}
@@ -29,21 +32,11 @@ parameter pname index p =
     else if pname == GL_PACK_ALIGNMENT then pos p.pack_alignment
     else pos (name_bound pname p.bound)
 
-abbrev pub value : ContextCall → CallValue → PartValue → ℤ
+abbrev pub value : GlKind → CallValue → PartValue → ℤ
 -- section 2.5
 value GetError c p = pos (gl_code p.error)
-value Enable c p = pos 0
-value Disable c p = pos 0
-value Scissor c p = pos 0
-value Viewport c p = pos 0
-value ClearColorx c p = pos 0
-value Color4x c p = pos 0
-value ClearDepthx c p = pos 0
-value ClearStencil c p = pos 0
-value ColorMask c p = pos 0
-value TexEnvx c p = pos 0
-value PixelStorei c p = pos 0
 value GetIntegerv c p = parameter (number c PNAME) (number c INDEX) p
+value k c p = pos 0
 
 -- ---- What it changes.
 -- GL_DITHER and what is disabled for good have no state
@@ -59,7 +52,16 @@ aligned pname n p = record p {
   unpack_alignment = (if pname == GL_UNPACK_ALIGNMENT then n else p.unpack_alignment);
 }
 
-abbrev pub changed : ContextCall → CallValue → PartValue → PartValue
+-- what a call changes that has no line below: nothing can be proved of it, so no code can be proved to do it
+pub unlisted : PartValue → PartValue
+unlisted p = p
+
+-- a call that isn't one of these changes nothing of a context's own state
+abbrev pub changed_by_role : Role → PartValue → PartValue
+changed_by_role OwnState p = unlisted p
+changed_by_role r p = p
+
+abbrev pub changed : GlKind → CallValue → PartValue → PartValue
 -- no error is kept then (section 2.5)
 changed GetError c p = record p { error = NoError }
 changed Enable c p = switched (number c CAP) true p
@@ -75,6 +77,7 @@ changed ColorMask c p = record p { mask = mask c }
 changed TexEnvx c p = record p { is_replacing = number c ENVIRONMENT_PARAM == GL_REPLACE }
 changed PixelStorei c p = aligned (number c PNAME) (number c PARAM) p
 changed GetIntegerv c p = p
+changed k c p = changed_by_role (gl_role k) p
 
 -- ---- The reply, and the state that is left.
 pub record Applied : Type 0 where
@@ -93,12 +96,12 @@ abbrev pub done : ℤ → PartValue → Applied
 done value p = record { reply = answered value; part = p }
 
 -- a refused call leaves its error, if none is kept, and nothing else
-abbrev pub after_rules : Option GlError → ContextCall → CallValue → PartValue → Applied
+abbrev pub after_rules : Option GlError → GlKind → CallValue → PartValue → Applied
 after_rules (Some e) k c p = record { reply = refused e; part = noted e p }
 after_rules None k c p = done (value k c p) (changed k c p)
 
 -- nothing is said of another call
-abbrev pub apply_by : Option ContextCall → CallValue → PartValue → Applied
+abbrev pub apply_by : Option GlKind → CallValue → PartValue → Applied
 apply_by (Some k) c p = after_rules (refusal k c) k c p
 apply_by None c p = done (pos 0) p
 

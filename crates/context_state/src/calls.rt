@@ -2,6 +2,7 @@
 ghost use Rattle.std.specs.Prelude.{◌≡◌, ◌<◌, ◌==◌, true, false, pos, None};
 ghost use Rattle.egl_calls.specs.Errors.{gl_code};
 ghost use Rattle.egl_calls.specs.Ranges.{IsNumber};
+ghost use Rattle.egl_calls.specs.declared.kinds.Kind.TheVariants.{Gl};
 ghost use Rattle.egl_calls.specs.declared.errors.GlError.TheVariants.{NoError};
 ghost use Rattle.context_state.specs.Arguments.{box, colour, has_negative_side, mask};
 ghost use Rattle.context_state.specs.Calls.{aligned, answered, apply, changed, parameter, refused, switched, value};
@@ -11,12 +12,12 @@ ghost use Rattle.context_state.specs.Refusals.{refusal};
 
 use crate::arguments::{box_of, colour, mask};
 use crate::bindings::name_bound;
-use crate::kinds::{ContextCall, context_call};
+use crate::kinds::context_call;
 use crate::parts::ContextPart;
 use crate::refusals::refusal;
 use egl_calls::arguments::number;
 use egl_calls::places::{CAP, ENVIRONMENT_PARAM, INDEX, PARAM, PNAME};
-use egl_calls::{Bytes, Call, GlError, Numbers, Outcome, Reply};
+use egl_calls::{Bytes, Call, GlError, GlKind, Numbers, Outcome, Reply};
 use egl_names::codes::{
     GL_MAX_TEXTURE_SIZE, GL_PACK_ALIGNMENT, GL_REPLACE, GL_SCISSOR_BOX, GL_SCISSOR_TEST,
     GL_TEXTURE_2D, GL_UNPACK_ALIGNMENT, GL_VIEWPORT,
@@ -80,28 +81,18 @@ impl ContextPart {
         i64::from(name_bound(pname, &self.bound))
     }
 
-    fn value(&self, kind: ContextCall, call: &Call) -> i64
+    fn value(&self, kind: GlKind, call: &Call) -> i64
         requires { refusal kind call.now ≡ None }
         ensures value { result ≡ value kind call.now self.now }
         ensures number { IsNumber result }
     {
         match kind {
-            ContextCall::GetError => self.kept_error(),
-            ContextCall::GetIntegerv => self.parameter(
+            GlKind::GetError => self.kept_error(),
+            GlKind::GetIntegerv => self.parameter(
                 number(call, PNAME),
                 number(call, INDEX) as usize,
             ),
-            ContextCall::Enable
-            | ContextCall::Disable
-            | ContextCall::Scissor
-            | ContextCall::Viewport
-            | ContextCall::ClearColorx
-            | ContextCall::Color4x
-            | ContextCall::ClearDepthx
-            | ContextCall::ClearStencil
-            | ContextCall::ColorMask
-            | ContextCall::TexEnvx
-            | ContextCall::PixelStorei => 0,
+            _ => 0,
         }
     }
 
@@ -175,23 +166,25 @@ impl ContextPart {
         }
     }
 
-    fn change(&mut self, kind: ContextCall, call: &Call)
-        requires kind { is_context_call call.now.kind ≡ true }
+    fn change(&mut self, kind: GlKind, call: &Call)
+        requires kind { call.now.kind ≡ Gl kind }
+        requires own { is_context_call call.now.kind ≡ true }
         requires allowed { refusal kind call.now ≡ None }
         ensures { self.new ≡ changed kind call.now self.old }
     {
         match kind {
-            ContextCall::GetError => self.clear_error(),
-            ContextCall::Enable => self.switch(number(call, CAP), true),
-            ContextCall::Disable => self.switch(number(call, CAP), false),
-            ContextCall::Scissor => self.set_scissor_box(call),
-            ContextCall::Viewport => self.set_viewport(call),
-            ContextCall::ClearColorx => self.set_clear_color(call),
-            ContextCall::Color4x => self.set_color(call),
-            ContextCall::ColorMask => self.set_mask(call),
-            ContextCall::TexEnvx => self.set_environment(number(call, ENVIRONMENT_PARAM)),
-            ContextCall::PixelStorei => self.align(number(call, PNAME), number(call, PARAM)),
-            ContextCall::ClearDepthx | ContextCall::ClearStencil | ContextCall::GetIntegerv => {}
+            GlKind::GetError => self.clear_error(),
+            GlKind::Enable => self.switch(number(call, CAP), true),
+            GlKind::Disable => self.switch(number(call, CAP), false),
+            GlKind::Scissor => self.set_scissor_box(call),
+            GlKind::Viewport => self.set_viewport(call),
+            GlKind::ClearColorx => self.set_clear_color(call),
+            GlKind::Color4x => self.set_color(call),
+            GlKind::ColorMask => self.set_mask(call),
+            GlKind::TexEnvx => self.set_environment(number(call, ENVIRONMENT_PARAM)),
+            GlKind::PixelStorei => self.align(number(call, PNAME), number(call, PARAM)),
+            GlKind::ClearDepthx | GlKind::ClearStencil | GlKind::GetIntegerv => {}
+            _ => unreachable!(),
         }
     }
 

@@ -13,6 +13,6 @@ mod parts;
 mod refusals;
 
 pub use bindings::Bindings;
-pub use kinds::{ContextCall, context_call, context_gl_call, is_context_call};
+pub use kinds::{context_call, context_gl_call, is_context_call};
 pub use parts::ContextPart;
-pub use refusals::{refusal, verdict, words};
+pub use refusals::{context_meets, refusal, verdict};

@@ -1,23 +1,22 @@
 //! When a call is refused.
-ghost use Rattle.std.specs.Prelude.{◌≡◌, length};
-ghost use Rattle.egl_calls.specs.Calls.{CallValue};
+ghost use Rattle.std.specs.Prelude.{◌≡◌};
 ghost use Rattle.context_state.specs.Arguments.{may_enable, may_disable, is_environment, is_store, is_box_name, is_parameter, is_index};
 ghost use Rattle.context_state.specs.Parts.{is_alignment};
-ghost use Rattle.context_state.specs.Refusals.{context_rows, refusal};
+ghost use Rattle.context_state.specs.Refusals.{context_holds, context_rows, refusal};
 
 use crate::arguments::has_negative_side;
 use crate::bindings::is_binding_code;
-use crate::kinds::ContextCall;
+use call_table::{GlCondition, gl_rules};
 use egl_calls::arguments::{number, signed};
 use egl_calls::places::{CAP, ENVIRONMENT_PARAM, ENVIRONMENT_PNAME, INDEX, PARAM, PNAME, TARGET};
-use egl_calls::{Call, GlError};
+use egl_calls::{Call, GlError, GlKind};
 use egl_names::codes::{
     GL_ALPHA_TEST, GL_BLEND, GL_CULL_FACE, GL_DEPTH_TEST, GL_DITHER, GL_FOG, GL_LIGHTING,
     GL_MAX_TEXTURE_SIZE, GL_MODULATE, GL_PACK_ALIGNMENT, GL_REPLACE, GL_SCISSOR_BOX,
     GL_SCISSOR_TEST, GL_STENCIL_TEST, GL_TEXTURE_2D, GL_TEXTURE_ENV, GL_TEXTURE_ENV_MODE,
     GL_UNPACK_ALIGNMENT, GL_VIEWPORT,
 };
-use refusal_rows::Verdict;
+use refusal_rows::{Judge, Verdict};
 
 fn may_enable(cap: u64) -> bool
     ensures { result ≡ may_enable cap }
@@ -83,74 +82,52 @@ fn is_index(pname: u64, index: i64) -> bool
     index >= 0 && index <= last
 }
 
-/// What the rows of a call tell, in the order of the tests.
-pub fn verdict<V: Verdict<GlError>>(kind: ContextCall, call: &Call) -> V
-    ensures { result ≡ V.told (context_rows kind call.now) }
-{
-    match kind {
-        ContextCall::Enable => V::tell(&[(!may_enable(number(call, CAP)), GlError::InvalidEnum)]),
-        ContextCall::Disable => V::tell(&[(!may_disable(number(call, CAP)), GlError::InvalidEnum)]),
-        ContextCall::Scissor | ContextCall::Viewport => {
-            V::tell(&[(has_negative_side(call), GlError::InvalidValue)])
-        }
-        ContextCall::TexEnvx => V::tell(&[(
-            !is_environment(
+/// A call whose conditions are asked.
+#[derive(Drop)]
+struct ContextCase<'a> {
+    call: &'a Call,
+}
+
+impl<'a> Judge<GlCondition> for ContextCase<'a> {
+    ghost meets = { λ a x. context_holds x a.call.now };
+
+    fn holds(&self, condition: GlCondition) -> bool {
+        let call = self.call;
+        match condition {
+            GlCondition::NoEnabledCapability => !may_enable(number(call, CAP)),
+            GlCondition::NoCapability => !may_disable(number(call, CAP)),
+            GlCondition::NegativeBox => has_negative_side(call),
+            GlCondition::NoEnvironment => !is_environment(
                 number(call, TARGET),
                 number(call, ENVIRONMENT_PNAME),
                 number(call, ENVIRONMENT_PARAM),
             ),
-            GlError::InvalidEnum,
-        )]),
-        ContextCall::PixelStorei => V::tell(&[
-            (!is_store(number(call, PNAME)), GlError::InvalidEnum),
-            (!is_alignment(number(call, PARAM)), GlError::InvalidValue),
-        ]),
-        ContextCall::GetIntegerv => V::tell(&[
-            (!is_parameter(number(call, PNAME)), GlError::InvalidEnum),
-            (
-                !is_index(number(call, PNAME), signed(call, INDEX)),
-                GlError::InvalidValue,
-            ),
-        ]),
-        ContextCall::GetError
-        | ContextCall::ClearColorx
-        | ContextCall::Color4x
-        | ContextCall::ClearDepthx
-        | ContextCall::ClearStencil
-        | ContextCall::ColorMask => V::tell(&[]),
+            GlCondition::NoStore => !is_store(number(call, PNAME)),
+            GlCondition::NoAlignment => !is_alignment(number(call, PARAM)),
+            GlCondition::NoContextParameter => !is_parameter(number(call, PNAME)),
+            GlCondition::NoIndex => !is_index(number(call, PNAME), signed(call, INDEX)),
+            _ => false,
+        }
     }
 }
 
-/// What each row of a call says, in words, in the order of the tests.
-pub fn words(kind: ContextCall) -> &'static [&'static str]
-    ensures { (c : CallValue) → length result.now ≡ length (context_rows kind c) }
+/// Whether a condition of a call that asks or sets its context's own state holds; no other does.
+pub fn context_meets(condition: GlCondition, call: &Call) -> bool
+    ensures { result ≡ context_holds condition call.now }
 {
-    match kind {
-        ContextCall::Enable => {
-            &["the capability is none of GL_TEXTURE_2D, GL_SCISSOR_TEST and GL_DITHER"]
-        }
-        ContextCall::Disable => &["there is no such capability"],
-        ContextCall::Scissor | ContextCall::Viewport => &["the width or the height is negative"],
-        ContextCall::TexEnvx => &["there is no such target, parameter or value"],
-        ContextCall::PixelStorei => &[
-            "there is no such parameter",
-            "the alignment is none of 1, 2, 4 and 8",
-        ],
-        ContextCall::GetIntegerv => &[
-            "there is no such parameter",
-            "the parameter has no value at the index",
-        ],
-        ContextCall::GetError
-        | ContextCall::ClearColorx
-        | ContextCall::Color4x
-        | ContextCall::ClearDepthx
-        | ContextCall::ClearStencil
-        | ContextCall::ColorMask => &[],
-    }
+    let case = ContextCase { call };
+    case.holds(condition)
+}
+
+/// What the rows of a call tell, in the order of the tests.
+pub fn verdict<V: Verdict<GlError>>(kind: GlKind, call: &Call) -> V
+    ensures { result ≡ V.told (context_rows kind call.now) }
+{
+    V::judge(&ContextCase { call }, gl_rules(kind))
 }
 
 /// The error that refuses a call, and None where it isn't refused: that of the first of its rows that holds.
-pub fn refusal(kind: ContextCall, call: &Call) -> Option<GlError>
+pub fn refusal(kind: GlKind, call: &Call) -> Option<GlError>
     ensures { result ≡ refusal kind call.now }
 {
     verdict(kind, call)

@@ -17,7 +17,8 @@ use Rattle.call_rules.proofs.TestLaws.{not_below}
 use Rattle.rect_pipeline.specs.Signed.{IsDrawNumber}
 use Rattle.driver_objects.specs.Storages.{IsDrawnRect}
 use Rattle.egl_model.specs.Draws.{fixed}
-use Rattle.egl_model.specs.GlCalls.{gl_facts, gl_refusal}
+use Rattle.egl_model.specs.GlCalls.{gl_refusal}
+use Rattle.egl_model.specs.GlFacts.{gl_facts_of}
 use Rattle.egl_model.specs.State.{State}
 use Rattle.driver_core.specs.Draws.{is_draw}
 
@@ -79,6 +80,6 @@ rect_drawn k c x y w h a b m n p q e f i j u v o =
 
 pub draw_has_sides : (s : State) (t n : ℕ) (k : GlKind) (c : CallValue) → c.kind ≡ Gl k → is_draw k ≡ true → gl_refusal s t n k c ≡ None → draws_nothing c ≡ false
 unfolding gl_refusal
-draw_has_sides s t n DrawTexi c h d r = (rows_off c (gl_facts s t n DrawTexi c) DrawTexi h r).0
-draw_has_sides s t n DrawTexx c h d r = (rows_off c (gl_facts s t n DrawTexx c) DrawTexx h r).0
+draw_has_sides s t n DrawTexi c h d r = (rows_off c (gl_facts_of s t n c) DrawTexi h r).0
+draw_has_sides s t n DrawTexx c h d r = (rows_off c (gl_facts_of s t n c) DrawTexx h r).0
 draw_has_sides s t n k c h d r = absurd (let e : false ≡ true = d in cc)

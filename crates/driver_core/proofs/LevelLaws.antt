@@ -9,7 +9,8 @@ use Rattle.std.specs.Prelude.{IfSome, IsSome, is_some}
 use Rattle.std.proofs.Common.{get_or}
 use Rattle.egl_model.specs.Links.{rank_in}
 use Rattle.egl_model.specs.Objects.{change_context, storage_in, with_context}
-use Rattle.egl_model.specs.GlCalls.{gl_refusal, part_facts, stored_facts}
+use Rattle.egl_model.specs.GlCalls.{gl_refusal}
+use Rattle.egl_model.specs.GlFacts.{gl_facts_of}
 use Rattle.egl_model.specs.Bindings.{named_at}
 use Rattle.egl_model.specs.Textures.{level_of, level_storage}
 use Rattle.std.specs.Option.{option_and_then, option_map_or}
@@ -20,7 +21,6 @@ use Rattle.pixel_rows.specs.Rects.{IsInside}
 use Rattle.pixel_rows.specs.declared.rects.Rect.{Rect}
 use Rattle.call_rules.specs.GlAllowed.{PartAllowed}
 use Rattle.call_rules.proofs.GlLaws.{part_allowed, rows_off}
-use Rattle.call_rules.specs.GlRules.{no_gl_facts}
 use Rattle.call_rules.specs.declared.gl_facts.GlFacts.{GlFacts}
 use Rattle.texture_objects.specs.Uploads.{part_rect}
 use Rattle.driver_objects.specs.Objects.{edges_of}
@@ -36,24 +36,29 @@ use Rattle.object_table.proofs.LeftLaws.{left_by_sweep, left_then}
 use Rattle.driver_core.specs.Costs.{IsCheap}
 
 -- ---- What is known of a glTexSubImage2D that isn't refused.
-stored_inside : (o : Option StorageValue) (r : Rect) → (stored_facts o).is_stored ≡ true → IsInside r (stored_facts o).stored_width (stored_facts o).stored_height → IfSome o (λ v. IsInside r v.width v.height)
-stored_inside None r h i = tt
-stored_inside (Some v) r h i = i
+abbrev width_of : Option StorageValue → ℕ
+width_of o = option_map_or (λ v. v.width) o 0
 
-pub part_passed : (s : State) (t n : ℕ) (c : CallValue) → c.kind ≡ Gl TexSubImage2d → gl_refusal s t n TexSubImage2d c ≡ None → PartAllowed c (part_facts s n c)
+abbrev height_of : Option StorageValue → ℕ
+height_of o = option_map_or (λ v. v.height) o 0
+
+stored_inside : (o : Option StorageValue) (r : Rect) → IsInside r (width_of o) (height_of o) → IfSome o (λ v. IsInside r v.width v.height)
+stored_inside None r i = tt
+stored_inside (Some v) r i = i
+
+pub part_passed : (s : State) (t n : ℕ) (c : CallValue) → c.kind ≡ Gl TexSubImage2d → gl_refusal s t n TexSubImage2d c ≡ None → PartAllowed c (gl_facts_of s t n c)
 unfolding gl_refusal
-part_passed s t n c h r = part_allowed c (part_facts s n c) h r
+part_passed s t n c h r = part_allowed c (gl_facts_of s t n c) h r
 
 pub part_within : (s : State) (t n m : ℕ) (c : CallValue) → c.kind ≡ Gl TexSubImage2d → gl_refusal s t n TexSubImage2d c ≡ None → level_storage s n (level_of c) ≡ Some m → IfSome (storage_in s.objects m) (λ v. IsInside (part_rect c) v.width v.height)
 part_within s t n m c h r e =
-    let a = part_passed s t n c h r in
-    let same : stored_facts (option_and_then (storage_in s.objects) (level_storage s n (level_of c))) ≡ stored_facts (storage_in s.objects m) = ap (λ o. stored_facts (option_and_then (storage_in s.objects) o)) e in
-    stored_inside (storage_in s.objects m) (part_rect c) (sym (ap (λ (f : GlFacts). f.is_stored) same) ∙ a.stored) (subst (λ (f : GlFacts). IsInside (part_rect c) f.stored_width f.stored_height) same a.inside)
+    stored_inside (storage_in s.objects m) (part_rect c)
+    (subst (λ (o : Option ℕ). IsInside (part_rect c) (width_of (option_and_then (storage_in s.objects) o)) (height_of (option_and_then (storage_in s.objects) o))) e (part_passed s t n c h r).inside)
 
 -- glTexParameteriv: four numbers
 pub crop_four : (s : State) (t n : ℕ) (c : CallValue) → c.kind ≡ Gl TexParameteriv → gl_refusal s t n TexParameteriv c ≡ None → length c.list ≡ 4
 unfolding gl_refusal
-crop_four s t n c h r = eqb-true (length c.list) 4 (not-false _ (rows_off c no_gl_facts TexParameteriv h r).1.1.0)
+crop_four s t n c h r = eqb-true (length c.list) 4 (not-false _ (rows_off c (gl_facts_of s t n c) TexParameteriv h r).1.1.0)
 
 -- ---- A storage that is made and held, to which a level refers, and that is let go.
 pub weighs_storage : (os : List (Option Object)) (v : StorageValue) → weight_of (os ++ Some (Storage v) ∷ []) ≡ weight_of os + 1

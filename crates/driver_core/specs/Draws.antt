@@ -1,9 +1,8 @@
 -- The calls that draw (OES_draw_texture).
-use Rattle.std.specs.Prelude.{Bool, true, false}
+use Rattle.std.specs.Prelude.{Bool}
 use Rattle.egl_calls.specs.declared.kinds.GlKind.{GlKind}
-use Rattle.egl_calls.specs.declared.kinds.GlKind.TheVariants.{DrawTexi, DrawTexx}
+use Rattle.call_table.specs.Roles.{draws}
+use Rattle.call_table.specs.Rows.{gl_role}
 
 abbrev pub is_draw : GlKind → Bool
-is_draw DrawTexi = true
-is_draw DrawTexx = true
-is_draw k = false
+is_draw k = draws (gl_role k)

@@ -11,10 +11,11 @@ ghost use Rattle.egl_model.specs.Waits.{is_ready};
 ghost use Rattle.driver_facts.specs.Memory.{is_bare};
 ghost use Rattle.driver_facts.specs.Touches.{touches_of};
 ghost use Rattle.driver_facts.specs.Verdicts.{refusals};
+ghost use Rattle.driver_facts.specs.Found.{IsFound};
 
 use crate::machine::Driver;
 use context_state::ContextPart;
-use driver_facts::{Refusals, Touches};
+use driver_facts::{EglFound, Refusals, Touches};
 use egl_calls::{Call, EglError, EglKind, GlError, GlKind, NoMemory};
 use egl_model::ThreadRecord;
 use std::alloc::Global;
@@ -69,12 +70,19 @@ impl Driver {
     }
 
     /// The error by which a call of EGL is refused.
-    pub(crate) fn egl_refusal(&self, thread: u32, kind: EglKind, call: &Call) -> Option<EglError>
+    pub(crate) fn egl_refusal(
+        &self,
+        thread: u32,
+        kind: EglKind,
+        call: &Call,
+        found: &EglFound,
+    ) -> Option<EglError>
         requires made { thread < self.now.made }
         requires kind { call.now.kind ≡ EglCall kind }
+        requires found { IsFound self.now.state call.now found.now }
         ensures { result ≡ egl_refusal self.now.state thread kind call.now }
     {
-        self.tables.egl_refusal(thread, kind, call)
+        self.tables.egl_refusal(thread, kind, call, found)
     }
 
     /// The error by which a call of OpenGL ES is refused.
@@ -94,7 +102,8 @@ impl Driver {
 
     /// The error by which a `readBuffer` is refused.
     pub(crate) fn buffer_refusal(&self, thread: u32, context: u64, call: &Call) -> Option<GlError>
-        requires { call.now.kind ≡ OwnCall ReadBuffer }
+        requires made { thread < self.now.made }
+        requires kind { call.now.kind ≡ OwnCall ReadBuffer }
         ensures { result ≡ buffer_refusal self.now.state thread context call.now }
     {
         self.tables.buffer_refusal(thread, context, call)

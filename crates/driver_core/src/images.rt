@@ -13,10 +13,12 @@ ghost use Rattle.egl_model.specs.Sweep.{sweep};
 ghost use Rattle.egl_model.specs.Textures.{target_texture};
 ghost use Rattle.driver_core.specs.Costs.{IsCheap};
 ghost use Rattle.driver_facts.specs.Groups.{IsPixels};
+ghost use Rattle.driver_facts.specs.Found.{IsFound};
 
 use crate::handles::new_handle;
 use crate::machine::Driver;
 use display_table::HandleKind;
+use driver_facts::EglFound;
 use driver_objects::Object;
 use egl_calls::arguments::{number, signed};
 use egl_calls::places::DISPLAY;
@@ -51,7 +53,8 @@ impl Driver {
     }
 
     /// Makes an image of the level or the renderbuffer that a call names, and gives its handle.
-    pub(crate) fn create_image(&mut self, call: &Call) -> Result<i64, NoMemory>
+    pub(crate) fn create_image(&mut self, call: &Call, found: &EglFound) -> Result<i64, NoMemory>
+        requires found { IsFound self.old.state call.now found.now }
         requires kind { is_client_wait call.now.kind ≡ false }
         requires display { is_display (number call.now 0) ≡ true }
         requires source { IsSome (source_storage self.old.state call.now) }
@@ -61,7 +64,7 @@ impl Driver {
         ensures state { OnOk result (self.new ≡ record self.old { state = created_image self.old.state call.now }) }
         ensures err { OnErr result (self.new ≡ self.old) }
     {
-        let source = self.tables.image_source(call);
+        let source = self.tables.found_source(call, found);
         match self.tables.level_of_source(source, call) {
             Some(storage) => self.add_image(signed(call, DISPLAY), storage),
             None => unreachable!(),

@@ -19,6 +19,7 @@ ghost use Rattle.driver_core.specs.Machine.{outs};
 use crate::drawings::{Drawing, LateDraw};
 use crate::draws::drawn_rect;
 use crate::machine::Driver;
+use call_table::gl_role;
 use egl_calls::{Call, GlKind, Kind, NoMemory, Outcome, ReplyPair};
 use object_table::Sampled;
 use pixel_rows::Rect;
@@ -59,8 +60,10 @@ impl Driver {
         ensures { result ≡ is_late (part_of self.now.state thread) call.now }
     {
         match call.kind {
-            Kind::Gl(GlKind::DrawTexi | GlKind::DrawTexx) => {
-                self.record(thread).wait.is_none() && self.draws_to_surface(thread)
+            Kind::Gl(kind) => {
+                gl_role(kind).draws()
+                    && self.record(thread).wait.is_none()
+                    && self.draws_to_surface(thread)
             }
             _ => false,
         }

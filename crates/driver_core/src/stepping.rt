@@ -1,10 +1,13 @@
 //! One call of one thread.
-ghost use Rattle.std.specs.Prelude.{◌≡◌, ◌<◌, true, None, Some, is_some, IfOk, IfSome, IsOk, OnOk, OnErr, false, All, slice_index_or};
+ghost use Rattle.std.specs.Prelude.{◌≡◌, ◌<◌, true, None, Some, is_none, is_some, IfOk, IfSome, IsOk, OnOk, OnErr, false, All, slice_index_or};
 ghost use Rattle.driver_core.specs.Costs.{IsCheap, IsBounded};
-ghost use Rattle.driver_core.specs.Releases.{links, releases};
+ghost use Rattle.driver_core.specs.Releases.{links, releases, tells_effect};
+ghost use Rattle.call_table.specs.Roles.{destroyed};
+ghost use Rattle.call_table.specs.Rows.{egl_role, gl_role};
 ghost use Rattle.egl_model.specs.Sweep.{sweep};
 ghost use Rattle.thread_part.specs.Memory.{clears_nothing};
 ghost use Rattle.thread_part.specs.Uploads.{upload_of};
+ghost use Rattle.driver_facts.specs.Found.{IsFound};
 ghost use Rattle.driver_facts.specs.Memory.{clears_own, egl_takes_no_memory, gl_clears_own, gl_takes_no_memory, takes_no_memory, is_bare, is_bare_on};
 ghost use Rattle.context_state.specs.Kinds.{context_gl_call};
 ghost use Rattle.egl_calls.specs.declared.kinds.Kind.TheVariants.{Egl as EglCall, Gl as GlCall};
@@ -24,11 +27,11 @@ ghost use Rattle.driver_core.specs.Machine.{outs};
 
 use crate::machine::Driver;
 use attrib_lists::AttribError;
+use call_table::{Role, egl_role, gl_role};
 use config_match::Configs;
 use context_state::context_gl_call;
-use display_table::HandleKind;
-use driver_facts::{attribute_value, name_of};
-use driver_objects::{BindTarget, buffer_target};
+use driver_facts::{EglFound, attribute_value, name_of};
+use driver_objects::target_of;
 use egl_calls::arguments::number;
 use egl_calls::places::{ASKED_NAME, TARGET};
 use egl_calls::{
@@ -62,9 +65,11 @@ impl Driver {
         thread: u32,
         kind: EglKind,
         call: &Call,
+        found: &EglFound,
     ) -> Result<R, NoMemory>
         requires made { thread < self.old.made }
         requires kind { call.now.kind ≡ EglCall kind }
+        requires found { IsFound self.old.state call.now found.now }
         requires allowed { egl_refusal self.old.state thread kind call.now ≡ None }
         requires keeps { releases kind ≡ false }
         requires goes { (record_of self.old.state thread).wait ≡ None }
@@ -122,23 +127,55 @@ impl Driver {
                 Ok(valued(alloc, 1))
             }
             EglKind::GetSyncAttrib => Ok(valued(alloc, self.tables.sync_value(call).unwrap_or(0))),
-            EglKind::CreateImage => Ok(valued(alloc, self.create_image(call)?)),
+            EglKind::CreateImage => Ok(valued(alloc, self.create_image(call, found)?)),
             _ => unreachable!(),
         }
     }
 
-    /// Does a call of EGL that no rule refuses. What nothing reaches any more is gone then.
+    /// Does a call of EGL that makes current, or that lets go of all.
     #[tactic(auto, using(driver_facts::proofs::Allowed::terminate_display))]
+    fn let_go<L: Ledger, R: Replies>(
+        &mut self,
+        alloc: Global,
+        thread: u32,
+        kind: EglKind,
+        call: &Call,
+        found: &EglFound,
+        steps: &mut Steps<L>,
+    ) -> R
+        requires made { thread < self.old.made }
+        requires kind { call.now.kind ≡ EglCall kind }
+        requires found { IsFound self.old.state call.now found.now }
+        requires allowed { egl_refusal self.old.state thread kind call.now ≡ None }
+        requires goes { (record_of self.old.state thread).wait ≡ None }
+        requires releases { releases kind ≡ true }
+        requires keeps { is_none (destroyed (egl_role kind)) ≡ true }
+        ensures reply { R.reply result ≡ done (egl_effect self.old.state thread kind call.now) }
+        ensures state { self.new ≡ record self.old { state = sweep (egl_effect self.old.state thread kind call.now).state } }
+        ensures steps { IsCheap self.old.state self.new.state steps.old steps.new }
+    {
+        match kind {
+            EglKind::Terminate => self.terminate(call, steps),
+            EglKind::MakeCurrent => self.make_current(thread, call, found, steps),
+            EglKind::ReleaseThread => self.release(thread, steps),
+            _ => unreachable!(),
+        }
+        valued(alloc, 1)
+    }
+
+    /// Does a call of EGL that no rule refuses. What nothing reaches any more is gone then.
     fn egl_effect<L: Ledger, R: Replies>(
         &mut self,
         alloc: Global,
         thread: u32,
         kind: EglKind,
         call: &Call,
+        found: &EglFound,
         steps: &mut Steps<L>,
     ) -> Result<R, NoMemory>
         requires made { thread < self.old.made }
         requires kind { call.now.kind ≡ EglCall kind }
+        requires found { IsFound self.old.state call.now found.now }
         requires allowed { egl_refusal self.old.state thread kind call.now ≡ None }
         requires goes { (record_of self.old.state thread).wait ≡ None }
         ensures reply { IfOk result (λ r. R.reply r ≡ done (egl_effect self.old.state thread kind call.now)) }
@@ -147,37 +184,16 @@ impl Driver {
         ensures err { OnErr result (self.new ≡ self.old) }
         ensures memory { egl_takes_no_memory kind ≡ true → IsOk result }
     {
-        match kind {
-            EglKind::Terminate => {
-                self.terminate(call, steps);
+        match egl_role(kind) {
+            Role::Destroys(handle) => {
+                self.destroy(call, handle, found, steps);
                 Ok(valued(alloc, 1))
             }
-            EglKind::MakeCurrent => {
-                self.make_current(thread, call, steps);
-                Ok(valued(alloc, 1))
-            }
-            EglKind::DestroySurface => {
-                self.destroy(call, HandleKind::Surface, steps);
-                Ok(valued(alloc, 1))
-            }
-            EglKind::DestroyContext => {
-                self.destroy(call, HandleKind::Context, steps);
-                Ok(valued(alloc, 1))
-            }
-            EglKind::DestroySync => {
-                self.destroy(call, HandleKind::Sync, steps);
-                Ok(valued(alloc, 1))
-            }
-            EglKind::DestroyImage => {
-                self.destroy(call, HandleKind::Image, steps);
-                Ok(valued(alloc, 1))
-            }
-            EglKind::ReleaseThread => {
-                self.release(thread, steps);
-                Ok(valued(alloc, 1))
+            Role::MakesCurrent | Role::Releases => {
+                Ok(self.let_go(alloc, thread, kind, call, found, steps))
             }
             _ => {
-                let reply = self.egl_effect_keeping_holds(alloc, thread, kind, call)?;
+                let reply = self.egl_effect_keeping_holds(alloc, thread, kind, call, found)?;
                 self.settled();
                 Ok(reply)
             }
@@ -203,21 +219,90 @@ impl Driver {
         ensures memory { egl_takes_no_memory kind ≡ true → IsOk result }
         ensures bare { is_some (egl_refusal self.old.state thread kind call.now) ≡ true → IsOk result }
     {
-        match self.egl_refusal(thread, kind, call) {
+        let found = self.tables.egl_found(call);
+        match self.egl_refusal(thread, kind, call, &found) {
             Some(error) => {
                 self.set_error(thread, error);
                 Ok(bare(alloc, Outcome::Egl(error)))
             }
             None => {
-                let reply = self.egl_effect(alloc, thread, kind, call, steps)?;
+                let reply = self.egl_effect(alloc, thread, kind, call, &found, steps)?;
                 self.set_error(thread, EglError::Success);
                 Ok(reply)
             }
         }
     }
 
-    /// Does one that asks or changes more than its context's own state.
-    fn object_effect<R: Replies>(
+    /// Does one whose role doesn't tell what it does, and that sets no references.
+    fn plain_effect<R: Replies>(
+        &mut self,
+        alloc: Global,
+        thread: u32,
+        context: u64,
+        kind: GlKind,
+        call: &Call,
+    ) -> Result<R, NoMemory>
+        requires made { thread < self.old.made }
+        requires kind { call.now.kind ≡ GlCall kind }
+        requires object { context_gl_call kind ≡ None }
+        requires plain { tells_effect (gl_role kind) ≡ false }
+        requires allowed { gl_refusal self.old.state thread context kind call.now ≡ None }
+        requires keeps { links kind ≡ false }
+        ensures reply { IfOk result (λ r. R.reply r ≡ done (object_effect self.old.state thread context kind call.now)) }
+        ensures state { OnOk result (self.new ≡ record self.old { state = (object_effect self.old.state thread context kind call.now).state }) }
+        ensures err { OnErr result (self.new ≡ self.old) }
+        ensures memory { gl_takes_no_memory kind ≡ true → IsOk result }
+        ensures nothing { clears_nothing kind call.now ≡ true → IsOk result }
+        ensures room { gl_clears_own self.old.state thread kind ≡ true → IsOk result }
+    {
+        match kind {
+            GlKind::ReadPixels => read(
+                alloc,
+                self.tables.read_pixels(alloc, thread, context, call)?,
+            ),
+            GlKind::TexParameterx => {
+                self.set_parameter(context, call);
+                Ok(valued(alloc, 0))
+            }
+            GlKind::TexParameteriv => {
+                self.set_crop(thread, context, call);
+                Ok(valued(alloc, 0))
+            }
+            GlKind::TexSubImage2d => {
+                self.rewrite_part(alloc, thread, context, call)?;
+                Ok(valued(alloc, 0))
+            }
+            GlKind::CopyTexSubImage2d => {
+                self.copy_part(thread, context, call)?;
+                Ok(valued(alloc, 0))
+            }
+            GlKind::BufferData => {
+                self.set_data(alloc, context, call)?;
+                Ok(valued(alloc, 0))
+            }
+            GlKind::BufferSubData => {
+                self.set_part_of(thread, context, call);
+                Ok(valued(alloc, 0))
+            }
+            GlKind::GetBufferParameteriv => {
+                Ok(valued(alloc, self.tables.buffer_parameter(context, call)))
+            }
+            GlKind::GetRenderbufferParameteriv => {
+                Ok(valued(alloc, self.tables.renderbuffer_parameter(context, call)))
+            }
+            GlKind::CheckFramebufferStatus => Ok(valued(
+                alloc,
+                self.tables.framebuffer_status(thread),
+            )),
+            GlKind::GetFramebufferAttachmentParameteriv => {
+                Ok(valued(alloc, self.tables.attachment_parameter(context, call)))
+            }
+            _ => unreachable!(),
+        }
+    }
+
+    /// Does one that asks or changes more than its context's own state, and that sets no references.
+    fn object_effect_keeping_holds<R: Replies>(
         &mut self,
         alloc: Global,
         thread: u32,
@@ -237,118 +322,109 @@ impl Driver {
         ensures nothing { clears_nothing kind call.now ≡ true → IsOk result }
         ensures room { gl_clears_own self.old.state thread kind ≡ true → IsOk result }
     {
-        match kind {
-            GlKind::Flush | GlKind::Finish => {
+        match gl_role(kind) {
+            Role::Flushes => {
                 self.flush_context(context);
                 Ok(valued(alloc, 0))
             }
-            GlKind::Clear => {
+            Role::Clears => {
                 self.clear(thread, context, call)?;
                 Ok(valued(alloc, 0))
             }
-            GlKind::DrawTexi | GlKind::DrawTexx => {
+            Role::Draws => {
                 self.draw(thread, context, kind, call)?;
                 Ok(valued(alloc, 0))
             }
-            GlKind::ReadPixels => read(
-                alloc,
-                self.tables.read_pixels(alloc, thread, context, call)?,
-            ),
-            GlKind::GenTextures => self.generate(alloc, context, NameKind::Texture, call),
-            GlKind::IsTexture => {
+            Role::Generates(names) => self.generate(alloc, context, names, call),
+            Role::Asks(names) => {
                 let name = name_of(call, ASKED_NAME);
-                Ok(valued(alloc, self.tables.is_name(context, NameKind::Texture, name)))
+                Ok(valued(alloc, self.tables.is_name(context, names, name)))
             }
-            GlKind::TexParameterx => {
-                self.set_parameter(context, call);
-                Ok(valued(alloc, 0))
-            }
-            GlKind::TexParameteriv => {
-                self.set_crop(thread, context, call);
-                Ok(valued(alloc, 0))
-            }
-            GlKind::TexSubImage2d => {
-                self.rewrite_part(alloc, thread, context, call)?;
-                Ok(valued(alloc, 0))
-            }
-            GlKind::CopyTexSubImage2d => {
-                self.copy_part(thread, context, call)?;
-                Ok(valued(alloc, 0))
-            }
-            GlKind::GenBuffers => self.generate(alloc, context, NameKind::Buffer, call),
-            GlKind::IsBuffer => {
-                let name = name_of(call, ASKED_NAME);
-                Ok(valued(alloc, self.tables.is_name(context, NameKind::Buffer, name)))
-            }
-            GlKind::BufferData => {
-                self.set_data(alloc, context, call)?;
-                Ok(valued(alloc, 0))
-            }
-            GlKind::BufferSubData => {
-                self.set_part_of(thread, context, call);
-                Ok(valued(alloc, 0))
-            }
-            GlKind::GetBufferParameteriv => {
-                Ok(valued(alloc, self.tables.buffer_parameter(context, call)))
-            }
-            GlKind::GenRenderbuffers => {
-                self.generate(alloc, context, NameKind::Renderbuffer, call)
-            }
-            GlKind::IsRenderbuffer => {
-                let name = name_of(call, ASKED_NAME);
-                Ok(valued(
-                    alloc,
-                    self.tables.is_name(context, NameKind::Renderbuffer, name),
-                ))
-            }
-            GlKind::GetRenderbufferParameteriv => {
-                Ok(valued(alloc, self.tables.renderbuffer_parameter(context, call)))
-            }
-            GlKind::GenFramebuffers => self.generate(alloc, context, NameKind::Framebuffer, call),
-            GlKind::IsFramebuffer => {
-                let name = name_of(call, ASKED_NAME);
-                Ok(valued(
-                    alloc,
-                    self.tables.is_name(context, NameKind::Framebuffer, name),
-                ))
-            }
-            GlKind::CheckFramebufferStatus => Ok(valued(
-                alloc,
-                self.tables.framebuffer_status(thread),
-            )),
-            GlKind::GetFramebufferAttachmentParameteriv => {
-                Ok(valued(alloc, self.tables.attachment_parameter(context, call)))
-            }
-            _ => unreachable!(),
+            _ => self.plain_effect(alloc, thread, context, kind, call),
         }
     }
 
-    /// Does a call of OpenGL ES that no rule refuses and that sets no references.
-    fn gl_effect_keeping_holds<R: Replies>(
+    /// Does one that gives what is bound other pixels.
+    fn specify<L: Ledger, R: Replies>(
         &mut self,
         alloc: Global,
         thread: u32,
         context: u64,
         kind: GlKind,
         call: &Call,
+        steps: &mut Steps<L>,
     ) -> Result<R, NoMemory>
         requires made { thread < self.old.made }
         requires kind { call.now.kind ≡ GlCall kind }
+        requires plain { tells_effect (gl_role kind) ≡ false }
         requires allowed { gl_refusal self.old.state thread context kind call.now ≡ None }
-        requires keeps { links kind ≡ false }
-        ensures reply { IfOk result (λ r. R.reply r ≡ done (gl_effect self.old.state thread context kind call.now)) }
-        ensures state { OnOk result (self.new ≡ record self.old { state = (gl_effect self.old.state thread context kind call.now).state }) }
+        requires links { links kind ≡ true }
+        ensures reply { IfOk result (λ r. R.reply r ≡ done (object_effect self.old.state thread context kind call.now)) }
+        ensures state { OnOk result (self.new ≡ record self.old { state = sweep (object_effect self.old.state thread context kind call.now).state }) }
+        ensures steps { IsCheap self.old.state self.new.state steps.old steps.new }
+        ensures err { OnErr result (self.new ≡ self.old) }
+        ensures memory { gl_takes_no_memory kind ≡ true → IsOk result }
+    {
+        match kind {
+            GlKind::RenderbufferStorage => {
+                self.set_storage(alloc, thread, context, call, steps)?;
+            }
+            GlKind::ImageTargetTexture2d => self.target_texture_image(context, call, steps),
+            GlKind::ImageTargetRenderbufferStorage => {
+                self.target_renderbuffer_image(thread, context, call, steps);
+            }
+            GlKind::TexImage2d => self.set_level(alloc, thread, context, call, steps)?,
+            GlKind::CopyTexImage2d => self.copy_level(alloc, thread, context, call, steps)?,
+            _ => unreachable!(),
+        }
+        Ok(valued(alloc, 0))
+    }
+
+    /// Does one that asks or changes more than its context's own state. What nothing reaches any more is gone then.
+    fn object_effect<L: Ledger, R: Replies>(
+        &mut self,
+        alloc: Global,
+        thread: u32,
+        context: u64,
+        kind: GlKind,
+        call: &Call,
+        steps: &mut Steps<L>,
+    ) -> Result<R, NoMemory>
+        requires made { thread < self.old.made }
+        requires kind { call.now.kind ≡ GlCall kind }
+        requires object { context_gl_call kind ≡ None }
+        requires allowed { gl_refusal self.old.state thread context kind call.now ≡ None }
+        ensures reply { IfOk result (λ r. R.reply r ≡ done (object_effect self.old.state thread context kind call.now)) }
+        ensures state { OnOk result (self.new ≡ record self.old { state = sweep (object_effect self.old.state thread context kind call.now).state }) }
+        ensures steps { IsCheap self.old.state self.new.state steps.old steps.new }
         ensures err { OnErr result (self.new ≡ self.old) }
         ensures memory { gl_takes_no_memory kind ≡ true → IsOk result }
         ensures nothing { clears_nothing kind call.now ≡ true → IsOk result }
         ensures room { gl_clears_own self.old.state thread kind ≡ true → IsOk result }
     {
-        match context_gl_call(kind) {
-            Some(_) => {
-                let value = self.apply(alloc, context, call);
-                Ok(valued(alloc, value))
+        match gl_role(kind) {
+            Role::Binds(names) => {
+                let target = target_of(names, number(call, TARGET));
+                self.bind_name(alloc, context, target, call, steps)?;
+                Ok(valued(alloc, 0))
             }
-            None => self.object_effect(alloc, thread, context, kind, call),
+            Role::Deletes(names) => {
+                self.delete_names(context, names, call, steps);
+                Ok(valued(alloc, 0))
+            }
+            Role::Attaches(names) => {
+                self.attach(context, names, call, steps);
+                Ok(valued(alloc, 0))
+            }
+            Role::Specifies(NameKind::Texture)
+            | Role::Specifies(NameKind::Renderbuffer)
+            | Role::TakesImage(_)
+            | Role::Copies => self.specify(alloc, thread, context, kind, call, steps),
+            _ => {
+                let reply = self.object_effect_keeping_holds(alloc, thread, context, kind, call)?;
+                self.settled();
+                Ok(reply)
+            }
         }
     }
 
@@ -373,73 +449,13 @@ impl Driver {
         ensures nothing { clears_nothing kind call.now ≡ true → IsOk result }
         ensures room { gl_clears_own self.old.state thread kind ≡ true → IsOk result }
     {
-        match kind {
-            GlKind::BindTexture => {
-                self.bind_name(alloc, context, BindTarget::Texture, call, steps)?;
-                Ok(valued(alloc, 0))
-            }
-            GlKind::BindBuffer => {
-                let target = buffer_target(number(call, TARGET));
-                self.bind_name(alloc, context, target, call, steps)?;
-                Ok(valued(alloc, 0))
-            }
-            GlKind::DeleteTextures => {
-                self.delete_names(context, NameKind::Texture, call, steps);
-                Ok(valued(alloc, 0))
-            }
-            GlKind::DeleteBuffers => {
-                self.delete_names(context, NameKind::Buffer, call, steps);
-                Ok(valued(alloc, 0))
-            }
-            GlKind::BindRenderbuffer => {
-                self.bind_name(alloc, context, BindTarget::Renderbuffer, call, steps)?;
-                Ok(valued(alloc, 0))
-            }
-            GlKind::DeleteRenderbuffers => {
-                self.delete_names(context, NameKind::Renderbuffer, call, steps);
-                Ok(valued(alloc, 0))
-            }
-            GlKind::RenderbufferStorage => {
-                self.set_storage(alloc, thread, context, call, steps)?;
-                Ok(valued(alloc, 0))
-            }
-            GlKind::BindFramebuffer => {
-                self.bind_name(alloc, context, BindTarget::Framebuffer, call, steps)?;
-                Ok(valued(alloc, 0))
-            }
-            GlKind::DeleteFramebuffers => {
-                self.delete_names(context, NameKind::Framebuffer, call, steps);
-                Ok(valued(alloc, 0))
-            }
-            GlKind::FramebufferTexture2d => {
-                self.attach(context, NameKind::Texture, call, steps);
-                Ok(valued(alloc, 0))
-            }
-            GlKind::FramebufferRenderbuffer => {
-                self.attach(context, NameKind::Renderbuffer, call, steps);
-                Ok(valued(alloc, 0))
-            }
-            GlKind::ImageTargetTexture2d => {
-                self.target_texture_image(context, call, steps);
-                Ok(valued(alloc, 0))
-            }
-            GlKind::ImageTargetRenderbufferStorage => {
-                self.target_renderbuffer_image(thread, context, call, steps);
-                Ok(valued(alloc, 0))
-            }
-            GlKind::TexImage2d => {
-                self.set_level(alloc, thread, context, call, steps)?;
-                Ok(valued(alloc, 0))
-            }
-            GlKind::CopyTexImage2d => {
-                self.copy_level(alloc, thread, context, call, steps)?;
-                Ok(valued(alloc, 0))
-            }
-            _ => {
-                let reply = self.gl_effect_keeping_holds(alloc, thread, context, kind, call)?;
+        match context_gl_call(kind) {
+            Some(_) => {
+                let value = self.apply(alloc, context, call);
                 self.settled();
-                Ok(reply)
+                Ok(valued(alloc, value))
             }
+            None => self.object_effect(alloc, thread, context, kind, call, steps),
         }
     }
 

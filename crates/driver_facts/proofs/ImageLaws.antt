@@ -1,10 +1,11 @@
 -- EGL images and the storages that they share.
-use Rattle.std.proofs.Common.{◌≡◌, ℕ, ◌<◌, ℤ, pos, negsuc, true, false, List, [], get_or, refl, sym, ap, ◌∙◌, inl, inr, arith, Option, None, Some}
+use Rattle.std.proofs.Common.{◌≡◌, ℕ, ◌<◌, ℤ, pos, negsuc, true, false, not, List, [], get_or, refl, sym, ap, ◌∙◌, inl, inr, arith, Option, None, Some}
 use Rattle.std.proofs.lemmas.Bool.{cases_eq, false≢true, leb-false, not-false}
 use Rattle.std.proofs.lemmas.Int.{ints}
 use Rattle.std.specs.Prelude.{IfSome, IsSome, int_lt, is_some}
 use Rattle.call_rules.proofs.EglLaws.{image_allowed}
 use Rattle.call_rules.proofs.GlLaws.{rows_off}
+use Rattle.call_rules.proofs.TestLaws.{given_last}
 use Rattle.egl_calls.specs.Arguments.{number}
 use Rattle.egl_calls.specs.Calls.{CallValue}
 use Rattle.egl_calls.specs.Ranges.{unsigned}
@@ -17,9 +18,11 @@ use Rattle.driver_objects.specs.Storages.{StorageValue}
 use Rattle.driver_objects.specs.declared.objects.Object.{Object}
 use Rattle.driver_objects.specs.declared.objects.Object.TheVariants.{Context, Group, Texture, Buffer, Renderbuffer, Framebuffer, Surface, Storage, Image, Sync}
 use Rattle.egl_model.specs.Displays.{is_display}
-use Rattle.egl_model.specs.EglCalls.{egl_facts, egl_refusal}
-use Rattle.egl_model.specs.GlCalls.{gl_refusal, renderbuffer_image_facts}
-use Rattle.egl_model.specs.Images.{has_pixels, image_storage, is_renderable, level_pixels, source_storage, target_image}
+use Rattle.egl_model.specs.EglCalls.{egl_refusal}
+use Rattle.egl_model.specs.Facts.{facts_of}
+use Rattle.egl_model.specs.GlCalls.{gl_refusal}
+use Rattle.egl_model.specs.GlFacts.{gl_facts_of}
+use Rattle.egl_model.specs.Images.{has_pixels, image_storage, is_renderable, level_pixels, source_storage, target_handle, target_image}
 use Rattle.egl_model.specs.Links.{rank_in}
 use Rattle.egl_model.specs.Objects.{as_egl_image, as_storage, change_renderbuffer, egl_image_in, storage_in, with_renderbuffer}
 use Rattle.egl_model.specs.Renderbuffers.{with_kind}
@@ -55,15 +58,15 @@ pixels_stored (Some v) h = refl
 -- ---- What is known of an eglCreateImage that isn't refused.
 pub image_display : (s : State) (t : ℕ) (c : CallValue) → c.kind ≡ Egl CreateImage → egl_refusal s t CreateImage c ≡ None → is_display (number c 0) ≡ true
 unfolding egl_refusal
-image_display s t c k h = (image_allowed c (egl_facts s t CreateImage c) k h).asked.on.display
+image_display s t c k h = (image_allowed c (facts_of s t c) k h).asked.on.display
 
 pub image_source : (s : State) (t : ℕ) (c : CallValue) → c.kind ≡ Egl CreateImage → egl_refusal s t CreateImage c ≡ None → IsSome (source_storage s c)
 unfolding egl_refusal
-image_source s t c k h = (image_allowed c (egl_facts s t CreateImage c) k h).asked.level
+image_source s t c k h = (image_allowed c (facts_of s t c) k h).asked.level
 
 pub image_numbers : (s : State) (t : ℕ) (c : CallValue) → c.kind ≡ Egl CreateImage → egl_refusal s t CreateImage c ≡ None → s.next_handle < 2147483648
 unfolding egl_refusal
-image_numbers s t c k h = leb-false 2147483648 s.next_handle (image_allowed c (egl_facts s t CreateImage c) k h).handles
+image_numbers s t c k h = leb-false 2147483648 s.next_handle (image_allowed c (facts_of s t c) k h).handles
 
 -- ---- A new image refers to its storage alone.
 storage_ranks : (o : Option Object) → is_some (as_storage o) ≡ true → IsSome o × (rank_in o < 1)
@@ -105,7 +108,8 @@ renderable_stored (Some v) h = refl
 pub image_stored : (s : State) (t n : ℕ) (c : CallValue) (i : EglImage) → c.kind ≡ Gl ImageTargetRenderbufferStorage → gl_refusal s t n ImageTargetRenderbufferStorage c ≡ None → target_image s n c ≡ Some i → IsSome (storage_in s.objects i.storage)
 unfolding gl_refusal
 image_stored s t n c i k h e =
-    let r : is_renderable (image_storage s.objects (target_image s n c)) ≡ true = not-false _ (rows_off c (renderbuffer_image_facts s n c) ImageTargetRenderbufferStorage k h).1.1.1.0 in
+    let off = rows_off c (gl_facts_of s t n c) ImageTargetRenderbufferStorage k h in
+    let r : is_renderable (image_storage s.objects (target_image s n c)) ≡ true = not-false _ (given_last (not (is_renderable (image_storage s.objects (target_image s n c)))) (is_some (target_handle s n c)) (not-false _ off.1.0) off.1.1.1.0) in
     renderable_stored (storage_in s.objects i.storage) (sym (ap (λ o. is_renderable (image_storage s.objects o)) e) ∙ r)
 
 -- ---- The kind of a renderbuffer changes no storage.

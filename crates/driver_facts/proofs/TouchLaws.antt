@@ -1,7 +1,7 @@
 -- What a call touches, by how its step goes.
 use Rattle.std.proofs.Common.{◌≡◌, ◌≢◌, ℕ, zero, suc, ◌+◌, ◌<◌, ℤ, pos, Bool, true, false, List, [], ◌∷◌, ◌++◌, map, length, drop, drop-cons, get_or, refl, sym, ap, ◌∙◌, arith, append_assoc, Option, None, Some}
 use Rattle.egl_calls.specs.Errors.{is_done}
-use Rattle.std.specs.Prelude.{if◌then◌else◌, IfSome}
+use Rattle.std.specs.Prelude.{if◌then◌else◌, is_some, ◌||◌, IfSome}
 use Rattle.std.proofs.lemmas.List.{append-nil, drop_all}
 use Rattle.std.specs.List.{filter_map, cons_option}
 use Rattle.std.specs.Option.{option_map_or, option_and_then}
@@ -15,11 +15,11 @@ use Rattle.egl_calls.specs.declared.kinds.Kind.TheVariants.{Own}
 use Rattle.egl_calls.specs.declared.kinds.EglKind.{EglKind}
 use Rattle.egl_calls.specs.declared.kinds.EglKind.TheVariants.{SwapBuffers}
 use Rattle.egl_calls.specs.declared.kinds.GlKind.{GlKind}
-use Rattle.egl_calls.specs.declared.kinds.GlKind.TheVariants.{ReadPixels}
+use Rattle.egl_calls.specs.declared.kinds.GlKind.TheVariants.{GetError as GlGetError}
 use Rattle.egl_calls.specs.declared.kinds.OwnKind.{OwnKind}
 use Rattle.egl_calls.specs.declared.kinds.OwnKind.TheVariants.{ReadBuffer, WaitEnd}
+use Rattle.call_table.specs.Rows.{gl_role}
 use Rattle.context_state.specs.Kinds.{context_gl_call}
-use Rattle.context_state.specs.declared.kinds.ContextCall.{ContextCall}
 use Rattle.share_group.specs.declared.names.NameKind.{NameKind}
 use Rattle.driver_objects.specs.Objects.{filled}
 use Rattle.driver_objects.specs.declared.textures.BackedTexture.{BackedTexture}
@@ -36,7 +36,7 @@ use Rattle.egl_model.specs.Textures.{storage_at}
 use Rattle.egl_model.specs.Waits.{is_signalled, is_wait_end}
 use Rattle.model_laws.proofs.StepLaws.{egl_done, egl_refused, gl_done, gl_refused, gl_without_context, step_goes, step_waits}
 use Rattle.driver_facts.specs.declared.touches.Touches.{Touches}
-use Rattle.driver_facts.specs.Touches.{buffer_touches_on, egl_touches, gl_touches, gl_touches_on, levels_in, nothing, object, objects_named, own_touches, touches_by, touches_of, where_done}
+use Rattle.driver_facts.specs.Touches.{buffer_touches_on, egl_touches, gl_touches, gl_touches_on, levels_in, nothing, object, objects_named, own_touches, tells, touches_by, touches_of, where_done}
 
 -- ---- A thread that waits.
 wait_nothing : (s : State) (t : ℕ) (c : CallValue) (k : Kind) (signalled : Bool) → where_done (wait_step s t (is_wait_end k) signalled) (touches_by s t k c) ≡ nothing
@@ -61,18 +61,26 @@ egl_by : (s : State) (t : ℕ) (k : EglKind) (c : CallValue) → (if is_done (ou
 egl_by s t SwapBuffers c = refl
 egl_by s t k c = either_nothing (is_done (outcome_of (egl_effect s t k c)))
 
-pub egl_touched : (s : State) (t : ℕ) (k : EglKind) (c : CallValue) → egl_refusal s t k c ≡ None → where_done (egl_step s t k c) (egl_touches s t k) ≡ egl_touches s t k
-egl_touched s t k c h = ap (λ a. where_done a (egl_touches s t k)) (egl_done s t k c h) ∙ egl_by s t k c
+pub egl_touched : (s : State) (t : ℕ) (k : EglKind) (c : CallValue) → is_some (egl_refusal s t k c) ≡ false → where_done (egl_step s t k c) (egl_touches s t k) ≡ egl_touches s t k
+egl_touched s t k c = by (egl_refusal s t k c) refl
+  where
+    by : (o : Option EglError) → egl_refusal s t k c ≡ o → is_some o ≡ false → where_done (egl_step s t k c) (egl_touches s t k) ≡ egl_touches s t k
+    by None e h = ap (λ a. where_done a (egl_touches s t k)) (egl_done s t k c e) ∙ egl_by s t k c
+    by (Some x) e h = absurd (let z : true ≡ false = h in cc)
 
-pub egl_untouched : (s : State) (t : ℕ) (k : EglKind) (c : CallValue) (e : EglError) → egl_refusal s t k c ≡ Some e → where_done (egl_step s t k c) (egl_touches s t k) ≡ nothing
-egl_untouched s t k c e h = ap (λ a. where_done a (egl_touches s t k)) (egl_refused s t k c e h)
+pub egl_untouched : (s : State) (t : ℕ) (k : EglKind) (c : CallValue) → is_some (egl_refusal s t k c) ≡ true → where_done (egl_step s t k c) (egl_touches s t k) ≡ nothing
+egl_untouched s t k c = by (egl_refusal s t k c) refl
+  where
+    by : (o : Option EglError) → egl_refusal s t k c ≡ o → is_some o ≡ true → where_done (egl_step s t k c) (egl_touches s t k) ≡ nothing
+    by None e h = absurd (let z : false ≡ true = h in cc)
+    by (Some x) e h = ap (λ a. where_done a (egl_touches s t k)) (egl_refused s t k c x e)
 
 -- ---- Calls of OpenGL ES. None of them waits.
 object_never_waits : (s : State) (t n : ℕ) (c : CallValue) (k : GlKind) → (object_effect s t n k c).waits ≡ false
-object_never_waits s t n c ReadPixels = refl
+object_never_waits s t n c GlGetError = refl
 object_never_waits s t n c k = refl
 
-waits_by : (o : Option ContextCall) (s : State) (t n : ℕ) (c : CallValue) (k : GlKind) → (effect_by o s t n k c).waits ≡ false
+waits_by : (o : Option GlKind) (s : State) (t n : ℕ) (c : CallValue) (k : GlKind) → (effect_by o s t n k c).waits ≡ false
 waits_by (Some own) s t n c k = refl
 waits_by None s t n c k = object_never_waits s t n c k
 
@@ -171,3 +179,11 @@ levels_end s x new all h e = sym (append-nil new) ∙ ap (λ ys. new ++ map pos 
     levels_out : (o : Option BackedTexture) → IfSome o (λ (y : BackedTexture). length y.levels ≡ 11) → drop 11 (option_map_or (λ (y : BackedTexture). y.levels) o []) ≡ []
     levels_out None i = refl
     levels_out (Some y) i = drop_all 11 y.levels (let l = i in omega (arith, l))
+
+-- ---- A call that asks or changes more than its context's own state has a role that tells what it touches.
+told : (k : GlKind) → (is_some (context_gl_call k) || tells (gl_role k)) ≡ true
+told GlGetError = refl
+told k = refl
+
+pub role_told : (k : GlKind) → context_gl_call k ≡ None → tells (gl_role k) ≡ true
+role_told k h = ap (λ o. is_some o || tells (gl_role k)) (sym h) ∙ told k

@@ -5,3 +5,4 @@ pub mod Groups
 pub mod Counts
 pub mod Touches
 pub mod Verdicts
+pub mod Found

@@ -1,5 +1,5 @@
 -- What a call reads and writes, beside what its thread has for itself: objects, and what windows show.
-use Rattle.std.specs.Prelude.{ℕ, ℤ, pos, neg_ℤ, List, [], ◌∷◌, ◌++◌, map, if◌then◌else◌, is_some, option_to_list, Option, None, Some}
+use Rattle.std.specs.Prelude.{ℕ, ℤ, pos, neg_ℤ, Bool, true, false, List, [], ◌∷◌, ◌++◌, map, if◌then◌else◌, is_some, option_to_list, Option, None, Some}
 use Rattle.egl_calls.specs.Errors.{is_done}
 use Rattle.std.specs.List.{filter_map}
 use Rattle.std.specs.Option.{option_and_then, option_map_or}
@@ -10,16 +10,14 @@ use Rattle.egl_calls.specs.declared.kinds.Kind.TheVariants.{Egl, Gl, Own}
 use Rattle.egl_calls.specs.declared.kinds.EglKind.{EglKind}
 use Rattle.egl_calls.specs.declared.kinds.EglKind.TheVariants.{SwapBuffers}
 use Rattle.egl_calls.specs.declared.kinds.GlKind.{GlKind}
-use Rattle.egl_calls.specs.declared.kinds.GlKind.TheVariants.{Clear, ReadPixels, DrawTexi, DrawTexx, GenTextures, DeleteTextures, IsTexture, BindTexture, TexParameterx, TexParameteriv, TexImage2d, TexSubImage2d, CopyTexImage2d, CopyTexSubImage2d, GenBuffers, DeleteBuffers, IsBuffer, BindBuffer, BufferData, BufferSubData, GetBufferParameteriv, GenRenderbuffers, DeleteRenderbuffers, IsRenderbuffer, BindRenderbuffer, RenderbufferStorage, GetRenderbufferParameteriv, GenFramebuffers, DeleteFramebuffers, IsFramebuffer, BindFramebuffer, FramebufferTexture2d, FramebufferRenderbuffer, CheckFramebufferStatus, GetFramebufferAttachmentParameteriv, ImageTargetTexture2d, ImageTargetRenderbufferStorage}
 use Rattle.egl_calls.specs.declared.kinds.OwnKind.{OwnKind}
 use Rattle.egl_calls.specs.declared.kinds.OwnKind.TheVariants.{ReadBuffer, ReadFront}
 use Rattle.egl_calls.specs.declared.places.TheConstants.{FRONT}
 use Rattle.call_table.specs.Rows.{gl_role}
 use Rattle.call_table.specs.declared.roles.Role.{Role}
-use Rattle.call_table.specs.declared.roles.Role.TheVariants.{Flushes}
+use Rattle.call_table.specs.declared.roles.Role.TheVariants.{Asks, Attaches, Binds, Clears, ClientWaits, Copies, CopiesPart, Creates, Deletes, Destroys, Draws, Flushes, Generates, Gets, MakesCurrent, OwnState, Plain, ReadsPixels, Releases, Rewrites, ServerWaits, Sets, Specifies, TakesImage}
 use Rattle.context_state.specs.Kinds.{context_gl_call}
 use Rattle.context_state.specs.Parts.{PartValue}
-use Rattle.context_state.specs.declared.kinds.ContextCall.{ContextCall}
 use Rattle.share_group.specs.declared.names.NameKind.TheVariants.{Texture as textures, Buffer as buffers, Renderbuffer as renderbuffers, Framebuffer as framebuffers}
 use Rattle.framebuffer_objects.specs.Framebuffers.{object_of}
 use Rattle.driver_objects.specs.Objects.{filled}
@@ -42,14 +40,9 @@ use Rattle.driver_facts.specs.declared.touches.Touches.{Touches}
 abbrev pub nothing : Touches
 nothing = record { reads = []; writes = [] }
 
--- what a call touches that the table hasn't: nothing can be proved of it, so no code can be proved to answer it
+-- what a call touches whose role doesn't tell it: nothing can be proved of it, so no code can be proved to answer it
 pub unlisted : Touches
 unlisted = nothing
-
--- a flush touches no object, so that it needs no line in the table
-abbrev pub touches_by_role : Role → Touches
-touches_by_role Flushes = nothing
-touches_by_role r = unlisted
 
 abbrev pub reading : List ℤ → Touches
 reading xs = record { reads = xs; writes = [] }
@@ -122,56 +115,59 @@ objects_named s n k xs = map pos (filter_map (λ x. object_named s (group_of s n
 abbrev pub deletion_touches : State → ℕ → NameKind → List ℤ → Touches
 deletion_touches s n k xs = writing (objects_named s n k xs)
 
-abbrev pub object_touches : State → ℕ → ℕ → GlKind → CallValue → Touches
--- pixels of the surfaces, or of what is attached in their place
-object_touches s t n Clear c = if clears_colour c then drawing (target_objects s n) (bound_framebuffer s t).draw else nothing
-object_touches s t n ReadPixels c = reading (pixels_read s t n)
-object_touches s t n DrawTexi c = draw_touches s t n
-object_touches s t n DrawTexx c = draw_touches s t n
--- the texture on which calls work, and the pixels of its levels
-object_touches s t n TexImage2d c = writing (object (target_texture s n))
-object_touches s t n ImageTargetTexture2d c = writing (object (target_texture s n))
-object_touches s t n TexParameterx c = writing (object (target_texture s n))
-object_touches s t n TexParameteriv c = writing (object (target_texture s n))
-object_touches s t n TexSubImage2d c = record { reads = object (target_texture s n); writes = object (level_storage s n (level_of c)) }
-object_touches s t n CopyTexImage2d c = record { reads = pixels_read s t n; writes = object (target_texture s n) }
-object_touches s t n CopyTexSubImage2d c = record { reads = object (target_texture s n) ++ pixels_read s t n; writes = object (level_storage s n (level_of c)) }
--- the buffer on which calls work
-object_touches s t n BufferData c = writing (object (target_buffer s n c))
-object_touches s t n BufferSubData c = writing (object (target_buffer s n c))
-object_touches s t n GetBufferParameteriv c = reading (object (target_buffer s n c))
--- the renderbuffer on which calls work
-object_touches s t n RenderbufferStorage c = writing (object (target_renderbuffer s n))
-object_touches s t n ImageTargetRenderbufferStorage c = writing (object (target_renderbuffer s n))
--- the framebuffer on which calls work
-object_touches s t n FramebufferTexture2d c = writing (object (target_framebuffer s n))
-object_touches s t n FramebufferRenderbuffer c = writing (object (target_framebuffer s n))
--- what is deleted; the framebuffer from which it is detached isn't counted
-object_touches s t n DeleteTextures c = deletion_touches s n textures c.list
-object_touches s t n DeleteBuffers c = deletion_touches s n buffers c.list
-object_touches s t n DeleteRenderbuffers c = deletion_touches s n renderbuffers c.list
-object_touches s t n DeleteFramebuffers c = deletion_touches s n framebuffers c.list
--- nothing but names
-object_touches s t n GenTextures c = nothing
-object_touches s t n IsTexture c = nothing
-object_touches s t n BindTexture c = nothing
-object_touches s t n GenBuffers c = nothing
-object_touches s t n IsBuffer c = nothing
-object_touches s t n BindBuffer c = nothing
-object_touches s t n GenRenderbuffers c = nothing
-object_touches s t n IsRenderbuffer c = nothing
-object_touches s t n BindRenderbuffer c = nothing
-object_touches s t n GenFramebuffers c = nothing
-object_touches s t n IsFramebuffer c = nothing
-object_touches s t n BindFramebuffer c = nothing
+-- the object with names of a kind that is bound; the target of a buffer is the call's
+abbrev pub bound_target : State → ℕ → CallValue → NameKind → Option ℕ
+bound_target s n c textures = target_texture s n
+bound_target s n c buffers = target_buffer s n c
+bound_target s n c renderbuffers = target_renderbuffer s n
+bound_target s n c framebuffers = target_framebuffer s n
+
 -- what is asked of a renderbuffer or a framebuffer isn't counted
-object_touches s t n GetRenderbufferParameteriv c = nothing
-object_touches s t n CheckFramebufferStatus c = nothing
-object_touches s t n GetFramebufferAttachmentParameteriv c = nothing
-object_touches s t n k c = touches_by_role (gl_role k)
+abbrev pub got_touches : State → ℕ → CallValue → NameKind → Touches
+got_touches s n c buffers = reading (object (target_buffer s n c))
+got_touches s n c names = nothing
+
+abbrev pub role_touches : Role → State → ℕ → ℕ → CallValue → Touches
+-- pixels of the surfaces, or of what is attached in their place
+role_touches Clears s t n c = if clears_colour c then drawing (target_objects s n) (bound_framebuffer s t).draw else nothing
+role_touches ReadsPixels s t n c = reading (pixels_read s t n)
+role_touches Draws s t n c = draw_touches s t n
+-- what is bound, and the pixels of its levels
+role_touches (Specifies names) s t n c = writing (object (bound_target s n c names))
+role_touches (TakesImage names) s t n c = writing (object (bound_target s n c names))
+role_touches (Sets names) s t n c = writing (object (bound_target s n c names))
+role_touches (Gets names) s t n c = got_touches s n c names
+role_touches Copies s t n c = record { reads = pixels_read s t n; writes = object (target_texture s n) }
+role_touches Rewrites s t n c = record { reads = object (target_texture s n); writes = object (level_storage s n (level_of c)) }
+role_touches CopiesPart s t n c = record { reads = object (target_texture s n) ++ pixels_read s t n; writes = object (level_storage s n (level_of c)) }
+-- the framebuffer to which something is attached
+role_touches (Attaches names) s t n c = writing (object (target_framebuffer s n))
+-- what is deleted; the framebuffer from which it is detached isn't counted
+role_touches (Deletes names) s t n c = deletion_touches s n names c.list
+-- nothing but names, or the fences of a context
+role_touches (Generates names) s t n c = nothing
+role_touches (Asks names) s t n c = nothing
+role_touches (Binds names) s t n c = nothing
+role_touches Flushes s t n c = nothing
+role_touches r s t n c = unlisted
+
+-- whether a role tells it
+abbrev pub tells : Role → Bool
+tells Plain = false
+tells (Creates kind) = false
+tells (Destroys kind) = false
+tells MakesCurrent = false
+tells Releases = false
+tells ClientWaits = false
+tells ServerWaits = false
+tells OwnState = false
+tells r = true
+
+abbrev pub object_touches : State → ℕ → ℕ → GlKind → CallValue → Touches
+object_touches s t n k c = role_touches (gl_role k) s t n c
 
 -- a call of its context's own state touches nothing else
-abbrev pub touches_by_class : Option ContextCall → State → ℕ → ℕ → GlKind → CallValue → Touches
+abbrev pub touches_by_class : Option GlKind → State → ℕ → ℕ → GlKind → CallValue → Touches
 touches_by_class (Some own) s t n k c = nothing
 touches_by_class None s t n k c = object_touches s t n k c
 

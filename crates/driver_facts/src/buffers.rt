@@ -1,19 +1,19 @@
 //! Buffers (OpenGL ES 1.1, sections 2.9 and 6.1.12).
-ghost use Rattle.std.specs.Prelude.{◌≡◌, ◌<◌, None, IfOk, Some, option_copied, pos, unwrap_or};
+ghost use Rattle.std.specs.Prelude.{◌≡◌, ◌<◌, None, IfOk, Some, is_some, length, option_copied, pos, unwrap_or};
+ghost use Rattle.std.specs.Option.{option_map_or};
 ghost use Rattle.egl_calls.specs.Ranges.{IsNumber};
 ghost use Rattle.egl_calls.specs.declared.kinds.Kind.TheVariants.{Own as OwnCall};
 ghost use Rattle.egl_calls.specs.declared.kinds.OwnKind.TheVariants.{ReadBuffer};
 ghost use Rattle.egl_model.specs.Buffers.{buffer_of, buffer_parameter, part_read, target_buffer};
-ghost use Rattle.egl_model.specs.GlCalls.{buffer_facts, data_facts, gl_refusal};
+ghost use Rattle.egl_model.specs.GlCalls.{gl_refusal};
 ghost use Rattle.egl_model.specs.OwnCalls.{buffer_refusal};
 ghost use Rattle.driver_facts.specs.Tables.{state_in};
 
 use crate::tables::Tables;
 use buffer_objects::Buffer;
-use call_rules::GlFacts;
 use driver_objects::buffer_target;
 use egl_calls::arguments::{number, signed};
-use egl_calls::places::{BOUND_PNAME, BUFFER_SIZE, TARGET};
+use egl_calls::places::{BOUND_PNAME, TARGET};
 use egl_calls::{Bytes, Call, GlError, NoMemory};
 use std::alloc::Global;
 
@@ -38,29 +38,20 @@ impl Tables {
         }
     }
 
-    /// What a call on a buffer is judged by.
-    pub(crate) fn buffer_facts(&self, context: u64, call: &Call) -> GlFacts
-        ensures { result ≡ buffer_facts (state_in self.now) context call.now }
+    /// Whether there is one.
+    pub(crate) fn is_buffer_bound(&self, context: u64, call: &Call) -> bool
+        ensures { result ≡ is_some (buffer_of (state_in self.now) context call.now) }
     {
-        match self.buffer_of(context, call) {
-            Some(buffer) => GlFacts {
-                is_bound: true,
-                bound_size: buffer.size(),
-                ..GlFacts::none()
-            },
-            None => GlFacts::none(),
-        }
+        self.buffer_of(context, call).is_some()
     }
 
-    /// What a glBufferData is judged by.
-    pub(crate) fn data_facts(&self, context: u64, call: &Call) -> GlFacts
-        ensures { result ≡ data_facts (state_in self.now) context call.now }
+    /// How many bytes it has; 0 where there is none.
+    pub(crate) fn buffer_size(&self, context: u64, call: &Call) -> u64
+        ensures { result ≡ option_map_or (λ b. length b.contents) (buffer_of (state_in self.now) context call.now) 0 }
     {
-        GlFacts {
-            live_bytes: self.objects.live_bytes(),
-            new_bytes: number(call, BUFFER_SIZE),
-            video_limit: self.video,
-            ..self.buffer_facts(context, call)
+        match self.buffer_of(context, call) {
+            Some(buffer) => buffer.size(),
+            None => 0,
         }
     }
 
@@ -76,13 +67,13 @@ impl Tables {
     }
 
     /// The error by which a `readBuffer` is refused.
-    #[tactic(auto, unfolding(egl_model::specs::OwnCalls::buffer_refusal))]
+    #[tactic(auto, using(crate::proofs::Asked::buffer_judged))]
     pub fn buffer_refusal(&self, thread: u32, context: u64, call: &Call) -> Option<GlError>
-        requires { call.now.kind ≡ OwnCall ReadBuffer }
+        requires made { thread < self.now.threads.made }
+        requires kind { call.now.kind ≡ OwnCall ReadBuffer }
         ensures { result ≡ buffer_refusal (state_in self.now) thread context call.now }
     {
-        let _ = thread;
-        call_rules::gl_refusal(call, &self.buffer_facts(context, call))
+        self.gl_verdict(thread, context, call)
     }
 
     /// The part of a buffer's contents that a `readBuffer` asks for.

@@ -1,12 +1,10 @@
 //! eglGetConfigs, eglChooseConfig and eglGetConfigAttrib (EGL 1.5, section 3.4).
 ghost use Rattle.std.specs.Prelude.{◌≡◌};
-ghost use Rattle.egl_model.specs.Configs.{is_list_allowed, choice_facts, attribute_facts, attribute_value};
+ghost use Rattle.egl_model.specs.Configs.{is_list_allowed, attribute_value};
 ghost use Rattle.egl_calls.specs.Ranges.{IsNumber};
-ghost use Rattle.driver_facts.specs.Tables.{state_in};
+ghost use Rattle.egl_model.specs.Facts.{is_config_attribute};
 
-use crate::tables::Tables;
 use attrib_lists::{Allowed, bad_place};
-use call_rules::EglFacts;
 use config_match::Configs;
 use egl_calls::Call;
 use egl_calls::arguments::signed;
@@ -19,6 +17,13 @@ pub fn is_list_allowed(allowed: Allowed, call: &Call) -> bool
     bad_place(call.list.as_slice(), allowed).is_none()
 }
 
+/// Whether configs have an attribute: all have the same.
+pub(crate) fn is_config_attribute(attribute: i64) -> bool
+    ensures { result ≡ is_config_attribute attribute }
+{
+    Configs::standard().attribute(1, attribute).is_some()
+}
+
 /// The value of an attribute of a config.
 pub fn attribute_value(call: &Call) -> i64
     ensures value { result ≡ attribute_value call.now }
@@ -27,29 +32,5 @@ pub fn attribute_value(call: &Call) -> i64
     match Configs::standard().attribute(signed(call, CONFIG), signed(call, ATTRIBUTE)) {
         Some(value) => value,
         None => 0,
-    }
-}
-
-impl Tables {
-    pub(crate) fn choice_facts(&self, call: &Call) -> EglFacts
-        ensures { result ≡ choice_facts (state_in self.now) call.now }
-    {
-        EglFacts {
-            is_list_allowed: is_list_allowed(Allowed::Config, call),
-            ..self.display_facts(call)
-        }
-    }
-
-    pub(crate) fn attribute_facts(&self, call: &Call) -> EglFacts
-        ensures { result ≡ attribute_facts (state_in self.now) call.now }
-    {
-        let configs = Configs::standard();
-        EglFacts {
-            is_config: configs.is_config(signed(call, CONFIG)),
-            is_attribute: configs
-                .attribute(signed(call, CONFIG), signed(call, ATTRIBUTE))
-                .is_some(),
-            ..self.display_facts(call)
-        }
     }
 }

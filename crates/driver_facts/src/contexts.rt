@@ -4,22 +4,18 @@ ghost use Rattle.std.specs.Prelude.{IfSome, ◌≡◌, ◌<◌, Some, None};
 ghost use Rattle.egl_calls.specs.Ranges.{IsNumber};
 ghost use Rattle.egl_calls.specs.Arguments.{signed};
 ghost use Rattle.egl_model.specs.Arguments.{number};
-ghost use Rattle.egl_model.specs.Contexts.{share_handle, is_share, is_share_here, context_facts, shared_group, context_call_facts, context_value_at, value_of_context, context_value};
+ghost use Rattle.egl_model.specs.Contexts.{share_handle, is_share, is_share_here, shared_group, context_value_at, value_of_context, context_value};
+ghost use Rattle.egl_model.specs.Facts.{is_context_attribute};
 ghost use Rattle.egl_model.specs.Objects.{context_in};
 ghost use Rattle.std.specs.Option.{option_map, option_and_then};
 ghost use Rattle.driver_facts.specs.Tables.{state_in};
 
-use crate::attributes::ContextAttributes;
-use crate::configs::is_list_allowed;
 use crate::tables::Tables;
-use attrib_lists::Allowed;
-use call_rules::EglFacts;
-use config_match::Configs;
 use display_table::{Handle, HandleKind};
 use driver_objects::Context;
 use egl_calls::Call;
 use egl_calls::arguments::{is_zero, number, signed};
-use egl_calls::places::{ATTRIBUTE, CONFIG, NAMED, SHARE_CONTEXT};
+use egl_calls::places::{ATTRIBUTE, NAMED, SHARE_CONTEXT};
 use egl_names::codes::{
     EGL_BACK_BUFFER, EGL_CONFIG_ID, EGL_CONTEXT_CLIENT_TYPE, EGL_CONTEXT_CLIENT_VERSION, EGL_NONE,
     EGL_OPENGL_ES_API, EGL_RENDER_BUFFER,
@@ -40,6 +36,13 @@ fn context_value_at(config: u32, is_drawn: bool, attribute: u64) -> Option<i64>
     }
 }
 
+/// Whether contexts have an attribute: all have the same.
+pub(crate) fn is_context_attribute(attribute: u64) -> bool
+    ensures { result ≡ is_context_attribute attribute }
+{
+    context_value_at(0, false, attribute).is_some()
+}
+
 impl Tables {
     /// The handle of the context to share with.
     fn share_handle(&self, call: &Call) -> Option<Handle>
@@ -49,35 +52,19 @@ impl Tables {
             .handle_anywhere(signed(call, SHARE_CONTEXT), HandleKind::Context)
     }
 
-    fn is_share(&self, call: &Call) -> bool
+    pub(crate) fn is_share(&self, call: &Call) -> bool
         ensures { result ≡ is_share (state_in self.now) call.now }
     {
         is_zero(call, SHARE_CONTEXT) || self.share_handle(call).is_some()
     }
 
-    fn is_share_here(&self, call: &Call) -> bool
+    pub(crate) fn is_share_here(&self, call: &Call) -> bool
         ensures { result ≡ is_share_here (state_in self.now) call.now }
     {
         is_zero(call, SHARE_CONTEXT)
             || self
                 .handle_at(call, SHARE_CONTEXT, HandleKind::Context)
                 .is_some()
-    }
-
-    pub(crate) fn context_facts(&self, call: &Call) -> EglFacts
-        ensures { result ≡ context_facts (state_in self.now) call.now }
-    {
-        let asked = ContextAttributes::read(call);
-        EglFacts {
-            is_config: Configs::standard().is_config(signed(call, CONFIG)),
-            is_list_allowed: is_list_allowed(Allowed::Context, call),
-            is_share: self.is_share(call),
-            is_share_here: self.is_share_here(call),
-            version: asked.version,
-            minor_version: asked.minor_version,
-            are_handles_used_up: self.displays.are_used_up(),
-            ..self.display_facts(call)
-        }
     }
 
     /// The group of the context with which a handle shares.
@@ -104,16 +91,6 @@ impl Tables {
             None
         } else {
             self.group_of(self.share_handle(call))
-        }
-    }
-
-    /// What is asked of a call that names a context after its display.
-    pub(crate) fn context_call_facts(&self, call: &Call) -> EglFacts
-        ensures { result ≡ context_call_facts (state_in self.now) call.now }
-    {
-        EglFacts {
-            is_context: self.handle_at(call, NAMED, HandleKind::Context).is_some(),
-            ..self.display_facts(call)
         }
     }
 

@@ -4,13 +4,14 @@ ghost use Rattle.std.specs.Option.{option_map};
 ghost use Rattle.egl_calls.specs.declared.kinds.Kind.TheVariants.{Gl as GlCall};
 ghost use Rattle.egl_calls.specs.declared.kinds.GlKind.TheVariants.{CopyTexImage2d};
 ghost use Rattle.egl_model.specs.Copies.{copied_bytes, copied_level, read_image};
-ghost use Rattle.egl_model.specs.GlCalls.{copy_facts, copy_part_facts, gl_refusal, has_read_alpha, has_stored_alpha};
+ghost use Rattle.egl_model.specs.GlCalls.{gl_refusal};
+ghost use Rattle.egl_model.specs.GlFacts.{has_read_alpha, has_stored_alpha};
 ghost use Rattle.egl_model.specs.Objects.{storage_in};
 ghost use Rattle.driver_facts.specs.Tables.{state_in};
 
-use crate::refusals::LONGEST_SIDE;
+use crate::gl_asked::LONGEST_SIDE;
 use crate::tables::Tables;
-use call_rules::{GlFacts, has_alpha};
+use call_rules::has_alpha;
 use driver_objects::Storage;
 use egl_calls::arguments::number;
 use egl_calls::places::{COPIED_HEIGHT, COPIED_WIDTH};
@@ -18,10 +19,10 @@ use egl_calls::{Call, NoMemory};
 use pixel_formats::bytes_of;
 use std::alloc::Global;
 use texture_objects::base_code;
-use thread_part::{copied_format, copied_rect, framebuffer_facts};
+use thread_part::{copied_format, copied_rect};
 
 /// The bytes of the level that a glCopyTexImage2D gives; a longer side is another refusal's.
-fn copied_bytes(call: &Call) -> u64
+pub(crate) fn copied_bytes(call: &Call) -> u64
     ensures { result ≡ copied_bytes call.now }
 {
     number(call, COPIED_WIDTH).min(LONGEST_SIDE)
@@ -40,39 +41,13 @@ impl Tables {
     }
 
     /// Whether the pixels that a thread reads have alpha.
-    fn has_read_alpha(&self, thread: u32) -> bool
+    pub(crate) fn has_read_alpha(&self, thread: u32) -> bool
         requires { thread < self.now.threads.made }
         ensures { result ≡ has_read_alpha (state_in self.now) thread }
     {
         match self.bound_framebuffer(thread).read {
             Some(storage) => self.has_stored_alpha(storage),
             None => false,
-        }
-    }
-
-    /// What a glCopyTexImage2D is judged by.
-    pub(crate) fn copy_facts(&self, thread: u32, call: &Call) -> GlFacts
-        requires { thread < self.now.threads.made }
-        ensures { result ≡ copy_facts (state_in self.now) thread call.now }
-    {
-        GlFacts {
-            has_read_alpha: self.has_read_alpha(thread),
-            live_bytes: self.objects.live_bytes(),
-            new_bytes: copied_bytes(call),
-            video_limit: self.video,
-            ..framebuffer_facts(self.has_complete_framebuffer(thread))
-        }
-    }
-
-    /// What a glCopyTexSubImage2D is judged by.
-    pub(crate) fn copy_part_facts(&self, thread: u32, context: u64, call: &Call) -> GlFacts
-        requires { thread < self.now.threads.made }
-        ensures { result ≡ copy_part_facts (state_in self.now) thread context call.now }
-    {
-        GlFacts {
-            is_framebuffer_complete: self.has_complete_framebuffer(thread),
-            has_read_alpha: self.has_read_alpha(thread),
-            ..self.part_facts(context, call)
         }
     }
 

@@ -4,7 +4,6 @@ ghost use Rattle.std.specs.Option.{option_and_then, option_map_or};
 ghost use Rattle.egl_calls.specs.Ranges.{IsNumber, is_client_wait};
 ghost use Rattle.egl_model.specs.Currents.{current_context, part_of_context};
 ghost use Rattle.egl_model.specs.Framebuffers.{attached, attached_as, attached_type, attachment_of, attachment_parameter, bound_framebuffer, called_point, color_part_in, color_storage, framebuffer_name, framebuffer_of, given_attachment, is_complete, object_framebuffer, part_in, status_in, stored_part, target_framebuffer, window_framebuffer, window_status};
-ghost use Rattle.egl_model.specs.GlCalls.{attach_facts, attachment_facts, bound_framebuffer_facts};
 ghost use Rattle.egl_model.specs.Objects.{storage_in};
 ghost use Rattle.egl_model.specs.State.{object_at};
 ghost use Rattle.egl_names.specs.declared.codes.TheConstants.{GL_FRAMEBUFFER_COMPLETE_OES as COMPLETE};
@@ -16,7 +15,6 @@ ghost use Rattle.driver_facts.specs.Tables.{state_in};
 
 use crate::names::name_of;
 use crate::tables::Tables;
-use call_rules::GlFacts;
 use egl_calls::arguments::number;
 use egl_calls::places::{ATTACHED_NAME, ATTACHMENT, ATTACHMENT_PNAME};
 use egl_calls::{Call, unsigned};
@@ -117,44 +115,12 @@ impl Tables {
     }
 
     /// What is attached at the point that a call names.
-    fn attachment_of(&self, context: u64, call: &Call) -> Option<Attached>
+    pub(crate) fn attachment_of(&self, context: u64, call: &Call) -> Option<Attached>
         ensures { result ≡ attachment_of (state_in self.now) context call.now }
     {
         match self.framebuffer_of(context) {
             Some(framebuffer) => framebuffer.attached(called_point(call)),
             None => None,
-        }
-    }
-
-    /// What a call on a framebuffer is judged by.
-    fn bound_framebuffer_facts(&self, context: u64) -> GlFacts
-        ensures { result ≡ bound_framebuffer_facts (state_in self.now) context }
-    {
-        GlFacts {
-            is_bound: self.target_framebuffer(context).is_some(),
-            ..GlFacts::none()
-        }
-    }
-
-    /// What a call that attaches an object with a name of a kind is judged by.
-    pub(crate) fn attach_facts(&self, context: u64, kind: NameKind, call: &Call) -> GlFacts
-        requires { is_client_wait call.now.kind ≡ false }
-        ensures { result ≡ attach_facts kind (state_in self.now) context call.now }
-    {
-        let name = name_of(call, ATTACHED_NAME);
-        GlFacts {
-            is_named: self.object_named(context, kind, name).is_some(),
-            ..self.bound_framebuffer_facts(context)
-        }
-    }
-
-    /// What a glGetFramebufferAttachmentParameterivOES is judged by.
-    pub(crate) fn attachment_facts(&self, context: u64, call: &Call) -> GlFacts
-        ensures { result ≡ attachment_facts (state_in self.now) context call.now }
-    {
-        GlFacts {
-            is_attached: self.attachment_of(context, call).is_some(),
-            ..self.bound_framebuffer_facts(context)
         }
     }
 

@@ -1,27 +1,22 @@
 //! EGL images (EGL 1.5, section 3.9; OES_EGL_image).
 ghost use Rattle.std.specs.Prelude.{◌≡◌, ◌<◌, false, None, Some, IfSome, IsSome};
 ghost use Rattle.std.specs.Option.{option_and_then};
-ghost use Rattle.display_table.specs.declared.handles.HandleKind.TheVariants.{Context as a_context};
-ghost use Rattle.egl_calls.specs.Ranges.{is_client_wait, unsigned};
+ghost use Rattle.egl_calls.specs.Ranges.{unsigned};
 ghost use Rattle.egl_model.specs.Arguments.{number};
-ghost use Rattle.egl_model.specs.GlCalls.{renderbuffer_image_facts, target_image_facts};
-ghost use Rattle.egl_model.specs.Handles.{handle_at};
-ghost use Rattle.egl_model.specs.Images.{asked_level, has_pixels, image_facts, image_storage, is_incomplete_in, is_renderable, is_sibling, is_source_in, level_pixels, new_image_facts, source_kind, target_handle, target_image, with_pixels_in};
+ghost use Rattle.egl_model.specs.Images.{asked_level, has_pixels, image_storage, is_incomplete_in, is_renderable, is_sibling, is_source_in, level_pixels, source_context, source_kind, target_handle, target_image, with_pixels_in};
 ghost use Rattle.egl_model.specs.Names.{group_of, object_named};
 ghost use Rattle.egl_model.specs.Objects.{storage_in};
 ghost use Rattle.egl_model.specs.State.{object_at};
 ghost use Rattle.driver_facts.specs.Groups.{IsPixels};
 ghost use Rattle.driver_facts.specs.Tables.{KnowsRoots, state_in};
 
-use crate::configs::is_list_allowed;
 use crate::names::name_of;
 use crate::tables::Tables;
-use attrib_lists::{Allowed, value_of};
-use call_rules::{EglFacts, GlFacts};
+use attrib_lists::value_of;
 use display_table::{Handle, HandleKind};
 use egl_calls::arguments::{number, signed};
 use egl_calls::places::{CLIENT_BUFFER, IMAGE_SOURCE, NAMED, TARGET_IMAGE};
-use egl_calls::{Call, unsigned};
+use egl_calls::{Call, EglKind, Kind, unsigned};
 use egl_image::{EglImage, may_create, may_target_renderbuffer};
 use egl_names::codes::{EGL_GL_TEXTURE_2D, EGL_GL_TEXTURE_LEVEL};
 use framebuffer_objects::Renderbuffer;
@@ -48,9 +43,11 @@ fn asked_level(call: &Call) -> i64
 impl Tables {
     /// What has the name that an eglCreateImage gives, in the group of the context that it names.
     pub fn image_source(&self, call: &Call) -> Option<u64>
-        requires { is_client_wait call.now.kind ≡ false }
-        ensures { result ≡ option_and_then (λ h. object_named (state_in self.now) (group_of (state_in self.now) h.object) (source_kind call.now) (number call.now 3)) (handle_at (state_in self.now) call.now 1 a_context) }
+        ensures { result ≡ option_and_then (λ h. object_named (state_in self.now) (group_of (state_in self.now) h.object) (source_kind call.now) (number call.now 3)) (source_context (state_in self.now) call.now) }
     {
+        if matches!(call.kind, Kind::Egl(EglKind::ClientWaitSync)) {
+            return None;
+        }
         match self.handle_at(call, NAMED, HandleKind::Context) {
             Some(context) => {
                 let name = name_of(call, CLIENT_BUFFER);
@@ -61,7 +58,7 @@ impl Tables {
     }
 
     /// Whether it has pixels.
-    fn is_source(&self, source: Option<u64>) -> bool
+    pub(crate) fn is_source(&self, source: Option<u64>) -> bool
         ensures { result ≡ is_source_in (state_in self.now).objects (option_and_then (object_at (state_in self.now)) source) }
     {
         match source {
@@ -71,7 +68,7 @@ impl Tables {
     }
 
     /// Whether it is a texture with a level above 0 that isn't complete.
-    fn is_incomplete(&self, source: Option<u64>) -> bool
+    pub(crate) fn is_incomplete(&self, source: Option<u64>) -> bool
         ensures { result ≡ is_incomplete_in (state_in self.now).objects (option_and_then (object_at (state_in self.now)) source) }
     {
         match source {
@@ -132,7 +129,7 @@ impl Tables {
 
     /// Whether something besides a texture or a renderbuffer refers to a storage.
     #[tactic(auto, using(crate::proofs::CountLaws::references_counted))]
-    fn is_sibling(&self, storage: Option<u64>) -> bool
+    pub(crate) fn is_sibling(&self, storage: Option<u64>) -> bool
         requires { KnowsRoots self.now }
         ensures { result ≡ is_sibling (state_in self.now) storage }
     {
@@ -142,38 +139,8 @@ impl Tables {
         }
     }
 
-    /// What an eglCreateImage is judged by.
-    pub(crate) fn new_image_facts(&self, call: &Call) -> EglFacts
-        requires kind { is_client_wait call.now.kind ≡ false }
-        requires roots { KnowsRoots self.now }
-        ensures { result ≡ new_image_facts (state_in self.now) call.now }
-    {
-        let source = self.image_source(call);
-        let storage = self.level_of_source(source, call);
-        EglFacts {
-            is_context: self.handle_at(call, NAMED, HandleKind::Context).is_some(),
-            is_list_allowed: is_list_allowed(Allowed::Image, call),
-            is_source: self.is_source(source),
-            is_incomplete: self.is_incomplete(source),
-            is_level: storage.is_some(),
-            is_sibling: self.is_sibling(storage),
-            are_handles_used_up: self.displays.are_used_up(),
-            ..self.display_facts(call)
-        }
-    }
-
-    /// What an eglDestroyImage is judged by.
-    pub(crate) fn image_call_facts(&self, call: &Call) -> EglFacts
-        ensures { result ≡ image_facts (state_in self.now) call.now }
-    {
-        EglFacts {
-            is_image: self.handle_at(call, NAMED, HandleKind::Image).is_some(),
-            ..self.display_facts(call)
-        }
-    }
-
     /// The handle of the image that a call of OpenGL ES names: one of its context's display.
-    fn target_handle(&self, context: u64, call: &Call) -> Option<Handle>
+    pub(crate) fn target_handle(&self, context: u64, call: &Call) -> Option<Handle>
         ensures { result ≡ target_handle (state_in self.now) context call.now }
     {
         let display = i64::from(self.display_at(Some(context)));
@@ -195,7 +162,7 @@ impl Tables {
     }
 
     /// Whether a renderbuffer may have the pixels of an image.
-    fn is_renderable(&self, image: Option<EglImage>) -> bool
+    pub(crate) fn is_renderable(&self, image: Option<EglImage>) -> bool
         ensures { result ≡ is_renderable (image_storage (state_in self.now).objects image) }
     {
         match image {
@@ -204,27 +171,6 @@ impl Tables {
                 None => false,
             },
             None => false,
-        }
-    }
-
-    /// What a glEGLImageTargetTexture2DOES is judged by.
-    pub(crate) fn target_image_facts(&self, context: u64, call: &Call) -> GlFacts
-        ensures { result ≡ target_image_facts (state_in self.now) context call.now }
-    {
-        GlFacts {
-            is_image: self.target_handle(context, call).is_some(),
-            ..GlFacts::none()
-        }
-    }
-
-    /// What a glEGLImageTargetRenderbufferStorageOES is judged by.
-    pub(crate) fn renderbuffer_image_facts(&self, context: u64, call: &Call) -> GlFacts
-        ensures { result ≡ renderbuffer_image_facts (state_in self.now) context call.now }
-    {
-        GlFacts {
-            is_bound: self.target_renderbuffer(context).is_some(),
-            is_renderable: self.is_renderable(self.target_image(context, call)),
-            ..self.target_image_facts(context, call)
         }
     }
 }

@@ -2,12 +2,10 @@
 ghost use Rattle.std.specs.Prelude.{◌≡◌, None, Some, option_copied};
 ghost use Rattle.egl_calls.specs.Ranges.{IsNumber};
 ghost use Rattle.egl_model.specs.Arguments.{number};
-ghost use Rattle.egl_model.specs.GlCalls.{renderbuffer_facts, storage_facts};
 ghost use Rattle.egl_model.specs.Renderbuffers.{renderbuffer_bytes, renderbuffer_of, renderbuffer_parameter, side_of, target_renderbuffer};
 ghost use Rattle.driver_facts.specs.Tables.{state_in};
 
 use crate::tables::Tables;
-use call_rules::GlFacts;
 use driver_objects::BackedRenderbuffer;
 use egl_calls::Call;
 use egl_calls::arguments::number;
@@ -20,7 +18,7 @@ use pixel_formats::bytes_of;
 const LONGEST_SIDE: u64 = 2_048;
 
 /// The bytes of the pixels that a glRenderbufferStorageOES gives; a longer side is another refusal's.
-fn renderbuffer_bytes(call: &Call) -> u64
+pub(crate) fn renderbuffer_bytes(call: &Call) -> u64
     ensures { result ≡ renderbuffer_bytes call.now }
 {
     match format_of(number(call, STORED_FORMAT)) {
@@ -62,28 +60,6 @@ impl Tables {
         match self.target_renderbuffer(context) {
             Some(renderbuffer) => self.objects.renderbuffer(renderbuffer),
             None => None,
-        }
-    }
-
-    /// What a call on a renderbuffer is judged by.
-    pub(crate) fn renderbuffer_facts(&self, context: u64) -> GlFacts
-        ensures { result ≡ renderbuffer_facts (state_in self.now) context }
-    {
-        GlFacts {
-            is_bound: self.target_renderbuffer(context).is_some(),
-            ..GlFacts::none()
-        }
-    }
-
-    /// What a glRenderbufferStorageOES is judged by.
-    pub(crate) fn storage_facts(&self, context: u64, call: &Call) -> GlFacts
-        ensures { result ≡ storage_facts (state_in self.now) context call.now }
-    {
-        GlFacts {
-            live_bytes: self.objects.live_bytes(),
-            new_bytes: renderbuffer_bytes(call),
-            video_limit: self.video,
-            ..self.renderbuffer_facts(context)
         }
     }
 

@@ -1,22 +1,25 @@
 //! What a call reads and writes.
-ghost use Rattle.std.specs.Prelude.{◌≡◌, ◌≢◌, ◌<◌, ◌++◌, ◌∷◌, [], None, is_some, map, pos, true, IfOk, IsOk, OnOk};
+ghost use Rattle.std.specs.Prelude.{◌≡◌, ◌≢◌, ◌<◌, ◌++◌, ◌∷◌, [], None, is_some, map, pos, true, false, IfOk, IsOk, OnOk};
 ghost use Rattle.context_state.specs.Kinds.{context_gl_call};
 ghost use Rattle.driver_objects.specs.Objects.{filled};
 ghost use Rattle.egl_calls.specs.declared.kinds.Kind.TheVariants.{Egl as EglCall, Gl as GlCall, Own as OwnCall};
-ghost use Rattle.egl_calls.specs.declared.kinds.GlKind.TheVariants.{Clear, CopyTexSubImage2d};
+ghost use Rattle.call_table.specs.Rows.{gl_role};
+ghost use Rattle.call_table.specs.declared.roles.Role.TheVariants.{Clears, CopiesPart};
 ghost use Rattle.egl_calls.specs.declared.kinds.OwnKind.TheVariants.{ReadBuffer, ReadFront};
 ghost use Rattle.egl_model.specs.Currents.{bound_surface, current_context, part_of_context};
 ghost use Rattle.egl_model.specs.EglCalls.{egl_refusal};
 ghost use Rattle.egl_model.specs.State.{record_of};
 ghost use Rattle.egl_model.specs.Step.{egl_step, gl_step, own_step, step_by};
 ghost use Rattle.egl_model.specs.Textures.{target_texture};
+ghost use Rattle.egl_model.specs.Drawing.{clears_colour};
 ghost use Rattle.thread_part.specs.Memory.{clears_nothing};
 ghost use Rattle.driver_facts.specs.Memory.{is_bare, is_bare_on};
-ghost use Rattle.driver_facts.specs.Touches.{color_object, deletion_touches, draw_touches, egl_touches, front, gl_touches, gl_touches_on, levels_in, nothing, object, object_touches, objects_named, own_touches, pixels_read, reading, sampled_by, swap_of, target_objects, touches_by, touches_of, where_done, with_color, with_levels, writing};
+ghost use Rattle.driver_facts.specs.Touches.{bound_target, color_object, deletion_touches, draw_touches, egl_touches, front, gl_touches, gl_touches_on, got_touches, levels_in, nothing, object, object_touches, objects_named, own_touches, pixels_read, reading, role_touches, sampled_by, swap_of, target_objects, tells, touches_by, touches_of, where_done, with_color, with_levels, writing};
 ghost use Rattle.driver_facts.specs.Tables.{KnowsRoots, state_in};
 
 use crate::names::listed_name;
 use crate::tables::Tables;
+use call_table::{Role, gl_role};
 use context_state::context_gl_call;
 use egl_calls::arguments::number;
 use egl_calls::places::{FRONT, LEVEL};
@@ -119,6 +122,16 @@ impl Tables {
         Ok(writing(alloc, writes))
     }
 
+    fn is_egl_refused(&self, thread: u32, kind: EglKind, call: &Call) -> bool
+        requires made { thread < self.now.threads.made }
+        requires kind { call.now.kind ≡ EglCall kind }
+        requires roots { KnowsRoots self.now }
+        ensures { result ≡ is_some (egl_refusal (state_in self.now) thread kind call.now) }
+    {
+        let found = self.egl_found(call);
+        self.egl_refusal(thread, kind, call, &found).is_some()
+    }
+
     #[tactic(auto, using(crate::proofs::TouchLaws::egl_touched, crate::proofs::TouchLaws::egl_untouched))]
     fn egl_touches(
         &self,
@@ -133,7 +146,7 @@ impl Tables {
         ensures touched { IfOk result (λ x. x ≡ where_done (egl_step (state_in self.now) thread kind call.now) (egl_touches (state_in self.now) thread kind)) }
         ensures bare { is_some (egl_refusal (state_in self.now) thread kind call.now) ≡ true → IsOk result }
     {
-        if self.egl_refusal(thread, kind, call).is_some() {
+        if self.is_egl_refused(thread, kind, call) {
             return Ok(nothing(alloc));
         }
         match kind {
@@ -256,8 +269,8 @@ impl Tables {
         call: &Call,
     ) -> Result<Touches, NoMemory>
         requires { thread < self.now.threads.made }
-        ensures touched { IfOk result (λ x. x ≡ object_touches (state_in self.now) thread context Clear call.now) }
-        ensures nothing { clears_nothing Clear call.now ≡ true → IsOk result }
+        ensures touched { IfOk result (λ x. x ≡ role_touches Clears (state_in self.now) thread context call.now) }
+        ensures nothing { clears_colour call.now ≡ false → IsOk result }
     {
         if !clears_colour(call) {
             return Ok(nothing(alloc));
@@ -268,7 +281,7 @@ impl Tables {
         Ok(Touches { reads, writes })
     }
 
-    /// What a glCopyTexSubImage2D touches.
+    /// What a call touches that copies to a part of a level.
     fn copy_part_touches(
         &self,
         alloc: Global,
@@ -277,7 +290,7 @@ impl Tables {
         call: &Call,
     ) -> Result<Touches, NoMemory>
         requires { thread < self.now.threads.made }
-        ensures { IfOk result (λ x. x ≡ object_touches (state_in self.now) thread context CopyTexSubImage2d call.now) }
+        ensures { IfOk result (λ x. x ≡ role_touches CopiesPart (state_in self.now) thread context call.now) }
     {
         let mut reads = object(alloc, self.target_texture(context))?;
         self.push_pixels_read(&mut reads, thread, context)?;
@@ -323,6 +336,52 @@ impl Tables {
 
 // All calls.
 impl Tables {
+    /// The object with names of a kind that is bound; the target of a buffer is the call's.
+    fn bound_target(&self, context: u64, names: NameKind, call: &Call) -> Option<u64>
+        ensures { result ≡ bound_target (state_in self.now) context call.now names }
+    {
+        match names {
+            NameKind::Texture => self.target_texture(context),
+            NameKind::Buffer => self.target_buffer(context, call),
+            NameKind::Renderbuffer => self.target_renderbuffer(context),
+            NameKind::Framebuffer => self.target_framebuffer(context),
+        }
+    }
+
+    /// What a call touches that writes what is bound.
+    fn set_touches(
+        &self,
+        alloc: Global,
+        context: u64,
+        names: NameKind,
+        call: &Call,
+    ) -> Result<Touches, NoMemory>
+        ensures { IfOk result (λ x. x ≡ writing (object (bound_target (state_in self.now) context call.now names))) }
+    {
+        Ok(writing(
+            alloc,
+            object(alloc, self.bound_target(context, names, call))?,
+        ))
+    }
+
+    /// What a call touches that asks for something of what is bound.
+    fn got_touches(
+        &self,
+        alloc: Global,
+        context: u64,
+        names: NameKind,
+        call: &Call,
+    ) -> Result<Touches, NoMemory>
+        ensures { IfOk result (λ x. x ≡ got_touches (state_in self.now) context call.now names) }
+    {
+        match names {
+            NameKind::Buffer => {
+                Ok(reading(alloc, object(alloc, self.target_buffer(context, call))?))
+            }
+            _ => Ok(nothing(alloc)),
+        }
+    }
+
     /// What a call touches that asks or changes more than its context's own state.
     fn object_touches(
         &self,
@@ -333,60 +392,40 @@ impl Tables {
         call: &Call,
     ) -> Result<Touches, NoMemory>
         requires made { thread < self.now.threads.made }
-        requires object { context_gl_call kind ≡ None }
+        requires told { tells (gl_role kind) ≡ true }
         ensures touched { IfOk result (λ x. x ≡ object_touches (state_in self.now) thread context kind call.now) }
         ensures nothing { clears_nothing kind call.now ≡ true → IsOk result }
     {
-        match kind {
-            GlKind::Clear => self.clear_touches(alloc, thread, context, call),
-            GlKind::ReadPixels => Ok(reading(alloc, self.pixels_read(alloc, thread, context)?)),
-            GlKind::DrawTexi | GlKind::DrawTexx => self.draw_touches(alloc, thread, context),
-            GlKind::TexImage2d | GlKind::ImageTargetTexture2d => {
-                Ok(writing(alloc, object(alloc, self.target_texture(context))?))
+        match gl_role(kind) {
+            Role::Clears => self.clear_touches(alloc, thread, context, call),
+            Role::ReadsPixels => Ok(reading(alloc, self.pixels_read(alloc, thread, context)?)),
+            Role::Draws => self.draw_touches(alloc, thread, context),
+            Role::Specifies(names) | Role::TakesImage(names) | Role::Sets(names) => {
+                self.set_touches(alloc, context, names, call)
             }
-            GlKind::TexParameterx | GlKind::TexParameteriv => {
-                Ok(writing(alloc, object(alloc, self.target_texture(context))?))
-            }
-            GlKind::TexSubImage2d => Ok(Touches {
-                reads: object(alloc, self.target_texture(context))?,
-                writes: object(alloc, self.level_storage(context, number(call, LEVEL)))?,
-            }),
-            GlKind::CopyTexImage2d => Ok(Touches {
+            Role::Gets(names) => self.got_touches(alloc, context, names, call),
+            Role::Copies => Ok(Touches {
                 reads: self.pixels_read(alloc, thread, context)?,
                 writes: object(alloc, self.target_texture(context))?,
             }),
-            GlKind::CopyTexSubImage2d => self.copy_part_touches(alloc, thread, context, call),
-            GlKind::BufferData | GlKind::BufferSubData => {
-                Ok(writing(alloc, object(alloc, self.target_buffer(context, call))?))
-            }
-            GlKind::GetBufferParameteriv => {
-                Ok(reading(alloc, object(alloc, self.target_buffer(context, call))?))
-            }
-            GlKind::RenderbufferStorage | GlKind::ImageTargetRenderbufferStorage => {
-                Ok(writing(alloc, object(alloc, self.target_renderbuffer(context))?))
-            }
-            GlKind::FramebufferTexture2d | GlKind::FramebufferRenderbuffer => {
+            Role::Rewrites => Ok(Touches {
+                reads: object(alloc, self.target_texture(context))?,
+                writes: object(alloc, self.level_storage(context, number(call, LEVEL)))?,
+            }),
+            Role::CopiesPart => self.copy_part_touches(alloc, thread, context, call),
+            Role::Attaches(_) => {
                 Ok(writing(alloc, object(alloc, self.target_framebuffer(context))?))
             }
-            GlKind::DeleteTextures => self.deletion_touches(
-                alloc,
-                context,
-                NameKind::Texture,
-                call,
-            ),
-            GlKind::DeleteBuffers => self.deletion_touches(alloc, context, NameKind::Buffer, call),
-            GlKind::DeleteRenderbuffers => {
-                self.deletion_touches(alloc, context, NameKind::Renderbuffer, call)
+            Role::Deletes(names) => self.deletion_touches(alloc, context, names, call),
+            Role::Generates(_) | Role::Asks(_) | Role::Binds(_) | Role::Flushes => {
+                Ok(nothing(alloc))
             }
-            GlKind::DeleteFramebuffers => {
-                self.deletion_touches(alloc, context, NameKind::Framebuffer, call)
-            }
-            // names alone, a question, or what a context has flushed; it isn't proved of a call that has no line
-            _ => Ok(nothing(alloc)),
+            _ => unreachable!(),
         }
     }
 
     /// What a call of OpenGL ES touches that no rule refuses.
+    #[tactic(auto, using(crate::proofs::TouchLaws::role_told))]
     fn context_touches(
         &self,
         alloc: Global,

@@ -1,13 +1,12 @@
 //! Which rows of a call's table hold, for who wants to know more than the error that decides.
-ghost use Rattle.std.specs.Prelude.{◌≡◌, ◌<◌};
-ghost use Rattle.egl_calls.specs.declared.kinds.Kind.TheVariants.{Gl as GlCall};
+ghost use Rattle.std.specs.Prelude.{◌≡◌, ◌<◌, false};
+ghost use Rattle.egl_calls.specs.Ranges.{is_client_wait};
 ghost use Rattle.egl_model.specs.Currents.{current_context};
-ghost use Rattle.driver_facts.specs.Verdicts.{buffer_refusals, gl_refusals, refusals};
+ghost use Rattle.driver_facts.specs.Verdicts.{gl_refusals, refusals};
 ghost use Rattle.driver_facts.specs.Tables.{KnowsRoots, state_in};
 
 use crate::tables::Tables;
-use call_rules::{egl_verdict, gl_verdict};
-use egl_calls::{Call, EglError, GlError, GlKind, Kind, OwnKind};
+use egl_calls::{Call, EglError, GlError, Kind, OwnKind};
 use refusal_rows::Holding;
 
 /// What the table of a call tells in a state: the error of each row that holds, at the row's place.
@@ -22,26 +21,13 @@ pub enum Refusals {
 }
 
 impl Tables {
-    fn gl_refusals(&self, thread: u32, kind: GlKind, call: &Call) -> Refusals
+    fn gl_refusals(&self, thread: u32, call: &Call) -> Refusals
         requires made { thread < self.now.threads.made }
-        requires kind { call.now.kind ≡ GlCall kind }
-        ensures { result ≡ gl_refusals (state_in self.now) thread (current_context (state_in self.now) thread) kind call.now }
+        requires numbers { is_client_wait call.now.kind ≡ false }
+        ensures { result ≡ gl_refusals (state_in self.now) thread (current_context (state_in self.now) thread) call.now }
     {
         match self.current_context(thread) {
-            Some(context) => {
-                let facts = self.gl_facts(thread, context, kind, call);
-                Refusals::Gl(gl_verdict(call, &facts))
-            }
-            None => Refusals::Unjudged,
-        }
-    }
-
-    fn buffer_refusals(&self, thread: u32, call: &Call) -> Refusals
-        requires made { thread < self.now.threads.made }
-        ensures { result ≡ buffer_refusals (state_in self.now) (current_context (state_in self.now) thread) call.now }
-    {
-        match self.current_context(thread) {
-            Some(context) => Refusals::Gl(gl_verdict(call, &self.buffer_facts(context, call))),
+            Some(context) => Refusals::Gl(self.gl_verdict(thread, context, call)),
             None => Refusals::Unjudged,
         }
     }
@@ -57,12 +43,12 @@ impl Tables {
             return Refusals::Unjudged;
         }
         match call.kind {
-            Kind::Egl(kind) => {
-                let facts = self.egl_facts(thread, kind, call);
-                Refusals::Egl(egl_verdict(call, &facts))
+            Kind::Egl(_) => {
+                let found = self.egl_found(call);
+                Refusals::Egl(self.egl_verdict(thread, call, &found))
             }
-            Kind::Gl(kind) => self.gl_refusals(thread, kind, call),
-            Kind::Own(OwnKind::ReadBuffer) => self.buffer_refusals(thread, call),
+            Kind::Gl(_) => self.gl_refusals(thread, call),
+            Kind::Own(OwnKind::ReadBuffer) => self.gl_refusals(thread, call),
             Kind::Own(_) => Refusals::Unjudged,
         }
     }

@@ -1,12 +1,17 @@
 pub mod AnswerLaws
 pub mod ConfigLaws
+pub mod EntryLaws
 pub mod ErrorLaws
 pub mod FactLaws
 pub mod FrontLaws
 pub mod ListLaws
 pub mod NameLaws
 pub mod OrderLaws
+pub mod OursLaws
 pub mod OutcomeLaws
+pub mod PairLaws
 pub mod PixelLaws
+pub mod PutInLaws
 pub mod RunLaws
 pub mod StepLaws
+pub mod UsedNameLaws

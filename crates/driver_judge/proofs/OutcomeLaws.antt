@@ -116,3 +116,22 @@ right s t c Done h = done_right (errors_of (refusals s t c)) (no_done (refusals 
 right s t c (Egl e) h = error_right (Egl e) (errors_of (refusals s t c)) refl h
 right s t c (Gl e) h = error_right (Gl e) (errors_of (refusals s t c)) refl h
 right s t c (Unnamed z) h = error_right (Unnamed z) (errors_of (refusals s t c)) refl h
+
+-- ---- The other way round.
+done_agrees : (es : List LogOutcome) → es ≡ [] → list_any (is_same Done) (or_done es) ≡ true
+done_agrees es h = ap (λ xs. list_any (is_same Done) (or_done xs)) h
+
+error_agrees : (o : LogOutcome) (es : List LogOutcome) → list_any (is_same o) es ≡ true → list_any (is_same o) (or_done es) ≡ true
+error_agrees o [] h = cc
+error_agrees o (x ∷ xs) h = in_once o [] (x ∷ xs) ∙ h
+
+pub right_agrees : (s : State) (t : ℕ) (c : CallValue) (o : LogOutcome) → AgreesRightly s t c o → agrees (outcomes s t c) o ≡ true
+unfolding agrees outcomes
+right_agrees s t c Done h = done_agrees (errors_of (refusals s t c)) h
+right_agrees s t c (Egl e) h = error_agrees (Egl e) (errors_of (refusals s t c)) h
+right_agrees s t c (Gl e) h = error_agrees (Gl e) (errors_of (refusals s t c)) h
+right_agrees s t c (Unnamed z) h = error_agrees (Unnamed z) (errors_of (refusals s t c)) h
+
+-- being carried out is the error of no row
+pub no_row_is_done : (s : State) (t : ℕ) (c : CallValue) → list_any (is_same Done) (errors_of (refusals s t c)) ≡ true → ⊥
+no_row_is_done s t c h = let e : true ≡ false = sym h ∙ no_done (refusals s t c) in cc

@@ -1,24 +1,45 @@
 -- What holds of judgements.
-use Rattle.std.specs.Prelude.{◌≡◌, ℕ, Bool, true, false, List, [], ◌∷◌, None, Some}
-use Rattle.std.specs.List.{list_any}
-use Rattle.egl_calls.specs.Calls.{CallValue}
+use Rattle.std.specs.Prelude.{◌≡◌, ◌⊎◌, ℕ, ◌+◌, ◌≤◌, ℤ, pos, Bool, true, false, List, [], ◌∷◌, None, Some}
+use Rattle.std.specs.List.{filter, list_any}
+use Rattle.egl_calls.specs.Calls.{CallValue, ReplyValue}
 use Rattle.driver_facts.specs.Verdicts.{refusals}
 use Rattle.egl_model.specs.State.{State}
+use Rattle.egl_calls.specs.Ranges.{unsigned}
 use Rattle.egl_model.specs.Step.{step}
+use Rattle.egl_model.specs.Windows.{front_of}
 use Rattle.log_reader.specs.Forms.{needs_no_answer}
 use Rattle.log_reader.specs.declared.answers.Answer.{Answer}
 use Rattle.log_reader.specs.declared.items.Called.{Called}
 use Rattle.log_reader.specs.declared.items.Item.{Item}
 use Rattle.log_reader.specs.declared.items.Item.TheVariants.{Call, Front}
+use Rattle.log_reader.specs.declared.items.Shown.{Shown}
 use Rattle.log_reader.specs.declared.outcomes.LogOutcome.{LogOutcome}
 use Rattle.log_reader.specs.declared.outcomes.LogOutcome.TheVariants.{Done}
+use Rattle.pixel_rows.specs.Images.{ImageValue}
 use Rattle.trace_reader.specs.declared.traces.Line.{Line}
+use Rattle.driver_judge.specs.declared.bases.Basis.{Basis}
+use Rattle.driver_judge.specs.declared.configs.ConfigPair.{ConfigPair}
+use Rattle.driver_judge.specs.declared.differences.Difference.TheVariants.{Pixels}
+use Rattle.driver_judge.specs.declared.differences.PixelDifference.{PixelDifference}
 use Rattle.driver_judge.specs.declared.judgements.LineVerdict.{LineVerdict}
-use Rattle.driver_judge.specs.declared.judgements.LineVerdict.TheVariants.{Agreed, Own}
-use Rattle.driver_judge.specs.Answers.{answer_difference, basis_of}
-use Rattle.driver_judge.specs.Fences.{served_beside}
-use Rattle.driver_judge.specs.Judging.{Found, KeptValue, Setting, judge_item, refusal_difference}
+use Rattle.driver_judge.specs.declared.judgements.LineVerdict.TheVariants.{Agreed, Differs, Own}
+use Rattle.driver_judge.specs.declared.judgements.Note.{Note}
+use Rattle.driver_judge.specs.declared.sorts.Mapped.{Mapped}
+use Rattle.driver_judge.specs.declared.sorts.Mapped.TheVariants.{Display}
+use Rattle.driver_judge.specs.declared.sorts.Sort.{Sort}
+use Rattle.driver_judge.specs.declared.sorts.Sort.TheVariants.{ConfigId, ConfigList, NewHandle, NewNames, SameHandle, SameName}
+use Rattle.share_group.specs.declared.names.NameKind.{NameKind}
+use Rattle.driver_judge.specs.Answers.{StandsValue, answer_difference, basis_of, is_first_display, is_theirs, may_be_display, name_for, names_given, their_handle_for, thread_group}
+use Rattle.driver_judge.specs.Configs.{our_configs, their_config}
+use Rattle.driver_judge.specs.Fences.{served_beside, step_beside}
+use Rattle.driver_judge.specs.Fronts.{front_bytes}
+use Rattle.driver_judge.specs.Judgements.{Progress}
+use Rattle.driver_judge.specs.Judging.{Beside, Found, KeptValue, Setting, adrift_at, fault_of, judge_item, refusal_difference}
+use Rattle.driver_judge.specs.Maps.{Both, given_for, handle_for}
 use Rattle.driver_judge.specs.Outcomes.{errors_of, is_same, refused_with}
+use Rattle.driver_judge.specs.Sorts.{sort_of}
+use Rattle.driver_judge.specs.UsedNames.{uses_renamed}
+use Rattle.driver_judge.specs.Values.{JudgementValue}
 use Rattle.driver_judge.specs.Variables.{our_call}
 
 -- ---- Outcomes.
@@ -31,23 +52,45 @@ abbrev pub AgreesRightly : State → ℕ → CallValue → LogOutcome → Type 0
 AgreesRightly s t c Done = errors_of (refusals s t c) ≡ []
 AgreesRightly s t c e = IsOfARow s t c e
 
--- ---- Steps.
--- each line agrees
+-- ---- Larger steps.
+-- pixels that differ by the smaller step: by the larger one they agree, or are no more
+abbrev pub AreFewer : LineVerdict → PixelDifference → Type 0
+AreFewer v q = (v ≡ Agreed) ⊎ ((p : PixelDifference) × (v ≡ Differs (Pixels p)) × (p.count ≤ q.count))
+
+-- a verdict by the larger step is that by the smaller one, unless this is that pixels differ
+abbrev pub IsMilder : LineVerdict → LineVerdict → Type 0
+IsMilder v w = (v ≡ w) ⊎ ((q : PixelDifference) × (w ≡ Differs (Pixels q)) × AreFewer v q)
+
+-- what is found of a line by the smaller step, and by the larger one: both leave the same
+pub record Allows (f g : Found) : Type 0 where
+  pub milder : IsMilder g.verdict f.verdict
+  pub same : g.after ≡ f.after
+
+abbrev pub MoreAllowMore : Setting → Setting → State → KeptValue → Item → Type 0
+MoreAllowMore set more s k item = Allows (judge_item set item s k) (judge_item more item s k)
+
+abbrev pub IsMilderNote : Note → Note → Type 0
+IsMilderNote n m = (n.line ≡ m.line) × IsMilder n.verdict m.verdict
+
+-- the first are milder than some of the second, in their order
+abbrev pub AreAmong : List Note → List Note → Type 0
+AreAmong [] ms = Unit {0}
+AreAmong (n ∷ ns) [] = ⊥
+AreAmong (n ∷ ns) (m ∷ ms) = (IsMilderNote n m × AreAmong ns ms) ⊎ AreAmong (n ∷ ns) ms
+
+-- what is found of a log by the smaller step, and by the larger one: no line more is noted, and as many have a value of the driver's own
+pub record LogAllows (i j : JudgementValue) : Type 0 where
+  pub notes : AreAmong j.notes i.notes
+  pub agreed : i.agreed ≤ j.agreed
+  pub own : j.own ≡ i.own
+
+-- ---- A run beside a log.
+-- a line agrees
 abbrev pub is_agreement : LineVerdict → Bool
 is_agreement Agreed = true
 is_agreement Own = true
 is_agreement verdict = false
 
--- what agrees by the first agrees by the second, and leaves the same
-pub record Allows (f g : Found) : Type 0 where
-  pub agrees : is_agreement f.verdict ≡ true → is_agreement g.verdict ≡ true
-  pub same : is_agreement f.verdict ≡ true → g.after ≡ f.after
-
--- what agrees by one step agrees by each larger one
-abbrev pub MoreAllowMore : Setting → Setting → State → KeptValue → Item → Type 0
-MoreAllowMore set more s k item = Allows (judge_item set item s k) (judge_item more item s k)
-
--- ---- A run beside a log.
 -- how a thread's call leads from one state to another: where no row of its table holds it is carried out by the one-thread specification, with the fence that it names served first where theirs is signalled; or it is refused by an error of a row that holds
 abbrev pub Moves : State → ℕ → CallValue → Answer → LogOutcome → State → Type 0
 Moves s t c a Done after = (errors_of (refusals s t c) ≡ []) × (after ≡ (step (served_beside s c a) t c).state)
@@ -78,3 +121,93 @@ IsNext set (Front x) s k after = after ≡ s
 abbrev pub IsRun : Setting → List Item → State → KeptValue → Type 0
 IsRun set [] s k = Unit {0}
 IsRun set (item ∷ more) s k = IsNext set item s k (judge_item set item s k).after.state × IsRun set more (judge_item set item s k).after.state (judge_item set item s k).after.kept
+
+-- ---- What stands for what.
+-- no name of theirs stands for two of ours in a group and of a kind, and no display of theirs for two of ours
+pub record IsOneToOne (m : StandsValue) : Type 0 where
+  pub names : (group : ℕ) (kind : NameKind) (a b theirs : ℤ) → given_for m.names group kind a ≡ Some theirs → given_for m.names group kind b ≡ Some theirs → a ≡ b
+  pub displays : (a b : ℕ) (theirs : ℤ) → handle_for m.handles Display a ≡ Some theirs → handle_for m.handles Display b ≡ Some theirs → a ≡ b
+
+-- ---- What answers as ours.
+-- a line that is judged as a call: it needs an answer, no line in front of it is at fault, and its configs and names mean in theirs what they mean in ours
+pub record IsJudgedAs (set : Setting) (x : Called) (s : State) (k : KeptValue) (c : CallValue) : Type 0 where
+  pub asks : needs_no_answer x.line.call.kind ≡ false
+  pub faultless : fault_of k x.line ≡ None
+  pub call : our_call set.configs.named set.configs.pairs k.variables x.line ≡ Some c
+  pub names : uses_renamed k.stands.renamed k.stands.names (thread_group s x.line.thread) x.line ≡ false
+
+-- the answer that is an error alone, and the answer of a reply
+abbrev pub error_answer : LogOutcome → Answer
+error_answer e = record { outcome = e; value = pos 0; list = []; bytes = [] }
+
+abbrev pub reply_answer : ReplyValue → Answer
+reply_answer r = record { outcome = Done; value = r.value; list = r.list; bytes = r.bytes }
+
+-- a handle stands for itself, or is of a display that is answered for the first time and may
+abbrev pub HandleIsSame : Both → Mapped → ℤ → Type 0
+HandleIsSame m kind z = ((is_first_display m kind z ≡ true) × (may_be_display m kind z ≡ true)) ⊎ ((is_first_display m kind z ≡ false) × (their_handle_for m kind z ≡ Some z))
+
+-- each handle, config and name of a reply stands for itself, and what is new may do so
+abbrev pub StandsForItself : List ConfigPair → StandsValue → Basis → Sort → ReplyValue → Type 0
+StandsForItself pairs m a (NewHandle kind) r = a.free ≡ true
+StandsForItself pairs m a (SameHandle kind) r = HandleIsSame m.handles kind r.value
+StandsForItself pairs m a ConfigList r = our_configs pairs r.list ≡ filter (is_theirs pairs) r.list
+StandsForItself pairs m a ConfigId r = their_config pairs r.value ≡ Some r.value
+StandsForItself pairs m a (NewNames kind) r = (names_given m a.group kind r.list r.list).agree ≡ true
+StandsForItself pairs m a (SameName kind) r = name_for m.names a.group kind r.value ≡ Some r.value
+StandsForItself pairs m a sort r = Unit {0}
+
+-- what our reply to the call of a line names stands for itself
+abbrev pub IsOfOurs : Setting → Called → State → KeptValue → CallValue → Type 0
+IsOfOurs set x s k c = StandsForItself set.configs.pairs k.stands (basis_of s k.stands.handles x.line.thread c x.answer.value) (sort_of s x.line.thread c) (step_beside s x.line.thread c x.answer).reply
+
+-- a line agrees, and leaves a state
+pub record AgreesInto (f : Found) (after : State) : Type 0 where
+  pub agrees : is_agreement f.verdict ≡ true
+  pub state : f.after.state ≡ after
+
+-- a line whose call ours refuses with the same error, one that both carry out, and what a window shows in both
+pub record RefusesAsOurs (set : Setting) (x : Called) (s : State) (k : KeptValue) : Type 0 where
+  pub call : CallValue
+  pub error : LogOutcome
+  pub judged : IsJudgedAs set x s k call
+  pub row : IsOfARow s x.line.thread call error
+  pub answer : x.answer ≡ error_answer error
+
+pub record RepliesAsOurs (set : Setting) (x : Called) (s : State) (k : KeptValue) : Type 0 where
+  pub call : CallValue
+  pub judged : IsJudgedAs set x s k call
+  pub rows : errors_of (refusals s x.line.thread call) ≡ []
+  pub answer : x.answer ≡ reply_answer (step_beside s x.line.thread call x.answer).reply
+  pub same : IsOfOurs set x s k call
+
+pub record ShowsAsOurs (x : Shown) (s : State) (k : KeptValue) : Type 0 where
+  pub image : ImageValue
+  pub known : adrift_at k x.thread ≡ None
+  pub front : front_of (unsigned x.window) s ≡ Some image
+  pub bytes : x.bytes ≡ front_bytes image
+
+abbrev pub AnswersAsOurs : Setting → Item → State → KeptValue → Type 0
+AnswersAsOurs set (Call x) s k = (needs_no_answer x.line.call.kind ≡ true) ⊎ (RefusesAsOurs set x s k ⊎ RepliesAsOurs set x s k)
+AnswersAsOurs set (Front x) s k = ShowsAsOurs x s k
+
+-- each line does so where those in front of it lead
+abbrev pub AnswerAsOurs : Setting → List Item → State → KeptValue → Type 0
+AnswerAsOurs set [] s k = Unit {0}
+AnswerAsOurs set (item ∷ more) s k = AnswersAsOurs set item s k × AnswerAsOurs set more (judge_item set item s k).after.state (judge_item set item s k).after.kept
+
+-- ---- Lines that are put in.
+-- one line more agrees, and else all is found, and left, as without it
+pub record OneMoreAgrees (p q : Progress) : Type 0 where
+  pub beside : q.beside ≡ p.beside
+  pub agreed : q.tally.agreed ≡ p.tally.agreed + 1
+  pub own : q.tally.own ≡ p.tally.own
+  pub notes : q.tally.notes ≡ p.tally.notes
+
+-- a call that is refused by an error of a row that holds, where that error is noted already, and that assigns no variable
+pub record IsRefusedAnew (set : Setting) (x : Called) (b : Beside) (c : CallValue) (e : LogOutcome) : Type 0 where
+  pub judged : IsJudgedAs set x b.state b.kept c
+  pub row : IsOfARow b.state x.line.thread c e
+  pub answer : x.answer ≡ error_answer e
+  pub unnamed : x.line.assigns ≡ None
+  pub noted : refused_with b.state x.line.thread e ≡ b.state

@@ -1,14 +1,9 @@
 -- What the answer of a call is.
-use Rattle.std.specs.Prelude.{ℕ, ◌==◌, ◌||◌, List, [], ◌∷◌, map, slice_index_or, if◌then◌else◌, Option, None, Some}
+use Rattle.std.specs.Prelude.{ℕ, ◌==◌, ◌||◌, List, [], ◌∷◌, if◌then◌else◌, Option, None, Some}
 use Rattle.std.specs.List.{list_any}
 use Rattle.std.specs.Option.{option_and_then}
-use denote.Enum.Declared.{tag_of}
 use Rattle.egl_calls.specs.Arguments.{number}
 use Rattle.egl_calls.specs.Calls.{CallValue}
-use Rattle.egl_calls.specs.contracts.kinds.EglKind as egl_kinds
-use Rattle.egl_calls.specs.contracts.kinds.GlKind as gl_kinds
-use Rattle.egl_calls.specs.declared.kinds.EglKind.{EglKind}
-use Rattle.egl_calls.specs.declared.kinds.GlKind.{GlKind}
 use Rattle.egl_calls.specs.declared.kinds.Kind.{Kind}
 use Rattle.egl_calls.specs.declared.kinds.Kind.TheVariants.{Egl, Gl, Own as OwnCall}
 use Rattle.egl_calls.specs.declared.places.TheConstants.{ATTACHMENT_PNAME, ATTRIBUTE, PNAME}
@@ -18,24 +13,18 @@ use Rattle.share_group.specs.declared.names.NameKind.TheVariants.{Buffer, Frameb
 use Rattle.egl_model.specs.Currents.{current_context}
 use Rattle.egl_model.specs.Framebuffers.{attachment_of}
 use Rattle.egl_model.specs.State.{State}
-use Rattle.driver_judge.specs.declared.sorts.AnswerSort.{AnswerSort}
-use Rattle.driver_judge.specs.declared.sorts.AnswerSort.TheVariants.{Plain, Makes, Displays, Currents, ConfigLists, ConfigAttributes, Attributes, MakesNames, FreesNames, Bindings, Attachments, Reads}
+use Rattle.call_table.specs.Rows.{egl_answers, gl_answers}
+use Rattle.call_table.specs.declared.answers.AnswerSort.{AnswerSort}
+use Rattle.call_table.specs.declared.answers.AnswerSort.TheVariants.{Same, Makes, Displays, Currents, ConfigLists, ConfigAttributes, Attributes, MakesNames, FreesNames, Bindings, Attachments, Reads}
 use Rattle.driver_judge.specs.declared.sorts.Mapped.TheVariants.{Display, Handle}
 use Rattle.driver_judge.specs.declared.sorts.Sort.{Sort}
 use Rattle.driver_judge.specs.declared.sorts.Sort.TheVariants.{Equal, Own, NewHandle, SameHandle, ConfigList, ConfigId, NewNames, FreedNames, SameName, PixelBytes}
-use Rattle.driver_judge.specs.declared.sorts.TheConstants.{EGL_SORTS, GL_SORTS}
 
 -- what a call answers, as its row says
-abbrev pub egl_answers : EglKind → AnswerSort
-egl_answers k = slice_index_or (map (λ r. r.1) EGL_SORTS) (tag_of egl_kinds.the_type k) Plain
-
-abbrev pub gl_answers : GlKind → AnswerSort
-gl_answers k = slice_index_or (map (λ r. r.1) GL_SORTS) (tag_of gl_kinds.the_type k) Plain
-
 abbrev pub answers : Kind → AnswerSort
 answers (Egl k) = egl_answers k
 answers (Gl k) = gl_answers k
-answers (OwnCall k) = Plain
+answers (OwnCall k) = Same
 
 -- the attributes of a config that are each implementation's own (EGL 1.5, section 3.4)
 abbrev pub own_attributes : List ℕ
@@ -69,7 +58,7 @@ attachment a which = if which == GL_FRAMEBUFFER_ATTACHMENT_OBJECT_NAME_OES then 
 
 -- what the answer of a call of a thread is
 abbrev pub sort_by : State → ℕ → CallValue → AnswerSort → Sort
-sort_by s t c Plain = Equal
+sort_by s t c Same = Equal
 sort_by s t c (Makes kind) = NewHandle kind
 sort_by s t c Displays = SameHandle Display
 sort_by s t c (Currents kind) = SameHandle (Handle kind)

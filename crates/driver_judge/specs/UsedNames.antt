@@ -1,45 +1,65 @@
 -- The names that a call has as numbers: each stands for itself.
-use Rattle.std.specs.Prelude.{ℕ, ℤ, pos, Bool, true, false, not, ◌||◌, slice_index_or, Option, None, Some}
+use Rattle.std.specs.Prelude.{ℕ, ℤ, pos, Bool, true, false, not, ◌||◌, map, slice_index_or, Option, None, Some}
 use Rattle.std.specs.List.{list_any}
 use Rattle.std.specs.Option.{option_map_or}
 use Rattle.std.specs.Ordering.{int_eq}
+use denote.Enum.Declared.{tag_of}
 use Rattle.egl_calls.specs.Calls.{CallValue}
+use Rattle.egl_calls.specs.contracts.kinds.GlKind as gl_kinds
 use Rattle.egl_calls.specs.declared.kinds.Kind.{Kind}
-use Rattle.egl_calls.specs.declared.kinds.Kind.TheVariants.{Egl, Gl}
-use Rattle.egl_calls.specs.declared.kinds.EglKind.TheVariants.{CreateImage}
+use Rattle.egl_calls.specs.declared.kinds.Kind.TheVariants.{Egl, Gl, Own}
 use Rattle.egl_calls.specs.declared.kinds.GlKind.{GlKind}
-use Rattle.egl_calls.specs.declared.kinds.GlKind.TheVariants.{BindBuffer, BindFramebuffer, BindRenderbuffer, BindTexture, DeleteBuffers, DeleteFramebuffers, DeleteRenderbuffers, DeleteTextures, FramebufferRenderbuffer, FramebufferTexture2d, IsBuffer, IsFramebuffer, IsRenderbuffer, IsTexture}
 use Rattle.egl_calls.specs.declared.places.TheConstants.{ASKED_NAME, ATTACHED_NAME, BOUND_NAME, CLIENT_BUFFER}
+use Rattle.call_table.specs.Rows.{egl_role, gl_role, gl_rules}
+use Rattle.call_table.specs.declared.forms.Form.{Form}
+use Rattle.call_table.specs.declared.forms.Form.TheVariants.{NameList, NumberOrVariable}
+use Rattle.call_table.specs.declared.gl_conditions.GlCondition.{GlCondition}
+use Rattle.call_table.specs.declared.gl_conditions.GlCondition.TheVariants.{NoImage}
+use Rattle.call_table.specs.declared.gl_table.TheConstants.{GL_CALLS}
+use Rattle.call_table.specs.declared.roles.Role.{Role}
+use Rattle.call_table.specs.declared.roles.Role.TheVariants.{Asks, Attaches, Binds, Creates, Deletes}
+use Rattle.display_table.specs.declared.handles.HandleKind.TheVariants.{Image}
 use Rattle.share_group.specs.declared.names.NameKind.{NameKind}
-use Rattle.share_group.specs.declared.names.NameKind.TheVariants.{Texture, Buffer, Renderbuffer, Framebuffer}
 use Rattle.trace_reader.specs.declared.traces.Line.{Line}
 use Rattle.egl_model.specs.Images.{source_kind}
 use Rattle.driver_judge.specs.declared.used_names.NamePlaces.{NamePlaces}
 use Rattle.driver_judge.specs.declared.used_names.NamePlaces.TheVariants.{AtPlace, InList, OfImage}
 use Rattle.driver_judge.specs.Maps.{Both, Entries, found, given_as, given_for, name_key}
 
-abbrev pub gl_names : GlKind → Option NamePlaces
-gl_names IsTexture = Some (AtPlace Texture ASKED_NAME)
-gl_names IsBuffer = Some (AtPlace Buffer ASKED_NAME)
-gl_names IsRenderbuffer = Some (AtPlace Renderbuffer ASKED_NAME)
-gl_names IsFramebuffer = Some (AtPlace Framebuffer ASKED_NAME)
-gl_names BindTexture = Some (AtPlace Texture BOUND_NAME)
-gl_names BindBuffer = Some (AtPlace Buffer BOUND_NAME)
-gl_names BindRenderbuffer = Some (AtPlace Renderbuffer BOUND_NAME)
-gl_names BindFramebuffer = Some (AtPlace Framebuffer BOUND_NAME)
-gl_names FramebufferTexture2d = Some (AtPlace Texture ATTACHED_NAME)
-gl_names FramebufferRenderbuffer = Some (AtPlace Renderbuffer ATTACHED_NAME)
-gl_names DeleteTextures = Some (InList Texture)
-gl_names DeleteBuffers = Some (InList Buffer)
-gl_names DeleteRenderbuffers = Some (InList Renderbuffer)
-gl_names DeleteFramebuffers = Some (InList Framebuffer)
-gl_names k = None
+-- by what a call is for. An image is made of what a name of a texture or of a renderbuffer names (EGL 1.5, section 3.9)
+abbrev pub names_by_role : Role → Option NamePlaces
+names_by_role (Asks kind) = Some (AtPlace kind ASKED_NAME)
+names_by_role (Binds kind) = Some (AtPlace kind BOUND_NAME)
+names_by_role (Attaches kind) = Some (AtPlace kind ATTACHED_NAME)
+names_by_role (Deletes kind) = Some (InList kind)
+names_by_role (Creates Image) = Some OfImage
+names_by_role role = None
 
--- where a call has names, and of which kind; eglCreateImage has that of a texture or a renderbuffer (EGL 1.5, section 3.9)
+abbrev pub gl_names : GlKind → Option NamePlaces
+gl_names k = names_by_role (gl_role k)
+
+-- where a call has names, and of which kind
 abbrev pub name_places : Kind → Option NamePlaces
-name_places (Egl CreateImage) = Some OfImage
+name_places (Egl k) = names_by_role (egl_role k)
 name_places (Gl k) = gl_names k
-name_places k = None
+name_places (Own k) = None
+
+-- ---- What the table says of arguments: of OpenGL ES a variable stands only for a name or an image.
+abbrev pub is_object : Form → Bool
+is_object NumberOrVariable = true
+is_object NameList = true
+is_object form = false
+
+abbrev pub has_objects : GlKind → Bool
+has_objects k = slice_index_or (map (λ r. list_any is_object r.2.now) GL_CALLS) (tag_of gl_kinds.the_type k) false
+
+-- a call that is refused where its image isn't one
+abbrev pub is_image_test : GlCondition → Bool
+is_image_test NoImage = true
+is_image_test condition = false
+
+abbrev pub takes_image : GlKind → Bool
+takes_image k = list_any (λ r. is_image_test r.0) (gl_rules k)
 
 -- ---- In a line 0 stands where a variable does, and 0 is no name.
 abbrev pub is_other : Option ℤ → ℤ → Bool

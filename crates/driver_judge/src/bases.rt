@@ -11,7 +11,8 @@ use crate::facts::{attachment_of, current_context, thread_group};
 use crate::maps::Both;
 use crate::outcomes::are_none;
 use crate::pixels::{Grid, grid_of, no_grid};
-use crate::sorts::{AnswerSort, Mapped, Sort, answers, attribute_sort, binding, config_attribute};
+use crate::sorts::{Mapped, Sort, answers, attribute_sort, binding, config_attribute};
+use call_table::AnswerSort;
 use display_table::HandleKind;
 use driver_core::Driver;
 use egl_calls::arguments::{number, signed};
@@ -74,7 +75,7 @@ fn sort_of(driver: &Driver, thread: u32, call: &Call) -> Sort
     ensures { result ≡ sort_of driver.now.state thread call.now }
 {
     match answers(call.kind) {
-        AnswerSort::Plain => Sort::Equal,
+        AnswerSort::Same => Sort::Equal,
         AnswerSort::Makes(kind) => Sort::NewHandle(kind),
         AnswerSort::Displays => Sort::SameHandle(Mapped::Display),
         AnswerSort::Currents(kind) => Sort::SameHandle(Mapped::Handle(kind)),

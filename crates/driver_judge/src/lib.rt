@@ -34,6 +34,6 @@ pub use judging::Setting;
 pub use kept::Kept;
 pub use maps::Both;
 pub use pixels::{Grid, MOST_DELTA};
-pub use sorts::{AnswerSort, EGL_SORTS, GL_SORTS, Mapped, Sort};
+pub use sorts::{Mapped, Sort};
 pub use used_names::NamePlaces;
 pub use variables::Variable;

@@ -1,10 +1,11 @@
 //! What the answers of calls are: what of two drivers' answers is compared, and how.
 ghost use Rattle.std.specs.Prelude.{◌≡◌, ◌==◌};
 ghost use Rattle.std.specs.List.{list_any};
-ghost use Rattle.driver_judge.specs.Sorts.{answers, attribute_sort, binding, config_attribute, egl_answers, gl_answers, own_attributes};
+ghost use Rattle.driver_judge.specs.Sorts.{answers, attribute_sort, binding, config_attribute, own_attributes};
 
+use call_table::{AnswerSort, egl_answers, gl_answers};
 use display_table::HandleKind;
-use egl_calls::{EglKind, GlKind, Kind};
+use egl_calls::Kind;
 use egl_names::codes::{
     EGL_CONFIG_ID, EGL_MAX_PBUFFER_HEIGHT, EGL_MAX_PBUFFER_PIXELS, EGL_MAX_PBUFFER_WIDTH,
     EGL_MAX_SWAP_INTERVAL, EGL_MIN_SWAP_INTERVAL, EGL_NATIVE_VISUAL_ID, EGL_NATIVE_VISUAL_TYPE,
@@ -18,35 +19,6 @@ use share_group::NameKind;
 pub enum Mapped {
     Display,
     Handle(HandleKind),
-}
-
-/// What a call answers, as its row says.
-#[derive(Clone, Copy, Debug, PartialEq, Eq, Drop)]
-pub enum AnswerSort {
-    /// A value, a list and bytes that are the same in each driver.
-    Plain,
-    /// A new handle of this kind.
-    Makes(HandleKind),
-    /// A display.
-    Displays,
-    /// The handle of this kind that is current.
-    Currents(HandleKind),
-    /// A list of configs.
-    ConfigLists,
-    /// An attribute of a config.
-    ConfigAttributes,
-    /// An attribute of a surface or of a context.
-    Attributes,
-    /// New names of this kind.
-    MakesNames(NameKind),
-    /// Nothing: names of this kind are freed.
-    FreesNames(NameKind),
-    /// A value of a context, which may be a name that is bound.
-    Bindings,
-    /// A value of an attachment, which may be the name of what is attached.
-    Attachments,
-    /// Pixels.
-    Reads,
 }
 
 /// What the answer of one call is.
@@ -74,150 +46,6 @@ pub enum Sort {
     PixelBytes,
 }
 
-/// What the calls of EGL answer, in the order of their kinds.
-pub static EGL_SORTS: [(EglKind, AnswerSort); 31] = [
-    (EglKind::GetError, AnswerSort::Plain),
-    (EglKind::GetDisplay, AnswerSort::Displays),
-    (EglKind::Initialize, AnswerSort::Plain),
-    (EglKind::Terminate, AnswerSort::Plain),
-    (EglKind::GetConfigs, AnswerSort::ConfigLists),
-    (EglKind::ChooseConfig, AnswerSort::ConfigLists),
-    (EglKind::GetConfigAttrib, AnswerSort::ConfigAttributes),
-    (
-        EglKind::CreateWindowSurface,
-        AnswerSort::Makes(HandleKind::Surface),
-    ),
-    (
-        EglKind::CreatePbufferSurface,
-        AnswerSort::Makes(HandleKind::Surface),
-    ),
-    (EglKind::DestroySurface, AnswerSort::Plain),
-    (EglKind::QuerySurface, AnswerSort::Attributes),
-    (EglKind::SurfaceAttrib, AnswerSort::Plain),
-    (EglKind::BindApi, AnswerSort::Plain),
-    (EglKind::QueryApi, AnswerSort::Plain),
-    (
-        EglKind::CreateContext,
-        AnswerSort::Makes(HandleKind::Context),
-    ),
-    (EglKind::DestroyContext, AnswerSort::Plain),
-    (EglKind::MakeCurrent, AnswerSort::Plain),
-    (
-        EglKind::GetCurrentContext,
-        AnswerSort::Currents(HandleKind::Context),
-    ),
-    (
-        EglKind::GetCurrentSurface,
-        AnswerSort::Currents(HandleKind::Surface),
-    ),
-    (EglKind::GetCurrentDisplay, AnswerSort::Displays),
-    (EglKind::QueryContext, AnswerSort::Attributes),
-    (EglKind::SwapBuffers, AnswerSort::Plain),
-    (EglKind::WaitClient, AnswerSort::Plain),
-    (EglKind::ReleaseThread, AnswerSort::Plain),
-    (EglKind::CreateSync, AnswerSort::Makes(HandleKind::Sync)),
-    (EglKind::DestroySync, AnswerSort::Plain),
-    (EglKind::ClientWaitSync, AnswerSort::Plain),
-    (EglKind::WaitSync, AnswerSort::Plain),
-    (EglKind::GetSyncAttrib, AnswerSort::Plain),
-    (EglKind::CreateImage, AnswerSort::Makes(HandleKind::Image)),
-    (EglKind::DestroyImage, AnswerSort::Plain),
-];
-
-/// What the calls of OpenGL ES answer, in the order of their kinds.
-pub static GL_SORTS: [(GlKind, AnswerSort); 52] = [
-    (GlKind::GetError, AnswerSort::Plain),
-    (GlKind::Flush, AnswerSort::Plain),
-    (GlKind::Finish, AnswerSort::Plain),
-    (GlKind::Enable, AnswerSort::Plain),
-    (GlKind::Disable, AnswerSort::Plain),
-    (GlKind::Scissor, AnswerSort::Plain),
-    (GlKind::Viewport, AnswerSort::Plain),
-    (GlKind::ClearColorx, AnswerSort::Plain),
-    (GlKind::Color4x, AnswerSort::Plain),
-    (GlKind::ClearDepthx, AnswerSort::Plain),
-    (GlKind::ClearStencil, AnswerSort::Plain),
-    (GlKind::ColorMask, AnswerSort::Plain),
-    (GlKind::TexEnvx, AnswerSort::Plain),
-    (GlKind::PixelStorei, AnswerSort::Plain),
-    (GlKind::GetIntegerv, AnswerSort::Bindings),
-    (GlKind::Clear, AnswerSort::Plain),
-    (GlKind::ReadPixels, AnswerSort::Reads),
-    (GlKind::DrawTexi, AnswerSort::Plain),
-    (GlKind::DrawTexx, AnswerSort::Plain),
-    (
-        GlKind::GenTextures,
-        AnswerSort::MakesNames(NameKind::Texture),
-    ),
-    (GlKind::GenBuffers, AnswerSort::MakesNames(NameKind::Buffer)),
-    (
-        GlKind::GenRenderbuffers,
-        AnswerSort::MakesNames(NameKind::Renderbuffer),
-    ),
-    (
-        GlKind::GenFramebuffers,
-        AnswerSort::MakesNames(NameKind::Framebuffer),
-    ),
-    (
-        GlKind::DeleteTextures,
-        AnswerSort::FreesNames(NameKind::Texture),
-    ),
-    (
-        GlKind::DeleteBuffers,
-        AnswerSort::FreesNames(NameKind::Buffer),
-    ),
-    (
-        GlKind::DeleteRenderbuffers,
-        AnswerSort::FreesNames(NameKind::Renderbuffer),
-    ),
-    (
-        GlKind::DeleteFramebuffers,
-        AnswerSort::FreesNames(NameKind::Framebuffer),
-    ),
-    (GlKind::IsTexture, AnswerSort::Plain),
-    (GlKind::IsBuffer, AnswerSort::Plain),
-    (GlKind::IsRenderbuffer, AnswerSort::Plain),
-    (GlKind::IsFramebuffer, AnswerSort::Plain),
-    (GlKind::BindTexture, AnswerSort::Plain),
-    (GlKind::BindBuffer, AnswerSort::Plain),
-    (GlKind::BindRenderbuffer, AnswerSort::Plain),
-    (GlKind::BindFramebuffer, AnswerSort::Plain),
-    (GlKind::TexParameterx, AnswerSort::Plain),
-    (GlKind::TexParameteriv, AnswerSort::Plain),
-    (GlKind::TexImage2d, AnswerSort::Plain),
-    (GlKind::TexSubImage2d, AnswerSort::Plain),
-    (GlKind::CopyTexImage2d, AnswerSort::Plain),
-    (GlKind::CopyTexSubImage2d, AnswerSort::Plain),
-    (GlKind::BufferData, AnswerSort::Plain),
-    (GlKind::BufferSubData, AnswerSort::Plain),
-    (GlKind::GetBufferParameteriv, AnswerSort::Plain),
-    (GlKind::RenderbufferStorage, AnswerSort::Plain),
-    (GlKind::GetRenderbufferParameteriv, AnswerSort::Plain),
-    (GlKind::FramebufferTexture2d, AnswerSort::Plain),
-    (GlKind::FramebufferRenderbuffer, AnswerSort::Plain),
-    (GlKind::CheckFramebufferStatus, AnswerSort::Plain),
-    (
-        GlKind::GetFramebufferAttachmentParameteriv,
-        AnswerSort::Attachments,
-    ),
-    (GlKind::ImageTargetTexture2d, AnswerSort::Plain),
-    (GlKind::ImageTargetRenderbufferStorage, AnswerSort::Plain),
-];
-
-/// What a call of EGL answers.
-fn egl_answers(kind: EglKind) -> AnswerSort
-    ensures { result ≡ egl_answers kind }
-{
-    EGL_SORTS[kind as usize].1
-}
-
-/// What a call of OpenGL ES answers.
-fn gl_answers(kind: GlKind) -> AnswerSort
-    ensures { result ≡ gl_answers kind }
-{
-    GL_SORTS[kind as usize].1
-}
-
 /// What a call answers.
 pub fn answers(kind: Kind) -> AnswerSort
     ensures { result ≡ answers kind }
@@ -225,7 +53,7 @@ pub fn answers(kind: Kind) -> AnswerSort
     match kind {
         Kind::Egl(kind) => egl_answers(kind),
         Kind::Gl(kind) => gl_answers(kind),
-        Kind::Own(_) => AnswerSort::Plain,
+        Kind::Own(_) => AnswerSort::Same,
     }
 }
 

@@ -2,11 +2,13 @@
 ghost use Rattle.std.specs.Prelude.{◌≡◌, pos, slice_index_or};
 ghost use Rattle.std.specs.List.{list_any};
 ghost use Rattle.egl_model.specs.Images.{source_kind};
-ghost use Rattle.driver_judge.specs.UsedNames.{gl_names, is_ever_renamed, is_other, is_renamed, is_renamed_in, name_places, uses_renamed};
+ghost use Rattle.driver_judge.specs.UsedNames.{is_ever_renamed, is_other, is_renamed, is_renamed_in, name_places, names_by_role, uses_renamed};
 
 use crate::maps::{Both, Entries, found, name_key};
+use call_table::{Role, egl_role, gl_role};
+use display_table::HandleKind;
 use egl_calls::places::{ASKED_NAME, ATTACHED_NAME, BOUND_NAME, CLIENT_BUFFER, IMAGE_SOURCE};
-use egl_calls::{EglKind, GlKind, Kind, unsigned};
+use egl_calls::{Kind, unsigned};
 use egl_names::codes::EGL_GL_TEXTURE_2D;
 use share_group::NameKind;
 use trace_reader::{Line, LineCall};
@@ -22,29 +24,16 @@ pub enum NamePlaces {
     OfImage,
 }
 
-fn gl_names(kind: GlKind) -> Option<NamePlaces>
-    ensures { result ≡ gl_names kind }
+/// Where a call for this has names.
+fn names_by_role(role: Role) -> Option<NamePlaces>
+    ensures { result ≡ names_by_role role }
 {
-    let asked = ASKED_NAME as u64;
-    let bound = BOUND_NAME as u64;
-    let attached = ATTACHED_NAME as u64;
-    match kind {
-        GlKind::IsTexture => Some(NamePlaces::AtPlace(NameKind::Texture, asked)),
-        GlKind::IsBuffer => Some(NamePlaces::AtPlace(NameKind::Buffer, asked)),
-        GlKind::IsRenderbuffer => Some(NamePlaces::AtPlace(NameKind::Renderbuffer, asked)),
-        GlKind::IsFramebuffer => Some(NamePlaces::AtPlace(NameKind::Framebuffer, asked)),
-        GlKind::BindTexture => Some(NamePlaces::AtPlace(NameKind::Texture, bound)),
-        GlKind::BindBuffer => Some(NamePlaces::AtPlace(NameKind::Buffer, bound)),
-        GlKind::BindRenderbuffer => Some(NamePlaces::AtPlace(NameKind::Renderbuffer, bound)),
-        GlKind::BindFramebuffer => Some(NamePlaces::AtPlace(NameKind::Framebuffer, bound)),
-        GlKind::FramebufferTexture2d => Some(NamePlaces::AtPlace(NameKind::Texture, attached)),
-        GlKind::FramebufferRenderbuffer => {
-            Some(NamePlaces::AtPlace(NameKind::Renderbuffer, attached))
-        }
-        GlKind::DeleteTextures => Some(NamePlaces::InList(NameKind::Texture)),
-        GlKind::DeleteBuffers => Some(NamePlaces::InList(NameKind::Buffer)),
-        GlKind::DeleteRenderbuffers => Some(NamePlaces::InList(NameKind::Renderbuffer)),
-        GlKind::DeleteFramebuffers => Some(NamePlaces::InList(NameKind::Framebuffer)),
+    match role {
+        Role::Asks(kind) => Some(NamePlaces::AtPlace(kind, ASKED_NAME as u64)),
+        Role::Binds(kind) => Some(NamePlaces::AtPlace(kind, BOUND_NAME as u64)),
+        Role::Attaches(kind) => Some(NamePlaces::AtPlace(kind, ATTACHED_NAME as u64)),
+        Role::Deletes(kind) => Some(NamePlaces::InList(kind)),
+        Role::Creates(HandleKind::Image) => Some(NamePlaces::OfImage),
         _ => None,
     }
 }
@@ -54,9 +43,9 @@ fn name_places(kind: Kind) -> Option<NamePlaces>
     ensures { result ≡ name_places kind }
 {
     match kind {
-        Kind::Egl(EglKind::CreateImage) => Some(NamePlaces::OfImage),
-        Kind::Gl(kind) => gl_names(kind),
-        _ => None,
+        Kind::Egl(kind) => names_by_role(egl_role(kind)),
+        Kind::Gl(kind) => names_by_role(gl_role(kind)),
+        Kind::Own(_) => None,
     }
 }
 

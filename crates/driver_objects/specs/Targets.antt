@@ -31,3 +31,10 @@ name_kind Framebuffer = framebuffers
 -- the target of buffers by its code (section 2.9); any number but the one stands for the other
 abbrev pub buffer_target : ℕ → BindTarget
 buffer_target code = if code == GL_ELEMENT_ARRAY_BUFFER then ElementArrayBuffer else ArrayBuffer
+
+-- the target of the objects with names of a kind, by its code
+abbrev pub target_of : NameKind → ℕ → BindTarget
+target_of textures code = Texture
+target_of buffers code = buffer_target code
+target_of renderbuffers code = Renderbuffer
+target_of framebuffers code = Framebuffer

@@ -1,7 +1,7 @@
 //! What a context binds objects to.
 ghost use Rattle.std.specs.Prelude.{◌≡◌, ◌<◌};
 ghost use Rattle.driver_objects.specs.Links.{bound_in};
-ghost use Rattle.driver_objects.specs.Targets.{binding_of, buffer_target, name_kind, slot_of};
+ghost use Rattle.driver_objects.specs.Targets.{binding_of, buffer_target, name_kind, slot_of, target_of};
 
 use crate::contexts::BoundObjects;
 use egl_names::codes::{
@@ -82,5 +82,17 @@ pub fn buffer_target(code: u64) -> BindTarget
         BindTarget::ElementArrayBuffer
     } else {
         BindTarget::ArrayBuffer
+    }
+}
+
+/// The target of the objects with names of a kind, by its code.
+pub fn target_of(names: NameKind, code: u64) -> BindTarget
+    ensures { result ≡ target_of names code }
+{
+    match names {
+        NameKind::Texture => BindTarget::Texture,
+        NameKind::Buffer => buffer_target(code),
+        NameKind::Renderbuffer => BindTarget::Renderbuffer,
+        NameKind::Framebuffer => BindTarget::Framebuffer,
     }
 }

@@ -25,22 +25,22 @@ use Rattle.call_table.specs.declared.egl_table.TheConstants.{EGL_CALLS}
 use Rattle.call_table.specs.declared.gl_table.TheConstants.{GL_CALLS}
 use Rattle.call_table.specs.declared.own_table.TheConstants.{OWN_CALLS}
 use Rattle.context_state.specs.Kinds.{context_gl_call}
-use Rattle.context_state.specs.Refusals.{context_rows}
-use Rattle.context_state.specs.declared.kinds.ContextCall.{ContextCall}
-use Rattle.context_state.specs.declared.kinds.ContextCall.TheVariants.{GetError}
+use Rattle.context_state.specs.Refusals.{context_holds, context_rows}
 use Rattle.call_rules.specs.EglRules.{display_row, egl_holds, egl_rows, egl_rows_by, is_release_by, egl_refusal as egl_first}
 use Rattle.call_rules.specs.GlRules.{gl_holds, gl_rows_by, rows_by, gl_refusal as gl_first}
 use Rattle.call_rules.specs.declared.egl_facts.EglFacts.{EglFacts}
 use Rattle.call_rules.specs.declared.gl_facts.GlFacts.{GlFacts}
 use Rattle.egl_model.specs.Currents.{current_context}
 use Rattle.egl_model.specs.Effects.{Effect}
-use Rattle.egl_model.specs.EglCalls.{egl_effect, egl_facts, egl_refusal}
-use Rattle.egl_model.specs.GlCalls.{gl_effect, buffer_facts, gl_facts, gl_refusal}
+use Rattle.egl_model.specs.EglCalls.{egl_effect, egl_refusal}
+use Rattle.egl_model.specs.Facts.{facts_of}
+use Rattle.egl_model.specs.GlCalls.{gl_effect, gl_refusal}
+use Rattle.egl_model.specs.GlFacts.{gl_facts_of}
 use Rattle.egl_model.specs.OwnCalls.{buffer_effect, buffer_refusal, own_effect}
 use Rattle.egl_model.specs.State.{State, record_of}
 use Rattle.egl_model.specs.Step.{after_egl_rules, after_gl_rules, buffer_step_on, egl_step, gl_step, gl_step_on, step, step_by, step_in, wait_step}
 use Rattle.egl_model.specs.Waits.{ended, is_signalled, is_wait_end}
-use Rattle.driver_facts.specs.Verdicts.{buffer_refusals, gl_refusals, refusals, refusals_by}
+use Rattle.driver_facts.specs.Verdicts.{gl_refusals, refusals, refusals_by}
 use Rattle.driver_facts.specs.declared.verdicts.Refusals.TheVariants.{Unjudged}
 use Rattle.egl_explain.specs.Deciding.{deciding, first_of, refusal_in}
 
@@ -97,19 +97,17 @@ few_own_rules k = few_at (map (λ r. r.4.now) OWN_CALLS) (tag_of own_kinds.the_t
 few_rows : {C E : Type 0} (f : C → Bool) (rules : List (C × E)) → length rules ≤ 16 → length (map (row_of f) rules) ≤ 16
 few_rows f rules h = omega (arith, length-map rules (row_of f), h)
 
-few_asked : (release : Bool) (f : EglFacts) (rows : List (Row EglError)) → length rows ≤ 16 → length (if release then display_row f ∷ [] else rows) ≤ 16
-few_asked true f rows h = omega arith
-few_asked false f rows h = h
+few_asked : (release : Bool) (r : Row EglError) (rows : List (Row EglError)) → length rows ≤ 16 → length (if release then r ∷ [] else rows) ≤ 16
+few_asked true r rows h = omega arith
+few_asked false r rows h = h
 
 few_egl : (k : EglKind) (c : CallValue) (f : EglFacts) → length (egl_rows k c f) ≤ 16
-few_egl k c f = few_asked (is_release_by (egl_role k) c) f (map (row_of (λ x. egl_holds x c f)) (egl_rules k)) (few_rows (λ x. egl_holds x c f) (egl_rules k) (few_egl_rules k))
+few_egl k c f = few_asked (is_release_by (egl_role k) c) (display_row f) (map (row_of (λ x. egl_holds x c f)) (egl_rules k)) (few_rows (λ x. egl_holds x c f) (egl_rules k) (few_egl_rules k))
 
--- one call stands apart, so that the others are tried one by one
-few_own_state : (own : ContextCall) (c : CallValue) → length (context_rows own c) ≤ 16
-few_own_state GetError c = omega arith
-few_own_state own c = omega arith
+few_own_state : (own : GlKind) (c : CallValue) → length (context_rows own c) ≤ 16
+few_own_state own c = few_rows (λ x. context_holds x c) (gl_rules own) (few_gl_rules own)
 
-few_gl : (own : Option ContextCall) (k : GlKind) (c : CallValue) (f : GlFacts) → length (rows_by own k c f) ≤ 16
+few_gl : (own : Option GlKind) (k : GlKind) (c : CallValue) (f : GlFacts) → length (rows_by (λ x. gl_holds x c f) own k c) ≤ 16
 few_gl (Some own) k c f = few_own_state own c
 few_gl None k c f = few_rows (λ x. gl_holds x c f) (gl_rules k) (few_gl_rules k)
 
@@ -130,19 +128,19 @@ first_gl : (c : CallValue) (f : GlFacts) → option_map RefusedGl (first_of (hel
 first_gl c f = ap (option_map RefusedGl) (first_held 16 (gl_rows_by c.kind c f) (few_gl_by c.kind c f))
 
 -- ---- Calls by their kinds.
-on_gl : (s : State) (t : ℕ) (n : Option ℕ) (k : GlKind) (c : CallValue) → deciding (gl_refusals s t n k c) ≡ refusal_in (gl_step_on s t n k c).reply.outcome
+on_gl : (s : State) (t : ℕ) (n : Option ℕ) (k : GlKind) (c : CallValue) → deciding (gl_refusals s t n c) ≡ refusal_in (gl_step_on s t n k c).reply.outcome
 unfolding gl_refusal gl_first
 on_gl s t None k c = refl
-on_gl s t (Some n) k c = first_gl c (gl_facts s t n k c) ∙ gl_decided s n (first_error (gl_rows_by c.kind c (gl_facts s t n k c))) (gl_effect s t n k c)
+on_gl s t (Some n) k c = first_gl c (gl_facts_of s t n c) ∙ gl_decided s n (first_error (gl_rows_by c.kind c (gl_facts_of s t n c))) (gl_effect s t n k c)
 
-on_buffer : (s : State) (t : ℕ) (n : Option ℕ) (c : CallValue) → deciding (buffer_refusals s n c) ≡ refusal_in (buffer_step_on s t n c).reply.outcome
+on_buffer : (s : State) (t : ℕ) (n : Option ℕ) (c : CallValue) → deciding (gl_refusals s t n c) ≡ refusal_in (buffer_step_on s t n c).reply.outcome
 unfolding buffer_refusal gl_first
 on_buffer s t None c = refl
-on_buffer s t (Some n) c = first_gl c (buffer_facts s n c) ∙ gl_decided s n (first_error (gl_rows_by c.kind c (buffer_facts s n c))) (buffer_effect s t n c)
+on_buffer s t (Some n) c = first_gl c (gl_facts_of s t n c) ∙ gl_decided s n (first_error (gl_rows_by c.kind c (gl_facts_of s t n c))) (buffer_effect s t n c)
 
 by_kind : (s : State) (t : ℕ) (k : Kind) (c : CallValue) → deciding (refusals_by s t k c) ≡ refusal_in (step_by s t k c).reply.outcome
 unfolding egl_step gl_step egl_refusal egl_first
-by_kind s t (Egl k) c = first_egl c (egl_facts s t k c) ∙ egl_decided s t (first_error (egl_rows_by c.kind c (egl_facts s t k c))) (egl_effect s t k c)
+by_kind s t (Egl k) c = first_egl c (facts_of s t c) ∙ egl_decided s t (first_error (egl_rows_by c.kind c (facts_of s t c))) (egl_effect s t k c)
 by_kind s t (Gl k) c = on_gl s t (current_context s t) k c
 by_kind s t (Own ReadBuffer) c = on_buffer s t (current_context s t) c
 by_kind s t (Own WaitEnd) c = refl

@@ -5,3 +5,4 @@ pub mod BirthLaws
 pub mod StatusLaws
 pub mod JudgingLaws
 pub mod PieceLaws
+pub mod JsonLaws

@@ -2,13 +2,8 @@
 use Rattle.std.specs.Prelude.{◌≡◌, ℕ, length, slice_index_or, Option, None, Some}
 use Rattle.std.specs.Option.{option_map}
 use Rattle.call_table.specs.Rows.{egl_rules, gl_rules, own_rules}
-use Rattle.context_state.specs.Kinds.{context_gl_call}
-use Rattle.context_state.specs.Refusals.{context_rows}
-use Rattle.context_state.specs.declared.kinds.ContextCall.{ContextCall}
-use Rattle.egl_calls.specs.Calls.{CallValue}
 use Rattle.egl_calls.specs.Errors.{egl_code, gl_code}
 use Rattle.egl_calls.specs.declared.entries.Entry.{Entry}
-use Rattle.egl_calls.specs.declared.kinds.GlKind.{GlKind}
 use Rattle.egl_calls.specs.declared.kinds.Kind.{Kind}
 use Rattle.egl_calls.specs.declared.kinds.Kind.TheVariants.{Egl as of_egl, Gl as of_gl, Own as of_project}
 use Rattle.egl_model.specs.State.{State}
@@ -32,11 +27,7 @@ abbrev pub entry_in : Option JudgedEntry → Option Entry
 entry_in o = option_map (λ j. j.entry) o
 
 -- ---- How many rows the table of a call has.
-abbrev pub gl_row_count : Option ContextCall → GlKind → CallValue → ℕ
-gl_row_count (Some own) k c = length (context_rows own c)
-gl_row_count None k c = length (gl_rules k)
-
-abbrev pub row_count : Kind → CallValue → ℕ
-row_count (of_egl k) c = length (egl_rules k)
-row_count (of_gl k) c = gl_row_count (context_gl_call k) k c
-row_count (of_project k) c = length (own_rules k)
+abbrev pub row_count : Kind → ℕ
+row_count (of_egl k) = length (egl_rules k)
+row_count (of_gl k) = length (gl_rules k)
+row_count (of_project k) = length (own_rules k)

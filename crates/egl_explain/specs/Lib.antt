@@ -4,3 +4,7 @@ pub mod Births
 pub mod Statuses
 pub mod Judged
 pub mod Pieces
+pub mod CallNames
+pub mod JsonEntries
+pub mod Formats
+pub mod Answers

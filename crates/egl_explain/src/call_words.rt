@@ -68,12 +68,12 @@ impl Argument {
 
 /// The call that a word names.
 pub fn call_of(word: &[u8]) -> Option<CallWords> {
-    'egl: for (name, _, forms, words, _, _) in EGL_CALLS.iter() {
+    'egl: for (name, _, forms, words, _, _, _) in EGL_CALLS.iter() {
         if name.as_bytes() == word {
             return Some(CallWords { name, forms, words });
         }
     }
-    'gl: for (name, _, forms, words, _, _) in GL_CALLS.iter() {
+    'gl: for (name, _, forms, words, _, _, _) in GL_CALLS.iter() {
         if name.as_bytes() == word {
             return Some(CallWords { name, forms, words });
         }

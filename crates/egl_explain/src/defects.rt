@@ -6,13 +6,14 @@ use crate::source_lines::{line_at, put_bar, put_line};
 use crate::suspects::{
     ExpectedWord, Suspect, cause_of_line, expected_line, unknown_in, word_at_fault,
 };
+use crate::telling::Defective;
 use egl_calls::NoMemory;
 use std::alloc::Global;
 use trace_reader::Reason;
 use trace_reader::word_cuts::{word_at, words};
 
 /// The place of a word's first byte in a line; the line's end past the last word.
-fn column_of(line: &[u8], word: usize) -> usize {
+pub fn column_of(line: &[u8], word: usize) -> usize {
     let mut left = word;
     let mut in_word = false;
     'each: for (k, byte) in line.iter().enumerate() {
@@ -77,7 +78,7 @@ fn put_called(page: &mut Page, words: &[&[u8]], reason: Reason) {
 }
 
 /// The part of a word that is no name; else the word.
-fn unknown_part_of(word: &[u8]) -> &[u8] {
+pub fn unknown_part_of(word: &[u8]) -> &[u8] {
     match unknown_in(word) {
         Some(part) => part,
         None => word,
@@ -118,7 +119,7 @@ fn put_suspect(page: &mut Page, line: &[u8], words: &[&[u8]], found: Suspect) {
 }
 
 /// The lines in front of one with a number.
-fn lines_before<'a, 'b>(lines: &'b [&'a [u8]], number: u64) -> &'b [&'a [u8]] {
+pub fn lines_before<'a, 'b>(lines: &'b [&'a [u8]], number: u64) -> &'b [&'a [u8]] {
     let count = (number.saturating_sub(1) as usize).min(lines.len());
     let (before, _) = lines.split_at(count);
     before
@@ -165,10 +166,13 @@ pub fn put_defect(
     alloc: Global,
     page: &mut Page,
     lines: &[&[u8]],
-    number: u64,
-    reason: Reason,
-    returned: bool,
+    defective: Defective,
 ) -> Result<(), NoMemory> {
+    let Defective {
+        number,
+        reason,
+        returned,
+    } = defective;
     put_head(page, lines, number, reason);
     let line = line_at(lines, number);
     if let Some(cause) = cause_of_line(line, returned, reason) {

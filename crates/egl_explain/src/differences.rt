@@ -3,10 +3,10 @@ ghost use Rattle.std.specs.Prelude.{◌≡◌, ◌≤◌, IfOk};
 ghost use Rattle.trace_check.specs.Verdicts.{verdict};
 ghost use Rattle.egl_explain.specs.Statuses.{verdict_status};
 
-use crate::further::{put_further, put_sum};
+use crate::further::put_further;
 use crate::judged_entries::{judge_next, play_lines};
-use crate::pages::{Ink, Page};
-use crate::recorded_lines::{Pair, put_both, put_entry, put_none, put_open, put_rest};
+use crate::recorded_lines::Pair;
+use crate::telling::Teller;
 use driver_core::Driver;
 use egl_calls::NoMemory;
 use egl_flow::Status;
@@ -17,9 +17,9 @@ use trace_reader::Trace;
 use trace_session::{Chains, Session, driver_of};
 
 /// Plays the entries of some lines, and says what came of the last, where the last line is an entry's; else what there is behind all entries. It answers whether what stands behind these lines may be compared.
-fn put_followed(
+fn put_followed<T: Teller>(
     alloc: Global,
-    page: &mut Page,
+    teller: &mut T,
     lines: &[&[u8]],
     driver: &mut Driver,
     session: &mut Session,
@@ -33,21 +33,21 @@ fn put_followed(
         if let Some(thread) = last.thread {
             play_lines(alloc, driver, session, front)?;
             match judge_next(alloc, driver, session, thread)? {
-                Some(judged) => put_entry(page, lines, driver, &judged, pair),
-                None => put_none(page),
+                Some(judged) => teller.due(lines, driver, &judged, pair),
+                None => teller.none_due(),
             }
             return Ok(pair.is_of_one_line());
         }
     }
     play_lines(alloc, driver, session, recorded)?;
-    put_rest(page, driver, recorded, pair);
+    teller.rest(driver, recorded, pair);
     Ok(!pair.is_head())
 }
 
 /// Why a recording should have another line at a place, and what else differs behind it.
-fn put_reason(
+fn put_reason<T: Teller>(
     alloc: Global,
-    page: &mut Page,
+    teller: &mut T,
     lines: &[&[u8]],
     trace: &Trace,
     recorded: &[RecordedLine],
@@ -59,25 +59,25 @@ fn put_reason(
     let mut driver = driver_of(alloc, trace)?;
     let chains = Chains::new(alloc, trace)?;
     let mut session = Session::new(alloc, trace, &chains)?;
-    if put_followed(alloc, page, lines, &mut driver, &mut session, front, pair)? {
+    if put_followed(alloc, teller, lines, &mut driver, &mut session, front, pair)? {
         let further = put_further(
             alloc,
-            page,
+            teller,
             lines,
             &mut driver,
             &mut session,
             recorded,
             place,
         )?;
-        put_sum(page, further);
+        teller.sum(further);
     }
     Ok(())
 }
 
 /// What a verdict says, and its status.
-fn put_verdict(
+fn put_verdict<T: Teller>(
     alloc: Global,
-    page: &mut Page,
+    teller: &mut T,
     lines: &[&[u8]],
     trace: &Trace,
     recording: &Recording,
@@ -87,8 +87,7 @@ fn put_verdict(
 {
     match verdict {
         Verdict::Holds => {
-            page.put_in(Ink::Answer, "the recording holds");
-            page.end_line();
+            teller.holds();
             Ok(Status::Ok)
         }
         Verdict::Differs {
@@ -100,21 +99,21 @@ fn put_verdict(
                 expected: expected.as_slice(),
                 found: found.as_slice(),
             };
-            put_both(page, *place, pair);
-            put_reason(alloc, page, lines, trace, recording.lines(), *place, pair)?;
+            teller.difference(*place, pair);
+            put_reason(alloc, teller, lines, trace, recording.lines(), *place, pair)?;
             Ok(Status::Differs)
         }
         Verdict::Incomplete { thread, line } => {
-            put_open(page, lines, *thread, *line);
+            teller.open(lines, *thread, *line);
             Ok(Status::Differs)
         }
     }
 }
 
 /// Whether a recording is its trace's, or where it differs: each line that does, what the specification gives there, and why.
-pub fn put_judgement(
+pub fn put_judgement<T: Teller>(
     alloc: Global,
-    page: &mut Page,
+    teller: &mut T,
     lines: &[&[u8]],
     trace: &Trace,
     recording: &Recording,
@@ -122,5 +121,5 @@ pub fn put_judgement(
     ensures { IfOk result (λ s. s ≡ verdict_status (verdict trace.now recording.now)) }
 {
     let verdict = check(alloc, trace, recording)?;
-    put_verdict(alloc, page, lines, trace, recording, &verdict)
+    put_verdict(alloc, teller, lines, trace, recording, &verdict)
 }

@@ -12,7 +12,7 @@ use egl_names::name_of;
 use refusal_rows::MOST_ROWS;
 
 /// The code of the error of the row at a place, where that row holds.
-fn code_at(refusals: &Refusals, place: usize) -> Option<u32>
+pub fn code_at(refusals: &Refusals, place: usize) -> Option<u32>
     requires { place < 16 }
     ensures { result ≡ code_at refusals.now place }
 {

@@ -7,60 +7,54 @@ ghost use Rattle.trace_model.specs.Stalled.{IsComplete, IsStalled};
 ghost use Rattle.journal_text.specs.Readings.{recorded};
 ghost use Rattle.egl_model.specs.History.{replay_from};
 ghost use Rattle.egl_model.specs.Step.{step};
+ghost use Rattle.egl_explain.specs.Formats.{IsOf};
+ghost use Rattle.json_lines.specs.Lines.{AreLines};
 ghost use Rattle.egl_explain.specs.Statuses.{recorded_status, run_status, status_of, status_or_defect};
 
-use crate::census_lines::put_census;
-use crate::defects::put_defect;
 use crate::differences::put_judgement;
-use crate::entry_lines::{put_outcome, shows_census};
+use crate::entry_lines::shows_census;
+use crate::json_objects::status_object;
 use crate::judging::play_told;
 use crate::object_words::Inventory;
 use crate::objects::{Birth, note_births, put_objects};
-use crate::pages::{Look, Page};
+use crate::pages::{Format, Look, Page};
 use crate::races::put_races;
-use crate::source_lines::{is_returned, line_at, lines_of, put_bar, put_line, says_nothing};
+use crate::source_lines::{is_returned, line_at, lines_of, says_nothing};
+use crate::telling::{Defective, Teller};
 use crate::waits::put_waits;
 use driver_core::{Driver, Run};
-use egl_calls::{Bytes, Entry, NoMemory};
-use egl_flow::Status;
+use egl_calls::{Entry, NoMemory};
+use egl_flow::{Answer, Status};
 use journal_text::{Cut, cut_recording, read_slice};
+use json_lines::JsonLines;
 use std::alloc::Global;
-use trace_reader::{Reason, Trace, TraceError};
+use trace_reader::{Trace, TraceError};
 use trace_session::{Chains, RunError, Session, driver_of, run_serial};
 
 /// How many references are looked at, about, for the objects that are told of behind calls.
 const MOST_LOOKS: u64 = 100_000_000;
 
-/// A text, and what came of the input that it tells of: the status of the command of `egl_cli` that takes such an input.
-#[derive(Drop)]
-pub struct Explained {
-    pub text: Bytes,
-    pub status: Status,
-}
-
 /// The lines behind those that were shown and in front of one that say nothing, or stand before the first call.
-fn put_between(page: &mut Page, lines: &[&[u8]], first: u64, shown: u64, number: u64) {
+fn put_between<T: Teller>(teller: &mut T, lines: &[&[u8]], first: u64, shown: u64, number: u64) {
     'each: for k in shown..number {
         if k > shown && (k < first || says_nothing(line_at(lines, k))) {
-            put_line(page, lines, k);
+            teller.comment(lines, k);
         }
     }
 }
 
 /// What there is in a driver: the census, and where few enough references were looked at before, the objects. It answers how many more may be looked at.
-fn put_inventory(
+fn put_inventory<T: Teller>(
     alloc: Global,
-    page: &mut Page,
+    teller: &mut T,
     lines: &[&[u8]],
     driver: &Driver,
     births: &[Birth],
     left: u64,
 ) -> Result<u64, NoMemory> {
-    put_census(page, &driver.census());
+    teller.census(&driver.census());
     if left == 0 {
-        put_bar(page);
-        page.put("    what leads to the objects stands at the end");
-        page.end_line();
+        teller.objects_later();
         return Ok(0);
     }
     let inventory = Inventory {
@@ -68,13 +62,13 @@ fn put_inventory(
         births,
         lines,
     };
-    Ok(left.saturating_sub(put_objects(alloc, page, &inventory)?))
+    Ok(left.saturating_sub(put_objects(alloc, teller, &inventory)?))
 }
 
 /// An entry that a driver plays again: its line, and what came of it.
-fn put_entry(
+fn put_entry<T: Teller>(
     alloc: Global,
-    page: &mut Page,
+    teller: &mut T,
     lines: &[&[u8]],
     driver: &mut Driver,
     entry: &Entry,
@@ -82,16 +76,15 @@ fn put_entry(
     requires { entry.now.thread < driver.old.made }
     ensures { OnOk result (driver.new ≡ record driver.old { state = (step driver.old.state entry.now.thread entry.now.call).state }) }
 {
-    put_line(page, lines, entry.mark);
     let told = play_told(alloc, driver, entry.thread, &entry.call)?;
-    put_outcome(page, &entry.call, &told.reply, &told.refusals, usize::MAX);
+    teller.entry(lines, entry, &told.reply, &told.refusals);
     Ok(())
 }
 
 /// Each entry of a run behind its line, with the lines that say nothing where the run first passes them. A driver plays the entries again, and behind an entry tells what there is then.
-fn put_entries(
+fn put_entries<T: Teller>(
     alloc: Global,
-    page: &mut Page,
+    teller: &mut T,
     lines: &[&[u8]],
     first: u64,
     driver: &mut Driver,
@@ -104,12 +97,12 @@ fn put_entries(
     let mut shown = 0u64;
     let mut left = MOST_LOOKS;
     'each: for entry in entries {
-        put_between(page, lines, first, shown, entry.mark);
+        put_between(teller, lines, first, shown, entry.mark);
         shown = shown.max(entry.mark);
-        put_entry(alloc, page, lines, driver, entry)?;
+        put_entry(alloc, teller, lines, driver, entry)?;
         note_births(births, entry, driver.object_count())?;
         if shows_census(entry.call.kind) {
-            left = put_inventory(alloc, page, lines, driver, births, left)?;
+            left = put_inventory(alloc, teller, lines, driver, births, left)?;
         }
     }
     Ok(())
@@ -124,9 +117,9 @@ fn first_call(trace: &Trace) -> u64 {
 }
 
 /// The line at which each thread of a run waits that isn't at its end, and why.
-fn put_waiting(
+fn put_waiting<T: Teller>(
     alloc: Global,
-    page: &mut Page,
+    teller: &mut T,
     lines: &[&[u8]],
     trace: &Trace,
     run: &Run,
@@ -139,14 +132,14 @@ fn put_waiting(
         births,
         lines,
     };
-    put_waits(page, &inventory, trace, &session);
+    put_waits(teller, &inventory, trace, &session);
     Ok(())
 }
 
 /// The text of a run: its entries, what there is behind them, and its races. It answers where the objects come from.
-fn put_run(
+fn put_run<T: Teller>(
     alloc: Global,
-    page: &mut Page,
+    teller: &mut T,
     lines: &[&[u8]],
     trace: &Trace,
     run: &Run,
@@ -157,30 +150,29 @@ fn put_run(
     let mut births = Vec::new(alloc);
     put_entries(
         alloc,
-        page,
+        teller,
         lines,
         first_call(trace),
         &mut driver,
         &mut births,
         run.journal.as_slice(),
     )?;
-    page.put("at the end");
-    page.end_line();
-    put_inventory(alloc, page, lines, &driver, &births, MOST_LOOKS)?;
+    teller.end();
+    put_inventory(alloc, teller, lines, &driver, &births, MOST_LOOKS)?;
     let inventory = Inventory {
         driver: &run.driver,
         births: births.as_slice(),
         lines,
     };
-    put_races(alloc, page, &inventory, trace, run)?;
+    put_races(alloc, teller, &inventory, trace, run)?;
     Ok(births)
 }
 
 /// The text of a run that came to its end.
 #[tactic(auto, using(crate::proofs::StatusLaws::ended_status))]
-fn put_ended(
+fn put_ended<T: Teller>(
     alloc: Global,
-    page: &mut Page,
+    teller: &mut T,
     lines: &[&[u8]],
     trace: &Trace,
     run: &Run,
@@ -189,15 +181,15 @@ fn put_ended(
     requires complete { IsComplete trace.now (serial trace.now) }
     ensures { IfOk result (λ s. s ≡ run_status trace.now) }
 {
-    put_run(alloc, page, lines, trace, run)?;
+    put_run(alloc, teller, lines, trace, run)?;
     Ok(Status::Ok)
 }
 
 /// The text of a run that stalled: the lines at which its threads wait stand behind it.
 #[tactic(auto, using(crate::proofs::StatusLaws::stalled_run_status))]
-fn put_stalled(
+fn put_stalled<T: Teller>(
     alloc: Global,
-    page: &mut Page,
+    teller: &mut T,
     lines: &[&[u8]],
     trace: &Trace,
     run: &Run,
@@ -206,15 +198,15 @@ fn put_stalled(
     requires stalled { IsStalled trace.now (serial trace.now) }
     ensures { IfOk result (λ s. s ≡ run_status trace.now) }
 {
-    let births = put_run(alloc, page, lines, trace, run)?;
-    put_waiting(alloc, page, lines, trace, run, &births)?;
+    let births = put_run(alloc, teller, lines, trace, run)?;
+    put_waiting(alloc, teller, lines, trace, run, &births)?;
     Ok(Status::Stalled)
 }
 
 /// The text of a trace that is played by turns.
-fn put_trace(
+fn put_trace<T: Teller>(
     alloc: Global,
-    page: &mut Page,
+    teller: &mut T,
     lines: &[&[u8]],
     trace: &Trace,
 ) -> Result<Status, NoMemory>
@@ -223,49 +215,56 @@ fn put_trace(
     // Each entry's thread is one of the trace.
     trace.in_order();
     match run_serial(alloc, trace) {
-        Ok(run) => put_ended(alloc, page, lines, trace, &run),
-        Err(RunError::Stalled(run)) => put_stalled(alloc, page, lines, trace, &run),
+        Ok(run) => put_ended(alloc, teller, lines, trace, &run),
+        Err(RunError::Stalled(run)) => put_stalled(alloc, teller, lines, trace, &run),
         Err(RunError::NoMemory) => Err(NoMemory),
     }
 }
 
 /// The text of the first line that isn't in its form, and whether a carriage return stands behind it.
-fn put_malformed(
+fn put_malformed<T: Teller>(
     alloc: Global,
-    page: &mut Page,
+    teller: &mut T,
     lines: &[&[u8]],
-    line: u64,
-    reason: Reason,
-    returned: bool,
+    defective: Defective,
 ) -> Result<Status, NoMemory>
     ensures { IfOk result (λ s. s ≡ Status.Malformed) }
 {
-    put_defect(alloc, page, lines, line, reason, returned)?;
+    teller.defect(alloc, lines, defective)?;
     Ok(Status::Malformed)
 }
 
 /// The text of bytes that spell a trace, or don't.
-fn put_plain(
+fn put_plain<T: Teller>(
     alloc: Global,
-    page: &mut Page,
+    teller: &mut T,
     lines: &[&[u8]],
     bytes: &[u8],
 ) -> Result<Status, NoMemory>
     ensures { IfOk result (λ s. s ≡ status_or_defect run_status (trace bytes.now)) }
 {
     match Trace::read_slice(alloc, bytes) {
-        Ok(trace) => put_trace(alloc, page, lines, &trace),
+        Ok(trace) => put_trace(alloc, teller, lines, &trace),
         Err(TraceError::Malformed { line, reason }) => {
-            put_malformed(alloc, page, lines, line, reason, false)
+            put_malformed(
+                alloc,
+                teller,
+                lines,
+                Defective {
+                    number: line,
+                    reason,
+                    returned: false,
+                },
+            )
         }
         Err(TraceError::NoMemory) => Err(NoMemory),
     }
 }
 
 /// The text of a recording behind its trace.
-fn put_recorded(
+fn put_recorded<T: Teller>(
     alloc: Global,
-    page: &mut Page,
+    teller: &mut T,
     lines: &[&[u8]],
     trace: &Trace,
     bytes: &[u8],
@@ -275,19 +274,28 @@ fn put_recorded(
     ensures { IfOk result (λ s. s ≡ recorded_status trace.now (recorded first_line bytes.now)) }
 {
     match read_slice(alloc, bytes, first_line) {
-        Ok(recording) => put_judgement(alloc, page, lines, trace, &recording),
+        Ok(recording) => put_judgement(alloc, teller, lines, trace, &recording),
         Err(TraceError::Malformed { line, reason }) => {
             let returned = is_returned(bytes, line.saturating_sub(first_line));
-            put_malformed(alloc, page, lines, line, reason, returned)
+            put_malformed(
+                alloc,
+                teller,
+                lines,
+                Defective {
+                    number: line,
+                    reason,
+                    returned,
+                },
+            )
         }
         Err(TraceError::NoMemory) => Err(NoMemory),
     }
 }
 
 /// The text of a trace and the recording behind it.
-fn put_claim(
+fn put_claim<T: Teller>(
     alloc: Global,
-    page: &mut Page,
+    teller: &mut T,
     lines: &[&[u8]],
     bytes: &[u8],
     cut: Cut,
@@ -298,9 +306,18 @@ fn put_claim(
 {
     let (front, rest) = bytes.split_at(cut.front as usize);
     match Trace::read_slice(alloc, front) {
-        Ok(trace) => put_recorded(alloc, page, lines, &trace, rest, cut.line),
+        Ok(trace) => put_recorded(alloc, teller, lines, &trace, rest, cut.line),
         Err(TraceError::Malformed { line, reason }) => {
-            put_malformed(alloc, page, lines, line, reason, false)
+            put_malformed(
+                alloc,
+                teller,
+                lines,
+                Defective {
+                    number: line,
+                    reason,
+                    returned: false,
+                },
+            )
         }
         Err(TraceError::NoMemory) => Err(NoMemory),
     }
@@ -308,9 +325,9 @@ fn put_claim(
 
 /// The text of an input.
 #[tactic(auto, unfolding(crate::specs::Statuses::status_of))]
-fn put_input(
+fn put_input<T: Teller>(
     alloc: Global,
-    page: &mut Page,
+    teller: &mut T,
     lines: &[&[u8]],
     bytes: &[u8],
 ) -> Result<Status, NoMemory>
@@ -318,21 +335,49 @@ fn put_input(
     ensures { IfOk result (λ s. s ≡ status_of bytes.now) }
 {
     match cut_recording(bytes) {
-        Some(cut) => put_claim(alloc, page, lines, bytes, cut),
-        None => put_plain(alloc, page, lines, bytes),
+        Some(cut) => put_claim(alloc, teller, lines, bytes, cut),
+        None => put_plain(alloc, teller, lines, bytes),
     }
 }
 
-/// Tells of an input: of a trace what came of each of its lines when it is played by turns, and why a call was refused; what is wrong with the first line that isn't in its form; or, of a trace with a recording behind it, where that differs, and why. The status is `Malformed` where the bytes aren't that, `Stalled` where the run stalls, `Differs` where the recording isn't the trace's, and else `Ok`.
-pub fn explain(alloc: Global, bytes: &[u8], look: Look) -> Result<Explained, NoMemory>
+/// The text for people.
+fn page_of(alloc: Global, bytes: &[u8], look: Look) -> Result<Answer, NoMemory>
     requires { length bytes.now ≤ most_input }
-    ensures { IfOk result (λ e. e.status ≡ status_of bytes.now) }
+    ensures { IfOk result (λ a. a.status ≡ status_of bytes.now) }
 {
     let lines = lines_of(alloc, bytes)?;
     let mut page = Page::new(alloc, look);
     let status = put_input(alloc, &mut page, &lines, bytes)?;
-    Ok(Explained {
+    Ok(Answer {
         text: page.into_text()?,
         status,
     })
+}
+
+/// The lines for programs.
+fn lines_for_programs(alloc: Global, bytes: &[u8]) -> Result<Answer, NoMemory>
+    requires { length bytes.now ≤ most_input }
+    ensures status { IfOk result (λ a. a.status ≡ status_of bytes.now) }
+    ensures lines { IfOk result (λ a. AreLines a.text) }
+{
+    let lines = lines_of(alloc, bytes)?;
+    let mut told = JsonLines::new(alloc);
+    let status = put_input(alloc, &mut told, &lines, bytes)?;
+    told.put(status_object(alloc, status));
+    Ok(Answer {
+        text: told.into_text()?,
+        status,
+    })
+}
+
+/// Tells of an input: of a trace what came of each of its lines when it is played by turns, and why a call was refused; what is wrong with the first line that isn't in its form; or, of a trace with a recording behind it, where that differs, and why. The status is `Malformed` where the bytes aren't that, `Stalled` where the run stalls, `Differs` where the recording isn't the trace's, and else `Ok`. What is said to programs are lines of JSON, an object for each thing that is told.
+pub fn explain(alloc: Global, bytes: &[u8], format: Format) -> Result<Answer, NoMemory>
+    requires { length bytes.now ≤ most_input }
+    ensures status { IfOk result (λ a. a.status ≡ status_of bytes.now) }
+    ensures format { IfOk result (λ a. IsOf format a.text) }
+{
+    match format {
+        Format::Text(look) => page_of(alloc, bytes, look),
+        Format::Json => lines_for_programs(alloc, bytes),
+    }
 }

@@ -3,7 +3,8 @@ ghost use Rattle.std.specs.Prelude.{◌≤◌};
 
 use crate::judged_entries::judge_next;
 use crate::pages::Page;
-use crate::recorded_lines::{Pair, put_both, put_entry, put_none, put_open, put_rest};
+use crate::recorded_lines::Pair;
+use crate::telling::Teller;
 use driver_core::Driver;
 use egl_calls::NoMemory;
 use journal_text::{RecordedLine, entry_line, rest};
@@ -17,8 +18,8 @@ const MOST_TOLD: u64 = 20;
 /// The lines behind the first that differ: how many there are, and whether all lines were compared.
 #[derive(Clone, Copy, Debug, PartialEq, Eq, Drop)]
 pub struct Further {
-    count: u64,
-    is_whole: bool,
+    pub count: u64,
+    pub is_whole: bool,
 }
 
 impl Further {
@@ -72,21 +73,21 @@ struct Found<'a> {
 }
 
 /// That a thread has no entry where a line of it stands.
-fn put_missing(page: &mut Page, found: Found<'_>) {
+fn put_missing<T: Teller>(teller: &mut T, found: Found<'_>) {
     if found.is_told {
         let pair = Pair {
             expected: b"none",
             found: found.text,
         };
-        put_both(page, found.place, pair);
-        put_none(page);
+        teller.difference(found.place, pair);
+        teller.none_due();
     }
 }
 
 /// Plays the entry that a thread has next, and tells of it where the line found is another.
-fn put_due(
+fn put_next<T: Teller>(
     alloc: Global,
-    page: &mut Page,
+    teller: &mut T,
     lines: &[&[u8]],
     driver: &mut Driver,
     session: &mut Session,
@@ -97,7 +98,7 @@ fn put_due(
     ensures { session.new.trace.threads ≤ driver.new.made }
 {
     let Some(judged) = judge_next(alloc, driver, session, thread)? else {
-        put_missing(page, found);
+        put_missing(teller, found);
         return Ok(Beside::Other);
     };
     let expected = entry_line(alloc, &judged.entry)?;
@@ -109,8 +110,8 @@ fn put_due(
         return Ok(Beside::Same);
     }
     if found.is_told {
-        put_both(page, found.place, pair);
-        put_entry(page, lines, driver, &judged, pair);
+        teller.difference(found.place, pair);
+        teller.due(lines, driver, &judged, pair);
     }
     if pair.is_of_one_line() {
         Ok(Beside::Answered)
@@ -120,9 +121,9 @@ fn put_due(
 }
 
 /// Tells of each entry's line behind a place that differs, up to one that is another line's.
-fn put_entries(
+fn put_entries<T: Teller>(
     alloc: Global,
-    page: &mut Page,
+    teller: &mut T,
     lines: &[&[u8]],
     driver: &mut Driver,
     session: &mut Session,
@@ -147,7 +148,7 @@ fn put_entries(
             place: at,
             is_told: further.tells(),
         };
-        match put_due(alloc, page, lines, driver, session, thread, found)? {
+        match put_next(alloc, teller, lines, driver, session, thread, found)? {
             Beside::Same => {}
             Beside::Answered => further = further.plus(1),
             Beside::Other => return Ok(further.ended()),
@@ -175,8 +176,8 @@ fn cut_part(text: &[u8]) -> (&[u8], &[u8]) {
 }
 
 /// Tells of each line behind the entries that differs and stands behind a place, up to the head of a front. It answers how many there are.
-fn put_shown(
-    page: &mut Page,
+fn put_shown<T: Teller>(
+    teller: &mut T,
     driver: &Driver,
     recorded: &[RecordedLine],
     text: &[u8],
@@ -197,7 +198,7 @@ fn put_shown(
             };
             if at > place && !pair.agrees() {
                 if further.tells() {
-                    put_shown_line(page, driver, recorded, at, pair);
+                    put_shown_line(teller, driver, recorded, at, pair);
                 }
                 if pair.is_head() {
                     return further.ended();
@@ -210,22 +211,22 @@ fn put_shown(
 }
 
 /// Tells of one line behind the entries.
-fn put_shown_line(
-    page: &mut Page,
+fn put_shown_line<T: Teller>(
+    teller: &mut T,
     driver: &Driver,
     recorded: &[RecordedLine],
     place: u64,
     pair: Pair<'_>,
 ) {
-    put_both(page, place, pair);
+    teller.difference(place, pair);
     let (front, _) = recorded.split_at((place as usize).min(recorded.len()));
-    put_rest(page, driver, front, pair);
+    teller.rest(driver, front, pair);
 }
 
 /// Tells of each line behind a place that differs.
-pub fn put_further(
+pub fn put_further<T: Teller>(
     alloc: Global,
-    page: &mut Page,
+    teller: &mut T,
     lines: &[&[u8]],
     driver: &mut Driver,
     session: &mut Session,
@@ -235,16 +236,16 @@ pub fn put_further(
     requires { session.old.trace.threads ≤ driver.old.made }
 {
     let (_, behind) = recorded.split_at((place as usize).min(recorded.len()));
-    let further = put_entries(alloc, page, lines, driver, session, behind, place)?;
+    let further = put_entries(alloc, teller, lines, driver, session, behind, place)?;
     if !further.is_whole {
         return Ok(further);
     }
     if let Some((thread, line)) = open_line(session) {
-        put_open(page, lines, thread, line);
+        teller.open(lines, thread, line);
         return Ok(further.cut_off());
     }
     let text = rest(alloc, driver)?;
-    Ok(put_shown(page, driver, recorded, text.as_slice(), place, further))
+    Ok(put_shown(teller, driver, recorded, text.as_slice(), place, further))
 }
 
 /// How many lines differ with the first, where more than that do.

@@ -22,9 +22,9 @@ pub struct Inventory<'a> {
 
 /// A name of a share group.
 #[derive(Clone, Copy, Drop)]
-struct GroupName {
-    kind: NameKind,
-    name: u32,
+pub struct GroupName {
+    pub kind: NameKind,
+    pub name: u32,
 }
 
 /// The kind of the names that objects of a kind have.
@@ -44,7 +44,7 @@ fn named_kind(kind: ObjectKind) -> Option<NameKind> {
 }
 
 /// The name that an object has in a group: the one by which it was bound first, where that leads to it.
-fn name_in(driver: &Driver, births: &[Birth], group: u64, object: u64) -> Option<GroupName>
+pub fn name_in(driver: &Driver, births: &[Birth], group: u64, object: u64) -> Option<GroupName>
     ensures { IfSome result (λ x. object_named driver.now.state group x.kind x.name ≡ Some object) }
 {
     let kind = named_kind(driver.object(object)?.kind())?;
@@ -65,7 +65,7 @@ fn name_in(driver: &Driver, births: &[Birth], group: u64, object: u64) -> Option
 }
 
 /// The name of a kind.
-fn kind_name(kind: ObjectKind) -> &'static str {
+pub fn kind_name(kind: ObjectKind) -> &'static str {
     match kind {
         ObjectKind::Context => "context",
         ObjectKind::Group => "share group",
@@ -81,7 +81,7 @@ fn kind_name(kind: ObjectKind) -> &'static str {
 }
 
 /// The target of a binding.
-fn target_name(target: BindTarget) -> &'static str {
+pub fn target_name(target: BindTarget) -> &'static str {
     match target {
         BindTarget::Texture => "GL_TEXTURE_2D",
         BindTarget::ArrayBuffer => "GL_ARRAY_BUFFER",
@@ -91,7 +91,7 @@ fn target_name(target: BindTarget) -> &'static str {
     }
 }
 
-fn point_name(point: Point) -> &'static str {
+pub fn point_name(point: Point) -> &'static str {
     match point {
         Point::Color => "GL_COLOR_ATTACHMENT0_OES",
         Point::Depth => "GL_DEPTH_ATTACHMENT_OES",
@@ -130,7 +130,7 @@ fn bound_in(line: &[u8]) -> &[u8] {
 }
 
 /// The variable by which a trace names an object of a kind: what the line assigns that made it, or the name that it binds; the empty word where there is none.
-fn variable_of(kind: ObjectKind, line: &[u8]) -> &[u8] {
+pub fn variable_of(kind: ObjectKind, line: &[u8]) -> &[u8] {
     match kind {
         ObjectKind::Context | ObjectKind::Surface | ObjectKind::Image | ObjectKind::Sync => {
             assigned_in(line)

@@ -6,6 +6,7 @@ use crate::object_words::{Inventory, put_holders, put_object};
 use crate::pages::{Ink, Page};
 use crate::references::{Holder, LinkRole, ObjectReference, holders_of, references_in};
 use crate::source_lines::put_bar;
+use crate::telling::Teller;
 use driver_core::Driver;
 use driver_objects::ObjectKind;
 use egl_calls::arguments::signed;
@@ -71,7 +72,7 @@ fn has_name(holders: &[Holder]) -> bool {
 }
 
 /// What no call can name any more lacks a handle or a name, by its kind. Other kinds never have one.
-fn lack_of(kind: ObjectKind, holders: &[Holder]) -> Option<&'static str> {
+pub fn lack_of(kind: ObjectKind, holders: &[Holder]) -> Option<&'static str> {
     match kind {
         ObjectKind::Context | ObjectKind::Surface | ObjectKind::Image | ObjectKind::Sync => {
             if has_handle(holders) {
@@ -107,30 +108,22 @@ fn put_lack(page: &mut Page, driver: &Driver, holders: &[Holder], number: u64) {
 }
 
 /// The line of an object, with all that refers to it.
-fn put_line(
-    alloc: Global,
-    page: &mut Page,
-    inventory: &Inventory,
-    references: &[ObjectReference],
-    number: u64,
-) -> Result<(), NoMemory> {
-    let holders = holders_of(alloc, references, number)?;
+pub fn put_object_line(page: &mut Page, inventory: &Inventory, holders: &[Holder], number: u64) {
     put_bar(page);
     page.put("    ");
     page.begin(Ink::Answer);
     put_object(page, inventory, number);
     page.end();
-    put_lack(page, inventory.driver, &holders, number);
+    put_lack(page, inventory.driver, holders, number);
     page.put(": ");
-    put_holders(page, inventory, &holders, number);
+    put_holders(page, inventory, holders, number);
     page.end_line();
-    Ok(())
 }
 
 /// The objects that references tell of, a hundred at most.
-fn put_lines(
+fn put_each<T: Teller>(
     alloc: Global,
-    page: &mut Page,
+    teller: &mut T,
     inventory: &Inventory,
     references: &[ObjectReference],
 ) -> Result<(), NoMemory> {
@@ -139,22 +132,25 @@ fn put_lines(
     'each: for number in 0..driver.object_count() {
         if driver.object(number).is_some() {
             if told >= MOST_TOLD {
-                put_bar(page);
-                page.put("    and more");
-                page.end_line();
+                teller.more_objects();
                 return Ok(());
             }
             told = told.saturating_add(1);
-            put_line(alloc, page, inventory, references, number)?;
+            let holders = holders_of(alloc, references, number)?;
+            teller.object(inventory, &holders, number);
         }
     }
     Ok(())
 }
 
 /// The objects of a driver, a hundred at most, each with all that refers to it. It answers how many references it looked at, about.
-pub fn put_objects(alloc: Global, page: &mut Page, inventory: &Inventory) -> Result<u64, NoMemory> {
+pub fn put_objects<T: Teller>(
+    alloc: Global,
+    teller: &mut T,
+    inventory: &Inventory,
+) -> Result<u64, NoMemory> {
     let references = references_in(alloc, inventory.driver)?;
-    put_lines(alloc, page, inventory, &references)?;
+    put_each(alloc, teller, inventory, &references)?;
     let looks = (references.len() as u64).saturating_mul(MOST_TOLD);
     Ok(looks.saturating_add(inventory.driver.object_count()))
 }

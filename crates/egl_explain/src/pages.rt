@@ -20,6 +20,15 @@ pub struct Look {
     pub cut: bool,
 }
 
+/// In which form an input is told of.
+#[derive(Clone, Copy, Debug, PartialEq, Eq, Drop)]
+pub enum Format {
+    /// A text for people.
+    Text(Look),
+    /// A line of JSON for each thing that is told.
+    Json,
+}
+
 /// What a piece of text is.
 #[derive(Clone, Copy, Debug, PartialEq, Eq, Drop)]
 pub enum Ink {

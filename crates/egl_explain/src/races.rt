@@ -4,6 +4,7 @@ ghost use Rattle.std.specs.Prelude.{◌≡◌, ◌<◌, All, OnOk};
 use crate::object_words::{Inventory, put_object};
 use crate::pages::{Ink, Page};
 use crate::source_lines::{put_bar, put_line};
+use crate::telling::Teller;
 use driver_core::{Driver, Run, Touches};
 use egl_calls::{Entry, NoMemory};
 use race_report::{Pair, report};
@@ -50,11 +51,27 @@ fn touched_by(
     Ok(touched)
 }
 
+/// Whether an entry writes a thing.
+#[derive(Clone, Copy, Debug, PartialEq, Eq, Drop)]
+pub enum Access {
+    Reads,
+    Writes,
+}
+
 /// A thing that two entries touch, and what each does to it.
 #[derive(Clone, Copy, Debug, PartialEq, Eq, Drop)]
-struct SharedThing {
-    thing: i64,
-    words: &'static str,
+pub struct SharedThing {
+    pub thing: i64,
+    pub first: Access,
+    pub second: Access,
+}
+
+/// Two entries that race, and what both touch.
+#[derive(Clone, Copy, Drop)]
+pub struct Race<'a> {
+    pub first: &'a Entry,
+    pub second: &'a Entry,
+    pub shared: Option<SharedThing>,
 }
 
 /// The first number that two lists share.
@@ -72,16 +89,34 @@ fn shared(first: &Touches, second: &Touches) -> Option<SharedThing> {
     let writes = first.writes.as_slice();
     let others = second.writes.as_slice();
     if let Some(thing) = common(writes, others) {
-        let words = "both write ";
-        return Some(SharedThing { thing, words });
+        return Some(SharedThing {
+            thing,
+            first: Access::Writes,
+            second: Access::Writes,
+        });
     }
     if let Some(thing) = common(writes, second.reads.as_slice()) {
-        let words = "the first writes and the second reads ";
-        return Some(SharedThing { thing, words });
+        return Some(SharedThing {
+            thing,
+            first: Access::Writes,
+            second: Access::Reads,
+        });
     }
     let thing = common(first.reads.as_slice(), others)?;
-    let words = "the first reads and the second writes ";
-    Some(SharedThing { thing, words })
+    Some(SharedThing {
+        thing,
+        first: Access::Reads,
+        second: Access::Writes,
+    })
+}
+
+/// What both entries do.
+fn shared_words(found: SharedThing) -> &'static str {
+    match (found.first, found.second) {
+        (Access::Writes, Access::Writes) => "both write ",
+        (Access::Writes, Access::Reads) => "the first writes and the second reads ",
+        (Access::Reads, _) => "the first reads and the second writes ",
+    }
 }
 
 /// An object, also one that is gone, or the front of a window.
@@ -112,7 +147,7 @@ fn put_shared(
 ) {
     put_bar(page);
     page.put("  ");
-    page.put(found.words);
+    page.put(shared_words(found));
     put_thing(page, inventory, found.thing);
     page.end_line();
     put_bar(page);
@@ -124,51 +159,56 @@ fn put_shared(
     page.end_line();
 }
 
+/// How many races there are.
+pub fn put_race_count(page: &mut Page, count: u64) {
+    page.put_in(Ink::Fault, "races: ");
+    page.put_decimal(count);
+    page.end_line();
+}
+
 /// The lines of a race, and what both touch.
-fn put_race(
-    page: &mut Page,
-    inventory: &Inventory,
-    entries: &[Entry],
-    touched: &[Touches],
-    pair: Pair,
-) {
-    let (at, behind) = (pair.first as usize, pair.second as usize);
-    if let (Some(first), Some(second)) = (entries.get(at), entries.get(behind)) {
-        put_line(page, inventory.lines, first.mark);
-        put_line(page, inventory.lines, second.mark);
-        if let (Some(some), Some(others)) = (touched.get(at), touched.get(behind)) {
-            if let Some(found) = shared(some, others) {
-                put_shared(page, inventory, first, second, found);
-            }
-        }
+pub fn put_race(page: &mut Page, inventory: &Inventory, race: &Race<'_>) {
+    put_line(page, inventory.lines, race.first.mark);
+    put_line(page, inventory.lines, race.second.mark);
+    if let Some(found) = race.shared {
+        put_shared(page, inventory, race.first, race.second, found);
     }
 }
 
+/// The race of two entries.
+fn race_of<'a>(entries: &'a [Entry], touched: &[Touches], pair: Pair) -> Option<Race<'a>> {
+    let (at, behind) = (pair.first as usize, pair.second as usize);
+    let found = shared(touched.get(at)?, touched.get(behind)?);
+    Some(Race {
+        first: entries.get(at)?,
+        second: entries.get(behind)?,
+        shared: found,
+    })
+}
+
 /// So many races, and those of them that are told.
-fn put_pairs(
-    page: &mut Page,
+fn put_pairs<T: Teller>(
+    teller: &mut T,
     inventory: &Inventory,
     entries: &[Entry],
     touched: &[Touches],
     pairs: &[Pair],
 ) {
-    page.put_in(Ink::Fault, "races: ");
-    page.put_decimal(pairs.len() as u64);
-    page.end_line();
+    teller.race_count(pairs.len() as u64);
     'each: for (k, pair) in pairs.iter().enumerate() {
         if k >= MOST_TOLD {
-            put_bar(page);
-            page.put("  and more");
-            return page.end_line();
+            return teller.more_races();
         }
-        put_race(page, inventory, entries, touched, *pair);
+        if let Some(race) = race_of(entries, touched, *pair) {
+            teller.race(inventory, &race);
+        }
     }
 }
 
 /// The races of a run, where it has any: the lines, what both touch, and what would order them.
-pub fn put_races(
+pub fn put_races<T: Teller>(
     alloc: Global,
-    page: &mut Page,
+    teller: &mut T,
     inventory: &Inventory,
     trace: &Trace,
     run: &Run,
@@ -186,6 +226,6 @@ pub fn put_races(
     let entries = run.journal.as_slice();
     let mut driver = driver_of(alloc, trace)?;
     let touched = touched_by(alloc, &mut driver, entries)?;
-    put_pairs(page, inventory, entries, &touched, pairs);
+    put_pairs(teller, inventory, entries, &touched, pairs);
     Ok(())
 }

@@ -43,7 +43,7 @@ impl Pair<'_> {
 }
 
 /// The line of the trace that a recording answers otherwise, and what the specification gives there.
-pub fn put_entry(
+pub fn put_due(
     page: &mut Page,
     lines: &[&[u8]],
     driver: &Driver,
@@ -69,7 +69,7 @@ fn is_head(line: &[u8]) -> bool {
 }
 
 /// The head of the window's front of which the last line is a row, and the row's number.
-fn front_row(recorded: &[RecordedLine]) -> Option<(&[u8], u64)> {
+pub fn front_row(recorded: &[RecordedLine]) -> Option<(&[u8], u64)> {
     let mut head = None;
     let mut count = 0u64;
     'each: for line in recorded {

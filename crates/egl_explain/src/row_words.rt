@@ -1,12 +1,9 @@
 //! What the rows of calls say, in words.
 ghost use Rattle.std.specs.Prelude.{◌≡◌, nat_lt, is_some, length};
-ghost use Rattle.call_table.specs.Rows.{egl_rules, own_rules};
-ghost use Rattle.egl_calls.specs.Calls.{CallValue};
-ghost use Rattle.egl_explain.specs.Judged.{gl_row_count, row_count};
-ghost use Rattle.context_state.specs.Kinds.{context_gl_call};
+ghost use Rattle.call_table.specs.Rows.{egl_rules, gl_rules, own_rules};
+ghost use Rattle.egl_explain.specs.Judged.{row_count};
 
 use call_table::{EglCondition, egl_rules, gl_rules, own_rules};
-use context_state::context_gl_call;
 use egl_calls::{EglKind, GlKind, Kind, OwnKind};
 
 /// What a condition of EGL says. Siblings stay siblings when the image is destroyed that made them.
@@ -29,14 +26,11 @@ fn egl_row_words(kind: EglKind, place: usize) -> Option<&'static str>
 
 /// What the row of a call of OpenGL ES at a place says.
 fn gl_row_words(kind: GlKind, place: usize) -> Option<&'static str>
-    ensures { (c : CallValue) → is_some result ≡ nat_lt place (gl_row_count (context_gl_call kind) kind c) }
+    ensures { is_some result ≡ nat_lt place (length (gl_rules kind)) }
 {
-    match context_gl_call(kind) {
-        Some(own) => context_state::words(own).get(place).copied(),
-        None => match gl_rules(kind).get(place) {
-            Some((condition, _)) => Some(condition.words()),
-            None => None,
-        },
+    match gl_rules(kind).get(place) {
+        Some((condition, _)) => Some(condition.words()),
+        None => None,
     }
 }
 
@@ -52,7 +46,7 @@ fn own_row_words(kind: OwnKind, place: usize) -> Option<&'static str>
 
 /// What the row of a call at a place says: each row of its table says something, and behind the last there is none.
 pub fn row_words(kind: Kind, place: usize) -> Option<&'static str>
-    ensures { (c : CallValue) → is_some result ≡ nat_lt place (row_count kind c) }
+    ensures { is_some result ≡ nat_lt place (row_count kind) }
 {
     match kind {
         Kind::Egl(kind) => egl_row_words(kind, place),

@@ -2,6 +2,7 @@
 use crate::object_words::{Inventory, put_object};
 use crate::pages::{Ink, Page};
 use crate::source_lines::{assigned_in, line_at, put_bar, put_line};
+use crate::telling::Teller;
 use driver_objects::Object;
 use trace_reader::{Line, Trace};
 use trace_session::{Session, awaited, is_await, is_post};
@@ -60,9 +61,9 @@ fn put_where(page: &mut Page, line: &Line) {
 }
 
 /// That a number isn't posted.
-fn put_unposted(page: &mut Page, trace: &Trace, number: u64) {
+fn put_unposted(page: &mut Page, line: Option<&Line>, number: u64) {
     put_bar(page);
-    match posting(trace, number) {
+    match line {
         Some(line) => {
             page.put("  for the post of ");
             page.put_decimal(number);
@@ -104,37 +105,69 @@ fn waited_for(inventory: &Inventory, thread: u32) -> Option<u64> {
     kept.wait
 }
 
-/// Why a thread waits at a line: for a sync, for a post, or for an answer.
-fn put_cause(
-    page: &mut Page,
+/// Why a thread waits at a line: for a sync, by its number; for the answer of a line that isn't played; or for the post of a number.
+#[derive(Clone, Copy, Drop)]
+pub enum Cause<'a> {
+    Sync(u64),
+    Answer(&'a Line),
+    Post(u64, Option<&'a Line>),
+    Unknown,
+}
+
+/// A line at which its thread waits, and why.
+#[derive(Clone, Copy, Drop)]
+pub struct Wait<'a> {
+    pub line: &'a Line,
+    pub cause: Cause<'a>,
+}
+
+fn cause_of<'a>(
     inventory: &Inventory,
-    trace: &Trace,
+    trace: &'a Trace,
     session: &Session,
     thread: u32,
     line: &Line,
-) {
+) -> Cause<'a> {
     if let Some(sync) = waited_for(inventory, thread) {
-        return put_unsignalled(page, inventory, sync);
+        return Cause::Sync(sync);
     }
     if let Some(other) = needed(trace, session, line) {
-        return put_unanswered(page, inventory.lines, other);
+        return Cause::Answer(other);
     }
     if is_await(line.call.kind()) {
-        put_unposted(page, trace, awaited(&line.call));
+        let number = awaited(&line.call);
+        return Cause::Post(number, posting(trace, number));
+    }
+    Cause::Unknown
+}
+
+/// The line at which a thread waits, and why.
+pub fn put_wait(page: &mut Page, inventory: &Inventory, wait: &Wait<'_>) {
+    page.put_in(Ink::Fault, "stalled: ");
+    page.put("thread ");
+    page.put_decimal(u64::from(wait.line.thread));
+    page.put(" waits at");
+    page.end_line();
+    put_line(page, inventory.lines, wait.line.number);
+    match wait.cause {
+        Cause::Sync(sync) => put_unsignalled(page, inventory, sync),
+        Cause::Answer(other) => put_unanswered(page, inventory.lines, other),
+        Cause::Post(number, line) => put_unposted(page, line, number),
+        Cause::Unknown => {}
     }
 }
 
-/// The line at which each thread waits that isn't at its end, and why.
-pub fn put_waits(page: &mut Page, inventory: &Inventory, trace: &Trace, session: &Session) {
+/// Each thread that isn't at its end.
+pub fn put_waits<T: Teller>(
+    teller: &mut T,
+    inventory: &Inventory,
+    trace: &Trace,
+    session: &Session,
+) {
     'each: for thread in 0..session.threads() {
         if let Some(line) = session.line(thread) {
-            page.put_in(Ink::Fault, "stalled: ");
-            page.put("thread ");
-            page.put_decimal(u64::from(thread));
-            page.put(" waits at");
-            page.end_line();
-            put_line(page, inventory.lines, line.number);
-            put_cause(page, inventory, trace, session, thread, line);
+            let cause = cause_of(inventory, trace, session, thread, line);
+            teller.wait(inventory, &Wait { line, cause });
         }
     }
 }

@@ -7,13 +7,15 @@ use Rattle.egl_calls.specs.Ranges.{unsigned}
 use Rattle.egl_calls.specs.declared.entries.Entry.{Entry}
 use Rattle.egl_calls.specs.declared.errors.EglError.TheVariants.{Success}
 use Rattle.egl_calls.specs.declared.kinds.EglKind.{EglKind}
-use Rattle.egl_calls.specs.declared.kinds.EglKind.TheVariants.{ClientWaitSync, CreateContext, CreateImage, CreatePbufferSurface, CreateSync, CreateWindowSurface, MakeCurrent, ReleaseThread, SurfaceAttrib, SwapBuffers, WaitClient, WaitSync}
+use Rattle.egl_calls.specs.declared.kinds.EglKind.TheVariants.{SwapBuffers}
 use Rattle.egl_calls.specs.declared.kinds.GlKind.{GlKind}
-use Rattle.egl_calls.specs.declared.kinds.GlKind.TheVariants.{BindBuffer, BindFramebuffer, BindRenderbuffer, BindTexture, BufferData, BufferSubData, Clear, CopyTexImage2d, CopyTexSubImage2d, DeleteBuffers, DeleteFramebuffers, DeleteRenderbuffers, DeleteTextures, DrawTexi, DrawTexx, Finish, Flush, FramebufferRenderbuffer, FramebufferTexture2d, GenBuffers, GenFramebuffers, GenRenderbuffers, GenTextures, ImageTargetRenderbufferStorage, ImageTargetTexture2d, RenderbufferStorage, TexImage2d, TexParameterx, TexParameteriv, TexSubImage2d}
+use Rattle.egl_calls.specs.declared.kinds.GlKind.TheVariants.{ImageTargetTexture2d}
+use Rattle.call_table.specs.Rows.{gl_role}
+use Rattle.call_table.specs.declared.roles.Role.{Role}
+use Rattle.call_table.specs.declared.roles.Role.TheVariants.{Asks, Attaches, Binds, Clears, Deletes, Draws, Flushes, Generates, ReadsPixels}
 use Rattle.context_state.specs.Calls.{apply}
 use Rattle.context_state.specs.Kinds.{context_gl_call}
 use Rattle.context_state.specs.Parts.{PartValue, noted}
-use Rattle.context_state.specs.declared.kinds.ContextCall.{ContextCall}
 use Rattle.display_table.specs.declared.handles.Handle.{Handle}
 use Rattle.framebuffer_objects.specs.Framebuffers.{with_point}
 use Rattle.framebuffer_objects.specs.declared.framebuffers.Attached.{Attached}
@@ -22,10 +24,9 @@ use Rattle.pixel_rows.specs.Images.{ImageValue}
 use Rattle.pixel_rows.specs.declared.rects.Rect.{Rect}
 use Rattle.rect_pipeline.specs.Samplers.{SamplerValue}
 use Rattle.share_group.specs.declared.names.NameKind.{NameKind}
-use Rattle.share_group.specs.declared.names.NameKind.TheVariants.{Buffer as buffers, Framebuffer as framebuffers, Renderbuffer as renderbuffers, Texture as textures}
 use Rattle.surface_store.specs.declared.windows.WindowSpec.{WindowSpec}
 use Rattle.driver_objects.specs.Storages.{StorageValue, cleared, rewritten_storage}
-use Rattle.driver_objects.specs.Targets.{binding_of, buffer_target, slot_of}
+use Rattle.driver_objects.specs.Targets.{binding_of, slot_of, target_of}
 use Rattle.driver_objects.specs.declared.objects.Object.{Object}
 use Rattle.driver_objects.specs.declared.surfaces.BackedSurface.{BackedSurface}
 use Rattle.driver_objects.specs.declared.targets.BindTarget.{BindTarget}
@@ -35,30 +36,30 @@ use Rattle.egl_image.specs.declared.images.EglImage.{EglImage}
 use Rattle.framebuffer_objects.specs.Renderbuffers.{RenderbufferValue}
 use Rattle.egl_model.specs.Arguments.{number}
 use Rattle.egl_model.specs.Bindings.{bound_at, bound_framebuffer_in, bound_name, bound_named, bound_object, deleted_in, deleted_name, detached_from, detached_on, named_at, new_object, unbound_in, unbound_object}
-use Rattle.egl_model.specs.Buffers.{set_data, set_part_of, target_buffer, with_data, with_part_of}
-use Rattle.egl_model.specs.Contexts.{context_objects, shared_group}
+use Rattle.egl_model.specs.Buffers.{set_data, set_part_of, with_data, with_part_of}
+use Rattle.egl_model.specs.Contexts.{context_objects, created_context, shared_group}
 use Rattle.egl_model.specs.Copies.{copied, copied_from, copied_level, copied_part_from, copies_nothing, read_image}
 use Rattle.egl_model.specs.Currents.{bound_surface, current_context, part_of_context}
 use Rattle.egl_model.specs.Drawing.{clear_storage, cleared_draw, clears_colour}
 use Rattle.egl_model.specs.Draws.{draw_into, drawn, drawn_rect, sampler}
 use Rattle.egl_model.specs.EglCalls.{egl_effect}
-use Rattle.egl_model.specs.Flushes.{flush_in, flushed_to}
+use Rattle.egl_model.specs.Flushes.{flush, flush_in, flushed_to}
 use Rattle.egl_model.specs.Framebuffers.{attached, bound_framebuffer, called_point, given_attachment, target_framebuffer}
-use Rattle.egl_model.specs.GlCalls.{effect_by, gl_effect, object_effect}
+use Rattle.egl_model.specs.GlCalls.{effect_by, gl_effect, plain_gl_effect, role_effect}
 use Rattle.egl_model.specs.History.{replay_from}
-use Rattle.egl_model.specs.Images.{add_image, levels_dropped, renderbuffer_of_image, source_storage, target_image, texture_of_image}
-use Rattle.egl_model.specs.MakeCurrent.{bound_anew as bound_other, context_handle, draw_handle, first_use, made_current}
+use Rattle.egl_model.specs.Images.{add_image, levels_dropped, renderbuffer_of_image, target_image, texture_of_image}
+use Rattle.egl_model.specs.MakeCurrent.{bound_anew as bound_other, context_handle, draw_handle, first_use, made_current, released}
 use Rattle.egl_model.specs.Names.{generated, group_of, object_named, with_more}
 use Rattle.egl_model.specs.Objects.{texture_in}
-use Rattle.egl_model.specs.Renderbuffers.{new_kind, new_pixels, stored_as, target_renderbuffer, with_kind}
+use Rattle.egl_model.specs.Renderbuffers.{stored_as, with_kind}
 use Rattle.egl_model.specs.State.{State, opening, record_of, set_error}
 use Rattle.egl_model.specs.Step.{step}
-use Rattle.egl_model.specs.Surfaces.{with_behavior}
+use Rattle.egl_model.specs.Surfaces.{created_pbuffer, with_behavior}
 use Rattle.egl_model.specs.Sweep.{roots}
-use Rattle.egl_model.specs.Syncs.{add_sync, asks_for_flush, client_waited, flush_for, has_to_wait, serve, served_fence, sync_handle}
-use Rattle.egl_model.specs.Textures.{level_of, level_storage, new_level, rewritten_part, set_crop, set_parameter, specified, storage_at, target_texture, unpack_alignment, with_crop, with_value}
+use Rattle.egl_model.specs.Syncs.{add_sync, asks_for_flush, client_waited, flush_for, has_to_wait, serve, served_fence}
+use Rattle.egl_model.specs.Textures.{level_of, rewritten_part, set_crop, set_parameter, specified, storage_at, target_texture, with_crop, with_value}
 use Rattle.egl_model.specs.Waits.{is_signalled, waiting}
-use Rattle.egl_model.specs.Windows.{swapped, swapped_surface, swapped_with}
+use Rattle.egl_model.specs.Windows.{created_window, swapped, swapped_surface, swapped_with}
 use Rattle.model_laws.specs.Laws.{IsAllowedGl}
 use Rattle.model_laws.proofs.ImageLaws.{base_of_image, levels_of_image}
 use Rattle.model_laws.proofs.Ways.{HoldsEachWay, each_way}
@@ -115,21 +116,31 @@ image_keeps : (s : State) (d : ℕ) (o : Option ℕ) → Elevens s.objects → E
 image_keeps s d None e = e
 image_keeps s d (Some k) e = adds s.objects _ e (tt, tt)
 
--- all others change no object
+window_keeps : (s : State) (c : CallValue) → Elevens s.objects → Elevens (created_window s c).objects
+window_keeps s c e = adds s.objects _ e (tt, (tt, tt))
+
+pbuffer_keeps : (s : State) (c : CallValue) → Elevens s.objects → Elevens (created_pbuffer s c).objects
+pbuffer_keeps s c e = adds s.objects _ e (tt, (tt, tt))
+
+context_keeps : (s : State) (c : CallValue) → Elevens s.objects → Elevens (created_context s c).objects
+context_keeps s c e = adds s.objects _ e (context_is_new (length s.objects) (number c 1) (number c 0) (shared_group s c))
+
+flushed_keeps : (s : State) (t : ℕ) → Elevens s.objects → Elevens (flush s t).objects
+flushed_keeps s t e = flush_keeps (current_context s t) s.objects e
+
+swapped_keeps : (s : State) (t : ℕ) → Elevens s.objects → Elevens (flush (swapped s t) t).objects
+swapped_keeps s t e = flushed_keeps (swapped s t) t (surface_swap_keeps (bound_surface s (record_of s t).draw) s e)
+
+released_keeps : (s : State) (t : ℕ) → Elevens s.objects → Elevens (released s t).objects
+released_keeps s t e = flush_keeps (current_context s t) s.objects e
+
+-- what calls of EGL do is made of these
+ruleset egl_level_moves = (window_keeps, pbuffer_keeps, behavior_keeps, context_keeps, current_keeps, flushed_keeps, swapped_keeps, sync_keeps, wait_keeps, serve_keeps, image_keeps, released_keeps)
+
 egl_keeps : (s : State) (t : ℕ) (k : EglKind) (c : CallValue) → Elevens s.objects → Elevens (egl_effect s t k c).state.objects
-egl_keeps s t CreateWindowSurface c e = adds s.objects _ e (tt, (tt, tt))
-egl_keeps s t CreatePbufferSurface c e = adds s.objects _ e (tt, (tt, tt))
-egl_keeps s t CreateContext c e = adds s.objects _ e (context_is_new (length s.objects) (number c 1) (number c 0) (shared_group s c))
-egl_keeps s t SurfaceAttrib c e = behavior_keeps s c _ e
-egl_keeps s t MakeCurrent c e = current_keeps s t c e
-egl_keeps s t SwapBuffers c e = flush_keeps (current_context (swapped s t) t) (swapped s t).objects (surface_swap_keeps (bound_surface s (record_of s t).draw) s e)
-egl_keeps s t WaitClient c e = flush_keeps (current_context s t) s.objects e
-egl_keeps s t CreateSync c e = sync_keeps s (number c 0) (current_context s t) e
-egl_keeps s t ClientWaitSync c e = wait_keeps c t (sync_handle s c) s e
-egl_keeps s t WaitSync c e = serve_keeps (sync_handle s c) s e
-egl_keeps s t CreateImage c e = image_keeps s (number c 0) (source_storage s c) e
-egl_keeps s t ReleaseThread c e = flush_keeps (current_context s t) s.objects e
-egl_keeps s t k c e = e
+-- one call is named, so that each other is a case of its own
+egl_keeps s t SwapBuffers c e = search (egl_level_moves, e)
+egl_keeps s t k c e = search (egl_level_moves, e)
 
 -- ---- Calls of OpenGL ES.
 clear_keeps : (p : Option PartValue) (o : Option ℕ) (s : State) → Elevens s.objects → Elevens (clear_storage p o s).objects
@@ -239,43 +250,29 @@ renderbuffer_image_keeps (Some i) (Some x) s e = change_pixels_keeps 0 (Some i.s
 renderbuffer_image_keeps (Some i) None s e = e
 renderbuffer_image_keeps None o s e = e
 
--- all others change no object
-object_keeps : (s : State) (t n : ℕ) (k : GlKind) (c : CallValue) → Elevens s.objects → Elevens (object_effect s t n k c).state.objects
-object_keeps s t n Flush c e = flush_keeps (Some n) s.objects e
-object_keeps s t n Finish c e = flush_keeps (Some n) s.objects e
-object_keeps s t n Clear c e = cleared_keeps s t n c e
-object_keeps s t n DrawTexi c e = drawn_keeps s t n DrawTexi c e
-object_keeps s t n DrawTexx c e = drawn_keeps s t n DrawTexx c e
-object_keeps s t n GenTextures c e = generated_keeps s (group_of s n) textures (number c 0) e
-object_keeps s t n GenBuffers c e = generated_keeps s (group_of s n) buffers (number c 0) e
-object_keeps s t n GenRenderbuffers c e = generated_keeps s (group_of s n) renderbuffers (number c 0) e
-object_keeps s t n GenFramebuffers c e = generated_keeps s (group_of s n) framebuffers (number c 0) e
-object_keeps s t n DeleteTextures c e = deleted_keeps textures (group_of s n) n c.list s e
-object_keeps s t n DeleteBuffers c e = deleted_keeps buffers (group_of s n) n c.list s e
-object_keeps s t n DeleteRenderbuffers c e = deleted_keeps renderbuffers (group_of s n) n c.list s e
-object_keeps s t n DeleteFramebuffers c e = deleted_keeps framebuffers (group_of s n) n c.list s e
-object_keeps s t n BindTexture c e = bound_name_keeps texture_target s n (number c 1) e
-object_keeps s t n BindBuffer c e = bound_name_keeps (buffer_target (number c 0)) s n (number c 1) e
-object_keeps s t n BindRenderbuffer c e = bound_name_keeps renderbuffer_target s n (number c 1) e
-object_keeps s t n BindFramebuffer c e = bound_name_keeps framebuffer_target s n (number c 1) e
-object_keeps s t n TexParameterx c e = parameter_keeps (number c 1) (number c 2) (target_texture s n) s e
-object_keeps s t n TexParameteriv c e = crop_keeps c.list (target_texture s n) s e
-object_keeps s t n TexImage2d c e = level_keeps (level_of c) (new_level c (unpack_alignment s n)) (target_texture s n) s e
-object_keeps s t n TexSubImage2d c e = rewritten_keeps c (unpack_alignment s n) (level_storage s n (level_of c)) s e
-object_keeps s t n CopyTexImage2d c e = copied_keeps s t n c e
-object_keeps s t n CopyTexSubImage2d c e = copied_part_keeps (read_image s t) c (level_storage s n (level_of c)) s e
-object_keeps s t n BufferData c e = data_keeps c (target_buffer s n c) s e
-object_keeps s t n BufferSubData c e = part_of_keeps c (target_buffer s n c) s e
-object_keeps s t n RenderbufferStorage c e = stored_keeps (new_kind c) (new_pixels c) (target_renderbuffer s n) s e
-object_keeps s t n FramebufferTexture2d c e = attached_keeps (called_point c) (given_attachment textures s n c) (target_framebuffer s n) s e
-object_keeps s t n FramebufferRenderbuffer c e = attached_keeps (called_point c) (given_attachment renderbuffers s n c) (target_framebuffer s n) s e
-object_keeps s t n ImageTargetTexture2d c e = texture_image_keeps (target_image s n c) (target_texture s n) s e
-object_keeps s t n ImageTargetRenderbufferStorage c e = renderbuffer_image_keeps (target_image s n c) (target_renderbuffer s n) s e
-object_keeps s t n k c e = e
+-- what calls on objects that are bound do is made of these
+ruleset level_moves = (parameter_keeps, crop_keeps, level_keeps, rewritten_keeps, copied_keeps, copied_part_keeps, data_keeps, part_of_keeps, stored_keeps, texture_image_keeps, renderbuffer_image_keeps)
 
-effect_keeps : (o : Option ContextCall) (s : State) (t n : ℕ) (k : GlKind) (c : CallValue) → Elevens s.objects → Elevens (effect_by o s t n k c).state.objects
+plain_keeps : (s : State) (t n : ℕ) (k : GlKind) (c : CallValue) → Elevens s.objects → Elevens (plain_gl_effect s t n k c).state.objects
+-- one call is named, so that each other is a case of its own
+plain_keeps s t n ImageTargetTexture2d c e = search (level_moves, e)
+plain_keeps s t n k c e = search (level_moves, e)
+
+role_keeps : (r : Role) (s : State) (t n : ℕ) (k : GlKind) (c : CallValue) → Elevens s.objects → Elevens (role_effect r s t n k c).state.objects
+role_keeps Flushes s t n k c e = flush_keeps (Some n) s.objects e
+role_keeps Clears s t n k c e = cleared_keeps s t n c e
+role_keeps ReadsPixels s t n k c e = e
+role_keeps Draws s t n k c e = drawn_keeps s t n k c e
+role_keeps (Generates names) s t n k c e = generated_keeps s (group_of s n) names (number c 0) e
+role_keeps (Deletes names) s t n k c e = deleted_keeps names (group_of s n) n c.list s e
+role_keeps (Asks names) s t n k c e = e
+role_keeps (Binds names) s t n k c e = bound_name_keeps (target_of names (number c 0)) s n (number c 1) e
+role_keeps (Attaches names) s t n k c e = attached_keeps (called_point c) (given_attachment names s n c) (target_framebuffer s n) s e
+role_keeps r s t n k c e = plain_keeps s t n k c e
+
+effect_keeps : (o : Option GlKind) (s : State) (t n : ℕ) (k : GlKind) (c : CallValue) → Elevens s.objects → Elevens (effect_by o s t n k c).state.objects
 effect_keeps (Some own) s t n k c e = change_part_keeps (λ p. (apply c p).part) n s.objects e
-effect_keeps None s t n k c e = object_keeps s t n k c e
+effect_keeps None s t n k c e = role_keeps (gl_role k) s t n k c e
 
 -- ---- Steps and histories.
 each : (s : State) (t : ℕ) (c : CallValue) → Elevens s.objects → HoldsEachWay (λ (a : State). Elevens a.objects) s t c

@@ -16,9 +16,9 @@ use Rattle.egl_calls.specs.declared.kinds.OwnKind.TheVariants.{ReadBuffer, WaitE
 use Rattle.egl_model.specs.Currents.{current_context}
 use Rattle.egl_model.specs.Effects.{Effect}
 use Rattle.egl_model.specs.EglCalls.{egl_effect, egl_refusal}
-use Rattle.egl_model.specs.GlCalls.{gl_effect, gl_facts, gl_refusal}
+use Rattle.egl_model.specs.GlCalls.{gl_effect, gl_refusal}
+use Rattle.egl_model.specs.GlFacts.{gl_facts_of}
 use Rattle.egl_model.specs.OwnCalls.{buffer_effect, buffer_refusal}
-use Rattle.egl_model.specs.GlCalls.{buffer_facts}
 use Rattle.egl_model.specs.State.{State, record_of}
 use Rattle.egl_model.specs.Step.{after_egl_rules, after_gl_rules, buffer_step_on, egl_step, gl_step, gl_step_on, own_step, step, step_by, step_in, wait_step}
 use Rattle.egl_model.specs.Waits.{is_signalled, is_wait_end}
@@ -56,7 +56,7 @@ gl_tells s n None f k h = done_tells f h
 
 gl_wants : (s : State) (t n : ℕ) (k : GlKind) (c : CallValue) → c.kind ≡ Gl k → gl_refusal s t n k c ≡ Some OutOfMemory → wants_bytes k ≡ true
 unfolding gl_refusal
-gl_wants s t n k c e h = four_want c (gl_facts s t n k c) k e h
+gl_wants s t n k c e h = four_want c (gl_facts_of s t n c) k e h
 
 by_context : (s : State) (t : ℕ) (k : GlKind) (c : CallValue) (o : Option ℕ) → c.kind ≡ Gl k → told (gl_step_on s t o k c).reply.outcome ≡ Some OutOfMemory → wants_bytes k ≡ true
 unfolding told
@@ -65,7 +65,7 @@ by_context s t k c (Some n) e h = gl_tells s n (gl_refusal s t n k c) (gl_effect
 
 buffer_wants : (s : State) (t n : ℕ) (c : CallValue) → c.kind ≡ Own ReadBuffer → buffer_refusal s t n c ≡ Some OutOfMemory → ⊥
 unfolding buffer_refusal
-buffer_wants s t n c e h = read_wants_none c (buffer_facts s n c) e h
+buffer_wants s t n c e h = read_wants_none c (gl_facts_of s t n c) e h
 
 by_buffer : {X : Type 0} (s : State) (t : ℕ) (c : CallValue) (o : Option ℕ) → c.kind ≡ Own ReadBuffer → told (buffer_step_on s t o c).reply.outcome ≡ Some OutOfMemory → X
 unfolding told
@@ -106,19 +106,19 @@ pub wanting_image : (s : State) (t n : ℕ) (c : CallValue) → IsGlCall s t Tex
 wanting_image s t n c h i w = image_wants_pixels s t n c h i (level_asked c w.0, w.1)
 
 pub copy_wants : (s : State) (t n : ℕ) (c : CallValue) → IsGlCall s t CopyTexImage2d c → current_context s t ≡ Some n → AnswersGl s t c OutOfMemory → IsFaultlessCopy s t c × WantsCopy s c
-copy_wants s t n c h i a = let w = copy_is_refused s t n c h i a in (copy_faultless s t c w.0, w.1)
+copy_wants s t n c h i a = let w = copy_is_refused s t n c h i a in (copy_faultless s t n c w.0, w.1)
 
 pub wanting_copy : (s : State) (t n : ℕ) (c : CallValue) → IsGlCall s t CopyTexImage2d c → current_context s t ≡ Some n → IsFaultlessCopy s t c × WantsCopy s c → AnswersGl s t c OutOfMemory
-wanting_copy s t n c h i w = copy_wants_pixels s t n c h i (copy_asked s t c w.0, w.1)
+wanting_copy s t n c h i w = copy_wants_pixels s t n c h i (copy_asked s t n c w.0, w.1)
 
 pub data_wants : (s : State) (t n : ℕ) (c : CallValue) → IsGlCall s t BufferData c → current_context s t ≡ Some n → AnswersGl s t c OutOfMemory → IsFaultlessData s n c × WantsData s c
-data_wants s t n c h i a = let w = data_is_refused s t n c h i a in (data_faultless s n c w.0, w.1)
+data_wants s t n c h i a = let w = data_is_refused s t n c h i a in (data_faultless s t n c w.0, w.1)
 
 pub wanting_data : (s : State) (t n : ℕ) (c : CallValue) → IsGlCall s t BufferData c → current_context s t ≡ Some n → IsFaultlessData s n c × WantsData s c → AnswersGl s t c OutOfMemory
-wanting_data s t n c h i w = buffer_wants_bytes s t n c h i (data_asked s n c w.0, w.1)
+wanting_data s t n c h i w = buffer_wants_bytes s t n c h i (data_asked s t n c w.0, w.1)
 
 pub storage_wants : (s : State) (t n : ℕ) (c : CallValue) → IsGlCall s t RenderbufferStorage c → current_context s t ≡ Some n → AnswersGl s t c OutOfMemory → IsFaultlessStorage s n c × WantsStorage s c
-storage_wants s t n c h i a = let w = storage_is_refused s t n c h i a in (storage_faultless s n c w.0, w.1)
+storage_wants s t n c h i a = let w = storage_is_refused s t n c h i a in (storage_faultless s t n c w.0, w.1)
 
 pub wanting_storage : (s : State) (t n : ℕ) (c : CallValue) → IsGlCall s t RenderbufferStorage c → current_context s t ≡ Some n → IsFaultlessStorage s n c × WantsStorage s c → AnswersGl s t c OutOfMemory
-wanting_storage s t n c h i w = renderbuffer_wants_pixels s t n c h i (storage_asked s n c w.0, w.1)
+wanting_storage s t n c h i w = renderbuffer_wants_pixels s t n c h i (storage_asked s t n c w.0, w.1)

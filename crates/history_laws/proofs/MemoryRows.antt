@@ -16,7 +16,6 @@ use Rattle.egl_names.specs.declared.codes.TheConstants.{GL_RENDERBUFFER_OES, GL_
 use Rattle.refusal_rows.specs.Rows.{first_error}
 use Rattle.refusal_rows.proofs.RowLaws.{first_is, is_not_said, some_says}
 use Rattle.call_table.specs.Rows.{own_rules}
-use Rattle.buffer_objects.specs.Buffers.{BufferValue}
 use Rattle.call_rules.specs.CopyRules.{has_alpha}
 use Rattle.call_rules.specs.GlAllowed.{CopyAsked, DataAsked, ImageAsked, IsSide, StorageAsked}
 use Rattle.call_rules.specs.GlRules.{gl_refusal, gl_rows, gl_rows_by, ruled}
@@ -24,9 +23,10 @@ use Rattle.call_rules.specs.RenderbufferRules.{is_no_side}
 use Rattle.call_rules.specs.TextureRules.{is_image_format, is_image_type, is_no_level_side}
 use Rattle.call_rules.specs.declared.gl_facts.GlFacts.{GlFacts}
 use Rattle.call_rules.proofs.GlLaws.{refused_first}
-use Rattle.call_rules.proofs.TestLaws.{is_not_below, not_below}
-use Rattle.egl_model.specs.Buffers.{buffer_of}
-use Rattle.egl_model.specs.GlCalls.{bound_facts, copy_facts, data_facts, has_read_alpha, storage_facts}
+use Rattle.texture_objects.specs.Forms.{form_of}
+use Rattle.call_rules.proofs.TestLaws.{given_last, is_not_below, not_below, unless}
+use Rattle.egl_model.specs.Framebuffers.{bound_framebuffer, is_complete}
+use Rattle.egl_model.specs.GlFacts.{gl_facts_of, has_read_alpha}
 use Rattle.egl_model.specs.State.{State}
 use Rattle.history_laws.specs.Memory.{IsFaultlessCopy, IsFaultlessData, IsFaultlessLevel, IsFaultlessStorage, wants_bytes}
 
@@ -60,14 +60,14 @@ equal a b h = (Decides-eqb a b).0 (not-false (a == b) h)
 is_equal : (a b : ℕ) → a ≡ b → not (a == b) ≡ false
 is_equal a b h = not_from_true (a == b) ((Decides-eqb a b).1 h)
 
-implied : (a b : Bool) → (a && not b) ≡ false → a ≡ true → b ≡ true
-implied true true h e = refl
-implied true false h e = absurd (let g : true ≡ false = h in cc)
-implied false b h e = absurd (let g : false ≡ true = e in cc)
+-- where there is a third, the first asks for the second
+implied : (a b d : Bool) → d ≡ true → (a && (not b && d)) ≡ false → a ≡ true → b ≡ true
+implied true b d i h e = not-false b (given_last (not b) d i h)
+implied false b d i h e = absurd (let g : false ≡ true = e in cc)
 
-is_implied : (a b : Bool) → (a ≡ true → b ≡ true) → (a && not b) ≡ false
-is_implied true b h = not_from_true b (h refl)
-is_implied false b h = refl
+is_implied : (a b d : Bool) → (a ≡ true → b ≡ true) → (a && (not b && d)) ≡ false
+is_implied true b d h = unless b d (h refl)
+is_implied false b d h = refl
 
 side : (z : ℤ) → is_no_side z ≡ false → IsSide z
 side z h = let o = or_parts (int_lt z (pos 0)) (int_lt (pos 2048) z) h in record { low = not_below _ _ o.0; high = not_below _ _ o.1 }
@@ -90,7 +90,7 @@ level_faultless c a =
       height = sides.1;
       border = not-false _ a.1.1.1.1.1.0;
       same = equal (number c 2) (number c 6) a.1.1.1.1.1.1.0;
-      pair = not-false _ a.1.1.1.1.1.1.1.0;
+      pair = not-false _ (given_last (not (is_some (form_of (number c 6) (number c 7)))) (is_image_format (number c 6) && is_image_type (number c 7)) (not-false _ a.1.0) a.1.1.1.1.1.1.1.0);
     }
 
 pub level_asked : (c : CallValue) → IsFaultlessLevel c → ImageAsked c
@@ -108,7 +108,7 @@ level_asked c f = (
             not_from_true _ f.border,
             (
               is_equal (number c 2) (number c 6) f.same,
-              (not_from_true _ f.pair, tt),
+              (unless (is_some (form_of (number c 6) (number c 7))) (is_image_format (number c 6) && is_image_type (number c 7)) f.pair, tt),
             ),
           ),
         ),
@@ -117,9 +117,10 @@ level_asked c f = (
   ),
 )
 
-pub copy_faultless : (s : State) (t : ℕ) (c : CallValue) → CopyAsked c (copy_facts s t c) → IsFaultlessCopy s t c
-copy_faultless s t c a =
+pub copy_faultless : (s : State) (t n : ℕ) (c : CallValue) → CopyAsked c (gl_facts_of s t n c) → IsFaultlessCopy s t c
+copy_faultless s t n c a =
     let sides = or_parts (is_no_level_side (number c 1) (signed c 5)) (is_no_level_side (number c 1) (signed c 6)) a.1.1.1.0 in
+    let complete = not-false (is_complete (bound_framebuffer s t)) a.1.1.1.1.1.0 in
     record {
       target = equal (number c 0) GL_TEXTURE_2D a.0;
       internal = not-false _ a.1.0;
@@ -127,12 +128,12 @@ copy_faultless s t c a =
       width = sides.0;
       height = sides.1;
       border = not-false _ a.1.1.1.1.0;
-      complete = not-false _ a.1.1.1.1.1.0;
-      alpha = implied (has_alpha (number c 2)) (has_read_alpha s t) a.1.1.1.1.1.1.0;
+      complete = complete;
+      alpha = implied (has_alpha (number c 2)) (has_read_alpha s t) (is_complete (bound_framebuffer s t)) complete a.1.1.1.1.1.1.0;
     }
 
-pub copy_asked : (s : State) (t : ℕ) (c : CallValue) → IsFaultlessCopy s t c → CopyAsked c (copy_facts s t c)
-copy_asked s t c f = (
+pub copy_asked : (s : State) (t n : ℕ) (c : CallValue) → IsFaultlessCopy s t c → CopyAsked c (gl_facts_of s t n c)
+copy_asked s t n c f = (
   is_equal (number c 0) GL_TEXTURE_2D f.target,
   (
     not_from_true _ f.internal,
@@ -144,7 +145,7 @@ copy_asked s t c f = (
           not_from_true _ f.border,
           (
             not_from_true _ f.complete,
-            (is_implied (has_alpha (number c 2)) (has_read_alpha s t) f.alpha, tt),
+            (is_implied (has_alpha (number c 2)) (has_read_alpha s t) (is_complete (bound_framebuffer s t)) f.alpha, tt),
           ),
         ),
       ),
@@ -152,32 +153,28 @@ copy_asked s t c f = (
   ),
 )
 
-bound_where : (o : Option BufferValue) → (bound_facts o).is_bound ≡ is_some o
-bound_where None = refl
-bound_where (Some b) = refl
-
-pub data_faultless : (s : State) (n : ℕ) (c : CallValue) → DataAsked c (data_facts s n c) → IsFaultlessData s n c
-data_faultless s n c a = record {
+pub data_faultless : (s : State) (t n : ℕ) (c : CallValue) → DataAsked c (gl_facts_of s t n c) → IsFaultlessData s n c
+data_faultless s t n c a = record {
   target = not-false _ a.0;
   usage = not-false _ a.1.0;
   size = not_below (signed c 1) (pos 0) a.1.1.0;
-  bound = sym (bound_where (buffer_of s n c)) ∙ not-false _ a.1.1.1.0;
+  bound = not-false _ a.1.1.1.0;
 }
 
-pub data_asked : (s : State) (n : ℕ) (c : CallValue) → IsFaultlessData s n c → DataAsked c (data_facts s n c)
-data_asked s n c f = (
+pub data_asked : (s : State) (t n : ℕ) (c : CallValue) → IsFaultlessData s n c → DataAsked c (gl_facts_of s t n c)
+data_asked s t n c f = (
   not_from_true _ f.target,
   (
     not_from_true _ f.usage,
     (
       is_not_below (signed c 1) (pos 0) f.size,
-      (not_from_true _ (bound_where (buffer_of s n c) ∙ f.bound), tt),
+      (not_from_true _ f.bound, tt),
     ),
   ),
 )
 
-pub storage_faultless : (s : State) (n : ℕ) (c : CallValue) → StorageAsked c (storage_facts s n c) → IsFaultlessStorage s n c
-storage_faultless s n c a =
+pub storage_faultless : (s : State) (t n : ℕ) (c : CallValue) → StorageAsked c (gl_facts_of s t n c) → IsFaultlessStorage s n c
+storage_faultless s t n c a =
     let sides = or_parts (is_no_side (signed c 2)) (is_no_side (signed c 3)) a.1.1.0 in
     record {
       target = equal (number c 0) GL_RENDERBUFFER_OES a.0;
@@ -187,8 +184,8 @@ storage_faultless s n c a =
       bound = not-false _ a.1.1.1.0;
     }
 
-pub storage_asked : (s : State) (n : ℕ) (c : CallValue) → IsFaultlessStorage s n c → StorageAsked c (storage_facts s n c)
-storage_asked s n c f = (
+pub storage_asked : (s : State) (t n : ℕ) (c : CallValue) → IsFaultlessStorage s n c → StorageAsked c (gl_facts_of s t n c)
+storage_asked s t n c f = (
   is_equal (number c 0) GL_RENDERBUFFER_OES f.target,
   (
     not_from_true _ f.format,

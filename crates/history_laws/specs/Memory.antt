@@ -16,7 +16,7 @@ use Rattle.call_rules.specs.GlAllowed.{IsSide}
 use Rattle.call_rules.specs.TextureRules.{is_image_format, is_image_type, is_no_level, is_no_level_side}
 use Rattle.egl_model.specs.Buffers.{buffer_of}
 use Rattle.egl_model.specs.Framebuffers.{bound_framebuffer, is_complete}
-use Rattle.egl_model.specs.GlCalls.{has_read_alpha}
+use Rattle.egl_model.specs.GlFacts.{has_read_alpha}
 use Rattle.egl_model.specs.Renderbuffers.{target_renderbuffer}
 use Rattle.egl_model.specs.State.{State}
 

@@ -15,7 +15,8 @@ use Rattle.driver_objects.specs.declared.objects.Object.{Object}
 use Rattle.driver_objects.specs.declared.objects.Object.TheVariants.{Buffer, Context, Storage}
 use Rattle.egl_model.specs.Arguments.{number}
 use Rattle.egl_model.specs.Buffers.{buffer_of, set_data, set_part_of, target_buffer, target_slot, with_data, with_part_of}
-use Rattle.egl_model.specs.GlCalls.{data_facts, gl_refusal}
+use Rattle.egl_model.specs.GlCalls.{gl_refusal}
+use Rattle.egl_model.specs.GlFacts.{gl_facts_of}
 use Rattle.egl_model.specs.Graph.{is_in}
 use Rattle.egl_model.specs.Objects.{as_buffer, buffer_in, change_buffer, with_buffer}
 use Rattle.egl_model.specs.Parts.{put_own, set_image, set_part}
@@ -89,7 +90,7 @@ acts-data_of s t c (Some x) room = by_moves t s (Resize x (with_buffer (with_dat
 
 pub data_fits : (s : State) (t n : ℕ) (c : CallValue) → c.kind ≡ Gl BufferData → gl_refusal s t n BufferData c ≡ None → live_bytes s.objects + number c 1 ≤ s.video
 unfolding gl_refusal
-data_fits s t n c h r = data_room c (data_facts s n c) h r
+data_fits s t n c h r = data_room c (gl_facts_of s t n c) h r
 
 pub acts-data : (s : State) (t n : ℕ) (c : CallValue) → c.kind ≡ Gl BufferData → gl_refusal s t n BufferData c ≡ None → Acts quiet t s (λ a. set_data c (target_buffer a n c) a)
 acts-data s t n c h r = acts_of quiet t s (λ a. target_buffer a n c) (λ o a. set_data c o a) (blind-target_buffer t n c s) (acts-data_of s t c (target_buffer s n c) (data_fits s t n c h r))

@@ -6,7 +6,9 @@ use Rattle.std.proofs.lemmas.List.{get_or-set_other}
 use Rattle.std.proofs.lemmas.Option.{none-some}
 use Rattle.egl_calls.specs.Calls.{CallValue}
 use Rattle.egl_calls.specs.Ranges.{unsigned}
-use Rattle.egl_calls.specs.declared.kinds.GlKind.TheVariants.{DeleteBuffers, DeleteFramebuffers, DeleteRenderbuffers, DeleteTextures}
+use Rattle.egl_calls.specs.declared.kinds.GlKind.{GlKind}
+use Rattle.call_table.specs.Rows.{gl_role}
+use Rattle.call_table.specs.declared.roles.Role.TheVariants.{Deletes}
 use Rattle.driver_objects.specs.Links.{bound_in}
 use Rattle.driver_objects.specs.Targets.{binding_of, slot_of}
 use Rattle.driver_objects.specs.declared.contexts.Context.{Context as ContextObject}
@@ -27,11 +29,11 @@ use Rattle.egl_model.specs.Names.{group_of, object_named, with_name_of}
 use Rattle.egl_model.specs.Objects.{as_context, change_context, change_framebuffer, change_group, context_in, with_context, with_framebuffer, with_group}
 use Rattle.egl_model.specs.Parts.{is_place}
 use Rattle.egl_model.specs.State.{State, object_at}
-use Rattle.egl_model.specs.Step.{Stepped, step}
+use Rattle.egl_model.specs.Step.{step}
 use Rattle.egl_model.specs.Sweep.{sweep, roots}
-use Rattle.model_laws.proofs.NameLaws.{names_at, names_deleted}
+use Rattle.model_laws.proofs.NameLaws.{deletion_done, names_at, names_deleted}
 use Rattle.model_laws.proofs.Places.{same_at_set}
-use Rattle.model_laws.proofs.TextureLaws.{allowed_gl, changed_at, swept_same}
+use Rattle.model_laws.proofs.TextureLaws.{changed_at, swept_same}
 
 -- ---- Other contexts.
 group_context : (f : GroupValue → GroupValue) (o : Option Object) → as_context (with_group f o) ≡ as_context o
@@ -73,17 +75,8 @@ still_there s a m y e h = elim (swept_same (roots a) a.objects m) [
 elsewhere : (k : NameKind) (s : State) (n m : ℕ) (xs : List ℤ) (y : ContextObject) → m ≢ n → context_in (sweep (deleted_names k s n xs)).objects m ≡ Some y → context_in s.objects m ≡ Some y
 elsewhere k s n m xs y ne h = still_there s (deleted_names k s n xs) m y (kept_elsewhere k (group_of s n) n m xs s ne) h
 
-pub textures_stay_elsewhere : (s : State) (t n m : ℕ) (c : CallValue) (y : ContextObject) → IsAllowedGl s t n DeleteTextures c → m ≢ n → context_in (step s t c).state.objects m ≡ Some y → context_in s.objects m ≡ Some y
-textures_stay_elsewhere s t n m c y a ne h = elsewhere textures s n m c.list y ne (subst (λ (z : Stepped). context_in z.state.objects m ≡ Some y) (allowed_gl s t n DeleteTextures c a) h)
-
-pub buffers_stay_elsewhere : (s : State) (t n m : ℕ) (c : CallValue) (y : ContextObject) → IsAllowedGl s t n DeleteBuffers c → m ≢ n → context_in (step s t c).state.objects m ≡ Some y → context_in s.objects m ≡ Some y
-buffers_stay_elsewhere s t n m c y a ne h = elsewhere buffers s n m c.list y ne (subst (λ (z : Stepped). context_in z.state.objects m ≡ Some y) (allowed_gl s t n DeleteBuffers c a) h)
-
-pub renderbuffers_stay_elsewhere : (s : State) (t n m : ℕ) (c : CallValue) (y : ContextObject) → IsAllowedGl s t n DeleteRenderbuffers c → m ≢ n → context_in (step s t c).state.objects m ≡ Some y → context_in s.objects m ≡ Some y
-renderbuffers_stay_elsewhere s t n m c y a ne h = elsewhere renderbuffers s n m c.list y ne (subst (λ (z : Stepped). context_in z.state.objects m ≡ Some y) (allowed_gl s t n DeleteRenderbuffers c a) h)
-
-pub framebuffers_stay_elsewhere : (s : State) (t n m : ℕ) (c : CallValue) (y : ContextObject) → IsAllowedGl s t n DeleteFramebuffers c → m ≢ n → context_in (step s t c).state.objects m ≡ Some y → context_in s.objects m ≡ Some y
-framebuffers_stay_elsewhere s t n m c y a ne h = elsewhere framebuffers s n m c.list y ne (subst (λ (z : Stepped). context_in z.state.objects m ≡ Some y) (allowed_gl s t n DeleteFramebuffers c a) h)
+pub others_stay : (s : State) (t n m : ℕ) (k : GlKind) (names : NameKind) (c : CallValue) (y : ContextObject) → gl_role k ≡ Deletes names → IsAllowedGl s t n k c → m ≢ n → context_in (step s t c).state.objects m ≡ Some y → context_in s.objects m ≡ Some y
+others_stay s t n m k names c y e a ne h = elsewhere names s n m c.list y ne (subst (λ (z : State). context_in z.objects m ≡ Some y) (deletion_done s t n k names c e a) h)
 
 -- ---- The caller's context.
 NotAt : BindTarget → ℕ → ContextObject → Type 0
@@ -196,14 +189,5 @@ swept_unbound k n x a h = elim (swept_same (roots a) a.objects n) [
   | inr same ↦ subst (IsUnbound k x) (sym same) h
 ]
 
-pub texture_is_unbound : (s : State) (t n x : ℕ) (c : CallValue) (v : ℤ) → IsAllowedGl s t n DeleteTextures c → Contains c.list v → object_named s (group_of s n) textures (unsigned v) ≡ Some x → IfSome (context_in (step s t c).state.objects n) (HasUnbound textures x)
-texture_is_unbound s t n x c v a i e = subst (λ (z : Stepped). IfSome (context_in z.state.objects n) (HasUnbound textures x)) (sym (allowed_gl s t n DeleteTextures c a)) (swept_unbound textures n x (deleted_names textures s n c.list) (each_unbound textures (group_of s n) n i.0 x v c.list s i.1 i.2 e))
-
-pub buffer_is_unbound : (s : State) (t n x : ℕ) (c : CallValue) (v : ℤ) → IsAllowedGl s t n DeleteBuffers c → Contains c.list v → object_named s (group_of s n) buffers (unsigned v) ≡ Some x → IfSome (context_in (step s t c).state.objects n) (HasUnbound buffers x)
-buffer_is_unbound s t n x c v a i e = subst (λ (z : Stepped). IfSome (context_in z.state.objects n) (HasUnbound buffers x)) (sym (allowed_gl s t n DeleteBuffers c a)) (swept_unbound buffers n x (deleted_names buffers s n c.list) (each_unbound buffers (group_of s n) n i.0 x v c.list s i.1 i.2 e))
-
-pub renderbuffer_is_unbound : (s : State) (t n x : ℕ) (c : CallValue) (v : ℤ) → IsAllowedGl s t n DeleteRenderbuffers c → Contains c.list v → object_named s (group_of s n) renderbuffers (unsigned v) ≡ Some x → IfSome (context_in (step s t c).state.objects n) (HasUnbound renderbuffers x)
-renderbuffer_is_unbound s t n x c v a i e = subst (λ (z : Stepped). IfSome (context_in z.state.objects n) (HasUnbound renderbuffers x)) (sym (allowed_gl s t n DeleteRenderbuffers c a)) (swept_unbound renderbuffers n x (deleted_names renderbuffers s n c.list) (each_unbound renderbuffers (group_of s n) n i.0 x v c.list s i.1 i.2 e))
-
-pub framebuffer_is_unbound : (s : State) (t n x : ℕ) (c : CallValue) (v : ℤ) → IsAllowedGl s t n DeleteFramebuffers c → Contains c.list v → object_named s (group_of s n) framebuffers (unsigned v) ≡ Some x → IfSome (context_in (step s t c).state.objects n) (HasUnbound framebuffers x)
-framebuffer_is_unbound s t n x c v a i e = subst (λ (z : Stepped). IfSome (context_in z.state.objects n) (HasUnbound framebuffers x)) (sym (allowed_gl s t n DeleteFramebuffers c a)) (swept_unbound framebuffers n x (deleted_names framebuffers s n c.list) (each_unbound framebuffers (group_of s n) n i.0 x v c.list s i.1 i.2 e))
+pub deleted_is_unbound : (s : State) (t n x : ℕ) (k : GlKind) (names : NameKind) (c : CallValue) (v : ℤ) → gl_role k ≡ Deletes names → IsAllowedGl s t n k c → Contains c.list v → object_named s (group_of s n) names (unsigned v) ≡ Some x → IfSome (context_in (step s t c).state.objects n) (HasUnbound names x)
+deleted_is_unbound s t n x k names c v e a i h = subst (λ (z : State). IfSome (context_in z.objects n) (HasUnbound names x)) (sym (deletion_done s t n k names c e a)) (swept_unbound names n x (deleted_names names s n c.list) (each_unbound names (group_of s n) n i.0 x v c.list s i.1 i.2 h))

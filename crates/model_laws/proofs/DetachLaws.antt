@@ -7,7 +7,9 @@ use Rattle.std.proofs.lemmas.List.{get_or-set_other}
 use Rattle.std.proofs.lemmas.Option.{none-some}
 use Rattle.egl_calls.specs.Calls.{CallValue}
 use Rattle.egl_calls.specs.Ranges.{unsigned}
-use Rattle.egl_calls.specs.declared.kinds.GlKind.TheVariants.{DeleteRenderbuffers, DeleteTextures}
+use Rattle.egl_calls.specs.declared.kinds.GlKind.{GlKind}
+use Rattle.call_table.specs.Rows.{gl_role}
+use Rattle.call_table.specs.declared.roles.Role.TheVariants.{Deletes}
 use Rattle.driver_objects.specs.declared.contexts.Context.{Context as ContextObject}
 use Rattle.driver_objects.specs.declared.objects.Object.{Object}
 use Rattle.driver_objects.specs.declared.objects.Object.TheVariants.{Context, Framebuffer, Group}
@@ -27,14 +29,14 @@ use Rattle.egl_model.specs.Names.{group_of, object_named, with_name_of}
 use Rattle.egl_model.specs.Objects.{as_context, as_framebuffer, change_context, change_framebuffer, change_group, framebuffer_in, with_context, with_framebuffer, with_group}
 use Rattle.egl_model.specs.Parts.{is_place}
 use Rattle.egl_model.specs.State.{State, object_at}
-use Rattle.egl_model.specs.Step.{Stepped, step}
+use Rattle.egl_model.specs.Step.{step}
 use Rattle.egl_model.specs.Sweep.{sweep, roots}
-use Rattle.model_laws.specs.Deleted.{HasDetached, IsNamedBy, attached_at}
+use Rattle.model_laws.specs.Deleted.{HasDetached, IsNamedBy, attached_at, is_attachable}
 use Rattle.model_laws.specs.Laws.{IsAllowedGl}
 use Rattle.model_laws.proofs.DeletionLaws.{detached_context, freed_context, no_place, other_name}
-use Rattle.model_laws.proofs.NameLaws.{gone_without, names_at, names_deleted}
+use Rattle.model_laws.proofs.NameLaws.{deletion_done, gone_without, names_at, names_deleted}
 use Rattle.model_laws.proofs.Places.{same_at_set}
-use Rattle.model_laws.proofs.TextureLaws.{allowed_gl, changed_at, swept_same}
+use Rattle.model_laws.proofs.TextureLaws.{changed_at, swept_same}
 
 -- ---- A framebuffer from which an object is detached.
 -- of two framebuffers the second has at a point what the first has, or nothing where the first has this object
@@ -287,16 +289,15 @@ textures_keep = record { each = λ x c. cond_both (is_place x c.bound.texture) _
 renderbuffers_keep : KeepsBound renderbuffers
 renderbuffers_keep = record { each = λ x c. cond_both (is_place x c.bound.renderbuffer) _ c (λ (y : ContextObject). y.bound.framebuffer ≡ c.bound.framebuffer) (λ e. refl) (λ e. refl) }
 
-pub texture_is_detached : (s : State) (t n x b : ℕ) (c : CallValue) → IsAllowedGl s t n DeleteTextures c → IsNamedBy textures s n c x → target_framebuffer s n ≡ Some b → IfSome (framebuffer_in (step s t c).state.objects b) (HasDetached x)
-texture_is_detached s t n x b c a h j = subst (λ (z : Stepped). IfSome (framebuffer_in z.state.objects b) (HasDetached x)) (sym (allowed_gl s t n DeleteTextures c a)) (detached_after textures textures_keep s n x b c h j)
+-- what can be attached isn't a framebuffer, so that the one that is bound stays bound
+attachable_keep : (k : NameKind) → is_attachable k ≡ true → KeepsBound k
+attachable_keep textures a = textures_keep
+attachable_keep renderbuffers a = renderbuffers_keep
+attachable_keep k a = absurd (false≢true a)
 
-pub renderbuffer_is_detached : (s : State) (t n x b : ℕ) (c : CallValue) → IsAllowedGl s t n DeleteRenderbuffers c → IsNamedBy renderbuffers s n c x → target_framebuffer s n ≡ Some b → IfSome (framebuffer_in (step s t c).state.objects b) (HasDetached x)
-renderbuffer_is_detached s t n x b c a h j = subst (λ (z : Stepped). IfSome (framebuffer_in z.state.objects b) (HasDetached x)) (sym (allowed_gl s t n DeleteRenderbuffers c a)) (detached_after renderbuffers renderbuffers_keep s n x b c h j)
+pub deleted_is_detached : (s : State) (t n x b : ℕ) (k : GlKind) (kind : NameKind) (c : CallValue) → gl_role k ≡ Deletes kind → is_attachable kind ≡ true → IsAllowedGl s t n k c → IsNamedBy kind s n c x → target_framebuffer s n ≡ Some b → IfSome (framebuffer_in (step s t c).state.objects b) (HasDetached x)
+deleted_is_detached s t n x b k kind c e d a h j = subst (λ (z : State). IfSome (framebuffer_in z.objects b) (HasDetached x)) (sym (deletion_done s t n k kind c e a)) (detached_after kind (attachable_keep kind d) s n x b c h j)
 
-pub others_than_textures_stay : (s : State) (t n m : ℕ) (p : Point) (f : FramebufferValue) (c : CallValue) → IsAllowedGl s t n DeleteTextures c → (target_framebuffer s n ≡ Some m → (x : ℕ) → IsNamedBy textures s n c x → object_of (attached_at s.objects m p) ≢ Some x) →
+pub others_stay_attached : (s : State) (t n m : ℕ) (k : GlKind) (kind : NameKind) (p : Point) (f : FramebufferValue) (c : CallValue) → gl_role k ≡ Deletes kind → is_attachable kind ≡ true → IsAllowedGl s t n k c → (target_framebuffer s n ≡ Some m → (x : ℕ) → IsNamedBy kind s n c x → object_of (attached_at s.objects m p) ≢ Some x) →
     framebuffer_in (step s t c).state.objects m ≡ Some f → at_point p f ≡ attached_at s.objects m p
-others_than_textures_stay s t n m p f c a h e = kept_after textures textures_keep s n m p f c h (subst (λ (z : Stepped). framebuffer_in z.state.objects m ≡ Some f) (allowed_gl s t n DeleteTextures c a) e)
-
-pub others_than_renderbuffers_stay : (s : State) (t n m : ℕ) (p : Point) (f : FramebufferValue) (c : CallValue) → IsAllowedGl s t n DeleteRenderbuffers c → (target_framebuffer s n ≡ Some m → (x : ℕ) → IsNamedBy renderbuffers s n c x → object_of (attached_at s.objects m p) ≢ Some x) →
-    framebuffer_in (step s t c).state.objects m ≡ Some f → at_point p f ≡ attached_at s.objects m p
-others_than_renderbuffers_stay s t n m p f c a h e = kept_after renderbuffers renderbuffers_keep s n m p f c h (subst (λ (z : Stepped). framebuffer_in z.state.objects m ≡ Some f) (allowed_gl s t n DeleteRenderbuffers c a) e)
+others_stay_attached s t n m k kind p f c e d a h j = kept_after kind (attachable_keep kind d) s n m p f c h (subst (λ (z : State). framebuffer_in z.objects m ≡ Some f) (deletion_done s t n k kind c e a) j)

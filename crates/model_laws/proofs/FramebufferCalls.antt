@@ -9,7 +9,6 @@ use Rattle.driver_objects.specs.Objects.{kind_of}
 use Rattle.driver_objects.specs.declared.objects.Object.{Object}
 use Rattle.driver_objects.specs.declared.objects.Object.TheVariants.{Context, Renderbuffer, Storage, Texture}
 use Rattle.share_group.specs.declared.names.NameKind.{NameKind}
-use Rattle.share_group.specs.declared.names.NameKind.TheVariants.{Renderbuffer as renderbuffers, Texture as textures}
 use Rattle.egl_model.specs.Arguments.{number}
 use Rattle.egl_model.specs.Framebuffers.{attached, attached_as, attachment_of, called_point, given_attachment, target_framebuffer}
 use Rattle.egl_model.specs.Names.{group_of, object_named}
@@ -68,13 +67,7 @@ unfolding change_framebuffer
 acts-attached_to s t point a None g = acts_self t s
 acts-attached_to s t point a (Some b) g = by_quiet_moves t s (Change b (with_framebuffer (with_point point a)) ∷ []) refl (setter-framebuffer (with_point point a), tt) (λ w. (suits-point t (shapes s.objects) s b point a (g w), tt))
 
-acts-attached_named : (s : State) (t n : ℕ) (k : NameKind) (c : CallValue) → Acts quiet t s (λ a. attached (called_point c) (given_attachment k a n c) (target_framebuffer a n) a)
+pub acts-attached_named : (s : State) (t n : ℕ) (k : NameKind) (c : CallValue) → Acts quiet t s (λ a. attached (called_point c) (given_attachment k a n c) (target_framebuffer a n) a)
 acts-attached_named s t n k c = acts_of quiet t s (λ a. given_attachment k a n c) (λ b a. attached (called_point c) b (target_framebuffer a n) a) (blind-given t n k c s)
     (acts_of quiet t s (λ a. target_framebuffer a n) (λ o a. attached (called_point c) (given_attachment k s n c) o a) (blind-target_framebuffer t n s)
     (acts-attached_to s t (called_point c) (given_attachment k s n c) (target_framebuffer s n) (λ w. goes_given s (number c 3) (object_named s (group_of s n) k (number c 3)))))
-
-pub acts-attached_texture : (s : State) (t n : ℕ) (c : CallValue) → Acts quiet t s (λ a. attached (called_point c) (given_attachment textures a n c) (target_framebuffer a n) a)
-acts-attached_texture s t n c = acts-attached_named s t n textures c
-
-pub acts-attached_renderbuffer : (s : State) (t n : ℕ) (c : CallValue) → Acts quiet t s (λ a. attached (called_point c) (given_attachment renderbuffers a n c) (target_framebuffer a n) a)
-acts-attached_renderbuffer s t n c = acts-attached_named s t n renderbuffers c

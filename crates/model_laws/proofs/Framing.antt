@@ -6,11 +6,12 @@ use Rattle.egl_calls.specs.Calls.{CallValue}
 use Rattle.egl_calls.specs.declared.kinds.Kind.{Kind}
 use Rattle.egl_calls.specs.declared.kinds.Kind.TheVariants.{Egl, Gl, Own as OwnCall}
 use Rattle.egl_calls.specs.declared.kinds.GlKind.{GlKind}
-use Rattle.egl_calls.specs.declared.kinds.GlKind.TheVariants.{Clear}
+use Rattle.call_table.specs.Rows.{gl_role}
+use Rattle.call_table.specs.declared.roles.Role.{Role}
+use Rattle.call_table.specs.declared.roles.Role.TheVariants.{Clears}
 use Rattle.egl_calls.specs.declared.errors.EglError.{EglError}
 use Rattle.egl_calls.specs.declared.errors.GlError.{GlError}
 use Rattle.context_state.specs.Kinds.{context_gl_call}
-use Rattle.context_state.specs.declared.kinds.ContextCall.{ContextCall}
 use Rattle.context_state.specs.Parts.{PartValue}
 use Rattle.driver_objects.specs.Storages.{cleared_image}
 use Rattle.driver_objects.specs.declared.objects.Object.{Object}
@@ -86,14 +87,14 @@ either_within : (b : Bool) (x y : Own) → IsWithin y x → IsWithin (cond b y x
 either_within true x y h = h
 either_within false x y h = within_itself x x.error
 
--- a case for each other local call of OpenGL ES
-within-object : (p : Private) (q : PartValue) (c : CallValue) (k : GlKind) → IsWithin (object_locally p q k c).own p.own
-within-object p q c Clear = either_within (clears_colour c) p.own (record p.own { draw = option_map (cleared_image q) p.own.draw }) (record { context = λ i. i; draw = none_still (cleared_image q) p.own.draw; read = λ i. i })
-within-object p q c k = within_itself p.own p.own.error
+-- a case for each role of another local call of OpenGL ES
+within-object : (p : Private) (q : PartValue) (c : CallValue) (r : Role) → IsWithin (object_locally r p q c).own p.own
+within-object p q c Clears = either_within (clears_colour c) p.own (record p.own { draw = option_map (cleared_image q) p.own.draw }) (record { context = λ i. i; draw = none_still (cleared_image q) p.own.draw; read = λ i. i })
+within-object p q c r = within_itself p.own p.own.error
 
-within-by : (o : Option ContextCall) (p : Private) (q : PartValue) (c : CallValue) (k : GlKind) → p.own.context ≡ Some q → IsWithin (locally_by o p q k c).own p.own
+within-by : (o : Option GlKind) (p : Private) (q : PartValue) (c : CallValue) (k : GlKind) → p.own.context ≡ Some q → IsWithin (locally_by o p q k c).own p.own
 within-by (Some own) p q c k h = within-context p.own q _ h
-within-by None p q c k h = within-object p q c k
+within-by None p q c k h = within-object p q c (gl_role k)
 
 within-gl : (p : Private) (q : PartValue) (c : CallValue) (k : GlKind) → p.own.context ≡ Some q → IsWithin (gl_locally p q k c).own p.own
 within-gl p q c k h = within-by (context_gl_call k) p q c k h
@@ -104,7 +105,7 @@ within-rules p q None f h w = w
 
 within-with : (p : Private) (o : Option PartValue) (c : CallValue) (k : GlKind) → p.own.context ≡ o → IsWithin (gl_with p o k c).own p.own
 within-with p None c k h = within_itself p.own p.own.error
-within-with p (Some q) c k h = within-rules p q (gl_rules.gl_refusal c (facts_locally p k)) (gl_locally p q k c) h (within-gl p q c k h)
+within-with p (Some q) c k h = within-rules p q (gl_rules.gl_refusal c (facts_locally p)) (gl_locally p q k c) h (within-gl p q c k h)
 
 within-egl : (p : Private) (o : Option EglError) (v : _) → IsWithin (egl_locally p o v).own p.own
 within-egl p (Some e) v = within_itself p.own e

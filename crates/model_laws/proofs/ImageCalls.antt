@@ -6,10 +6,9 @@ use Rattle.std.proofs.Math.Path.{fun_ext}
 use Rattle.std.proofs.lemmas.Bool.{cond_both, eq-eqb}
 use Rattle.std.proofs.lemmas.Option.{none-some, same_Some}
 use Rattle.egl_calls.specs.Calls.{CallValue}
-use Rattle.egl_calls.specs.declared.places.TheConstants.{CLIENT_BUFFER, DISPLAY, NAMED, TARGET_IMAGE}
-use Rattle.call_rules.specs.GlRules.{no_gl_facts}
+use Rattle.egl_calls.specs.declared.places.TheConstants.{CLIENT_BUFFER, DISPLAY, TARGET_IMAGE}
 use Rattle.display_table.specs.declared.handles.Handle.{Handle}
-use Rattle.display_table.specs.declared.handles.HandleKind.TheVariants.{Context as a_context, Image as an_image}
+use Rattle.display_table.specs.declared.handles.HandleKind.TheVariants.{Image as an_image}
 use Rattle.driver_objects.specs.declared.kinds.ObjectKind.TheVariants.{Image as an_image_kind, Storage as a_storage}
 use Rattle.driver_objects.specs.declared.objects.Object.{Object}
 use Rattle.driver_objects.specs.declared.objects.Object.TheVariants.{Context, Image, Renderbuffer, Storage, Texture}
@@ -20,10 +19,9 @@ use Rattle.texture_objects.specs.Levels.{is_complete}
 use Rattle.texture_objects.specs.declared.levels.Shape.{Shape as LevelShape}
 use Rattle.egl_model.specs.Arguments.{number}
 use Rattle.egl_model.specs.Draws.{level_shapes}
-use Rattle.egl_model.specs.GlCalls.{renderbuffer_image_facts, target_image_facts}
 use Rattle.egl_model.specs.Graph.{is_in}
-use Rattle.egl_model.specs.Handles.{handle_at, valid, with_handle}
-use Rattle.egl_model.specs.Images.{above_base, add_image, asked_level, created_image, has_pixels, image_kind, image_storage, is_incomplete_in, is_renderable, is_sibling, is_source_in, level_pixels, levels_dropped, new_image_facts, renderbuffer_of_image, source_kind, source_object, source_storage, target_handle, target_image, texture_of_image, with_pixels_in}
+use Rattle.egl_model.specs.Handles.{valid, with_handle}
+use Rattle.egl_model.specs.Images.{above_base, add_image, asked_level, created_image, has_pixels, image_kind, image_storage, is_incomplete_in, is_renderable, is_sibling, is_source_in, level_pixels, levels_dropped, renderbuffer_of_image, source_context, source_kind, source_object, source_storage, target_handle, target_image, texture_of_image, with_pixels_in}
 use Rattle.egl_model.specs.Names.{group_of, object_named}
 use Rattle.egl_model.specs.Objects.{as_egl_image, as_storage, change_renderbuffer, egl_image_in, storage_in, with_renderbuffer}
 use Rattle.egl_model.specs.Parts.{own_objects, put_own}
@@ -67,8 +65,8 @@ blind-at g b t (Some n) s w v x ne = blind-object g b t n s w v x ne
 blind-source : {A : Type 0} (g : Option Object → A) → IsBlind g → (t : ℕ) (c : CallValue) (s : State) → Blind t s (λ a. g (source_object a c))
 unfolding source_number
 blind-source g b t c s w v x ne =
-    ap (λ o. g (option_and_then (object_at (put_own s v x)) o)) (blind-number t c (handle_at s c NAMED a_context) s w v x ne)
-    ∙ blind-at g b t (source_number s c (handle_at s c NAMED a_context)) s w v x ne
+    ap (λ o. g (option_and_then (object_at (put_own s v x)) o)) (blind-number t c (source_context s c) s w v x ne)
+    ∙ blind-at g b t (source_number s c (source_context s c)) s w v x ne
 
 pixels-blind : IsBlind (λ o. has_pixels (as_storage o))
 pixels-blind (Some (Context c)) = refl
@@ -103,7 +101,7 @@ blind-is_source_in t (Some (Texture y)) s w v x ne = ap (list_any is_some) (blin
 blind-is_source_in t (Some (Renderbuffer r)) s w v x ne = ap (λ (o : Option ℕ). is_some o) (blind-with_pixels t r.storage s w v x ne)
 blind-is_source_in t o s w v x ne = refl
 
-blind-is_source : (t : ℕ) (c : CallValue) (s : State) → Blind t s (λ a. is_source_in a.objects (source_object a c))
+pub blind-is_source : (t : ℕ) (c : CallValue) (s : State) → Blind t s (λ a. is_source_in a.objects (source_object a c))
 blind-is_source t c s w v x ne =
     blind-source (is_source_in (put_own s v x).objects) (source-blind (put_own s v x).objects) t c s w v x ne
     ∙ blind-is_source_in t (source_object s c) s w v x ne
@@ -117,7 +115,7 @@ blind-is_incomplete_in : (t : ℕ) (o : Option Object) (s : State) → Blind t s
 blind-is_incomplete_in t (Some (Texture y)) s w v x ne = ap (λ (zs : List (Option LevelShape)). list_any is_some (above_base zs) && not (is_complete y.texture zs)) (blind-level_shapes t y s w v x ne)
 blind-is_incomplete_in t o s w v x ne = refl
 
-blind-is_incomplete : (t : ℕ) (c : CallValue) (s : State) → Blind t s (λ a. is_incomplete_in a.objects (source_object a c))
+pub blind-is_incomplete : (t : ℕ) (c : CallValue) (s : State) → Blind t s (λ a. is_incomplete_in a.objects (source_object a c))
 blind-is_incomplete t c s w v x ne =
     blind-source (is_incomplete_in (put_own s v x).objects) (incomplete-blind (put_own s v x).objects) t c s w v x ne
     ∙ blind-is_incomplete_in t (source_object s c) s w v x ne
@@ -133,17 +131,11 @@ blind-is_sibling : (t : ℕ) (o : Option ℕ) (s : State) → Blind t s (λ a. i
 blind-is_sibling t None s w v x ne = refl
 blind-is_sibling t (Some k) s w v x ne = ap (λ r. not (may_create r)) (blind-references t k s w v x ne)
 
-blind-is_source_sibling : (t : ℕ) (c : CallValue) (s : State) → Blind t s (λ a. is_sibling a (source_storage a c))
+pub blind-is_source_sibling : (t : ℕ) (c : CallValue) (s : State) → Blind t s (λ a. is_sibling a (source_storage a c))
 blind-is_source_sibling t c s w v x ne = ap (is_sibling (put_own s v x)) (blind-source_storage t c s w v x ne) ∙ blind-is_sibling t (source_storage s c) s w v x ne
 
-pub blind-new_image : (t : ℕ) (c : CallValue) (s : State) → Blind t s (λ a. new_image_facts a c)
-blind-new_image t c s w v x ne =
-    let a = blind-is_source t c s w v x ne in let b = blind-is_incomplete t c s w v x ne in
-    let d = ap (λ (o : Option ℕ). is_some o) (blind-source_storage t c s w v x ne) in let e = blind-is_source_sibling t c s w v x ne in
-    cc
-
 -- ---- What the calls look at that take over an image's pixels.
-blind-target_handle : (t n : ℕ) (c : CallValue) (s : State) → Blind t s (λ a. target_handle a n c)
+pub blind-target_handle : (t n : ℕ) (c : CallValue) (s : State) → Blind t s (λ a. target_handle a n c)
 blind-target_handle t n c s w v x ne = ap (λ d. valid s d (number c TARGET_IMAGE) an_image) (blind-display t (Some n) s w v x ne)
 
 image-blind : IsBlind as_egl_image
@@ -156,9 +148,6 @@ blind-target_image t n c s w v x ne =
     ap (λ o. option_and_then (λ (h : Handle). egl_image_in (put_own s v x).objects h.object) o) (blind-target_handle t n c s w v x ne)
     ∙ blind-of as_egl_image image-blind t (target_handle s n c) s w v x ne
 
-pub blind-target_facts : (t n : ℕ) (c : CallValue) (s : State) → Blind t s (λ a. target_image_facts a n c)
-blind-target_facts t n c s w v x ne = ap (λ (o : Option Handle). record no_gl_facts { is_image = is_some o }) (blind-target_handle t n c s w v x ne)
-
 renderable-blind : IsBlind (λ o. is_renderable (as_storage o))
 renderable-blind (Some (Context c)) = refl
 renderable-blind (Some (Storage v)) = refl
@@ -168,16 +157,10 @@ blind-renderable_image : (t : ℕ) (o : Option EglImage) (s : State) → Blind t
 blind-renderable_image t None s w v x ne = refl
 blind-renderable_image t (Some i) s w v x ne = blind-object (λ o. is_renderable (as_storage o)) renderable-blind t i.storage s w v x ne
 
-blind-renderable : (t n : ℕ) (c : CallValue) (s : State) → Blind t s (λ a. is_renderable (image_storage a.objects (target_image a n c)))
+pub blind-renderable : (t n : ℕ) (c : CallValue) (s : State) → Blind t s (λ a. is_renderable (image_storage a.objects (target_image a n c)))
 blind-renderable t n c s w v x ne =
     ap (λ o. is_renderable (image_storage (put_own s v x).objects o)) (blind-target_image t n c s w v x ne)
     ∙ blind-renderable_image t (target_image s n c) s w v x ne
-
-pub blind-renderbuffer_target_facts : (t n : ℕ) (c : CallValue) (s : State) → Blind t s (λ a. renderbuffer_image_facts a n c)
-blind-renderbuffer_target_facts t n c s w v x ne =
-    let a = ap (λ (o : Option Handle). is_some o) (blind-target_handle t n c s w v x ne) in let b = ap (λ (o : Option ℕ). is_some o) (blind-target_renderbuffer t n s w v x ne) in
-    let d = blind-renderable t n c s w v x ne in
-    cc
 
 -- ---- A storage that is no surface's.
 record IsShareable (sh : List (Option Shape)) (k : ℕ) : Type 0 where
@@ -211,7 +194,7 @@ object_pixels s l (Some n) k h w = let a = among_pixels k l (object_at s n) h in
 
 source_pixels : (s : State) (c : CallValue) (k : ℕ) → source_storage s c ≡ Some k → IsWhole (shapes s.objects) s → IsShareable (shapes s.objects) k
 unfolding source_number
-source_pixels s c k h w = object_pixels s (asked_level c) (source_number s c (handle_at s c NAMED a_context)) k (named_pixels s.objects (level_pixels (asked_level c) (source_object s c)) k h) w
+source_pixels s c k h w = object_pixels s (asked_level c) (source_number s c (source_context s c)) k (named_pixels s.objects (level_pixels (asked_level c) (source_object s c)) k h) w
 
 image_of : ℕ → Option Object
 image_of k = Some (Image (record { storage = k }))

@@ -1,5 +1,5 @@
 -- A draw that comes late changes only what is out.
-use Rattle.std.proofs.Common.{◌≡◌, ◌≢◌, ◌==◌, ◌&&◌, ℕ, pos, Bool, true, false, cond, not, List, [], ◌∷◌, inl, inr, refl, sym, ap, ◌∙◌, Option, None, Some, is_some}
+use Rattle.std.proofs.Common.{◌≡◌, ◌≢◌, ◌==◌, ◌&&◌, ◌||◌, ℕ, pos, Bool, true, false, cond, not, List, [], ◌∷◌, inl, inr, refl, sym, ap, ◌∙◌, Option, None, Some, is_some}
 use Rattle.std.specs.Option.{option_map}
 use Rattle.std.proofs.lemmas.Bool.{and_parts, cases_eq}
 use Rattle.std.proofs.lemmas.Option.{none-some}
@@ -12,15 +12,19 @@ use Rattle.egl_calls.specs.declared.errors.Outcome.TheVariants.{Done, Gl as Refu
 use Rattle.egl_calls.specs.declared.kinds.Kind.{Kind}
 use Rattle.egl_calls.specs.declared.kinds.Kind.TheVariants.{Gl}
 use Rattle.egl_calls.specs.declared.kinds.GlKind.{GlKind}
-use Rattle.egl_calls.specs.declared.kinds.GlKind.TheVariants.{DrawTexi, DrawTexx}
-use Rattle.call_rules.specs.GlRules as gl_rules
+use Rattle.egl_calls.specs.declared.kinds.GlKind.TheVariants.{GetError as GlGetError}
+use Rattle.call_table.specs.Roles.{draws, takes_pixels}
+use Rattle.call_table.specs.Rows.{gl_role}
+use Rattle.call_table.specs.declared.roles.Role.{Role}
+use Rattle.call_table.specs.declared.roles.Role.TheVariants.{Draws}
 use Rattle.context_state.specs.Parts.{PartValue, noted}
 use Rattle.driver_objects.specs.Storages.{drawn_image, drawn_storage}
 use Rattle.egl_model.specs.Currents.{current_context, draw_storage, part_of_context}
 use Rattle.egl_model.specs.Draws.{draw_into, drawn, drawn_rect, sampler}
 use Rattle.egl_model.specs.Effects.{valued}
 use Rattle.egl_model.specs.Framebuffers.{BoundFramebuffer, bound_framebuffer, is_complete}
-use Rattle.egl_model.specs.GlCalls.{framebuffer_facts, gl_refusal}
+use Rattle.egl_model.specs.GlCalls.{gl_effect, gl_refusal}
+use Rattle.egl_model.specs.GlFacts.{gl_facts_of}
 use Rattle.egl_model.specs.Parts.{Kept, Own, Private, at_place, kept_of, own_of, part_in, part_of, own_objects, put_at, put_own}
 use Rattle.egl_model.specs.State.{State, record_of}
 use Rattle.egl_model.specs.Step.{Stepped, after_gl_rules, bare, gl_step, gl_step_on, note_error, step, step_by, step_in}
@@ -28,14 +32,14 @@ use Rattle.egl_model.specs.Sweep.{sweep}
 use Rattle.model_laws.specs.Frame.{IsNone, IsReady}
 use Rattle.model_laws.specs.Hidden.{hide, nothing}
 use Rattle.model_laws.specs.Late.{IsOut, drawing, drawn_own, drawn_part, drawn_state, draws_to_surface, is_draw, is_late, late_rect, late_refusal, late_sampler, late_step, sampled_by, texture_sampler}
-use Rattle.model_laws.specs.Local.{is_unbound}
+use Rattle.model_laws.specs.Local.{facts_locally, is_unbound}
 use Rattle.model_laws.specs.Shapes.{shapes}
 use Rattle.model_laws.specs.Sound.{IsWhole}
 use Rattle.model_laws.proofs.Blinds.{blind-current}
 use Rattle.model_laws.proofs.DrawCalls.{blind-sampler}
 use Rattle.model_laws.proofs.Framing.{has_own, kept-put, own-put}
 use Rattle.model_laws.proofs.Keeps.{Blind}
-use Rattle.model_laws.proofs.Locals.{bound-local, complete-local, image_as_put, nothing_to_draw_on, part_as_put, sweep_clean}
+use Rattle.model_laws.proofs.Locals.{bound-local, complete-local, image_as_put, nothing_to_draw_on, part_as_put, rows_alike, sweep_clean, refusal_by_rows}
 use Rattle.model_laws.proofs.OtherParts.{HasNoMore, no_more}
 use Rattle.model_laws.proofs.Puts.{put-put}
 use Rattle.model_laws.proofs.PutWhole.{puts_apart, whole-put}
@@ -137,12 +141,26 @@ by_refusal s t n q k c None clean h i u =
 not_drawn : {A : Type 0} → false ≡ true → A
 not_drawn h = absurd (let e : false ≡ true = h in cc)
 
+-- the effect of a draw. A first call has a clause of its own, and the last clause goes by the cases that are left
+abbrev DrawnBy : Role → State → ℕ → ℕ → GlKind → CallValue → Type 0
+DrawnBy Draws s t n k c = gl_effect s t n k c ≡ valued (pos 0) (drawn s t n k c)
+DrawnBy r s t n k c = true ≡ true
+
+drawn_by : (s : State) (t n : ℕ) (k : GlKind) (c : CallValue) → DrawnBy (gl_role k) s t n k c
+drawn_by s t n GlGetError c = refl
+drawn_by s t n k c = refl
+
+drawn_effect : (r : Role) (s : State) (t n : ℕ) (k : GlKind) (c : CallValue) → draws r ≡ true → DrawnBy r s t n k c → gl_effect s t n k c ≡ valued (pos 0) (drawn s t n k c)
+drawn_effect Draws s t n k c d e = e
+drawn_effect r s t n k c d e = not_drawn d
+
 by_gl_kind : (s : State) (t n : ℕ) (q : PartValue) (k : GlKind) (c : CallValue) → sweep s ≡ s → current_context s t ≡ Some n → part_of_context s n ≡ Some q → is_unbound (Some q) ≡ true → is_draw (Gl k) ≡ true →
     gl_step s t k c ≡ step_with s t (drawn_rect k c) (Some q) (Some n) (gl_refusal s t n k c)
 unfolding gl_step
-by_gl_kind s t n q DrawTexi c clean h i u d = ap (λ o. gl_step_on s t o DrawTexi c) h ∙ by_refusal s t n q DrawTexi c (gl_refusal s t n DrawTexi c) clean h i u
-by_gl_kind s t n q DrawTexx c clean h i u d = ap (λ o. gl_step_on s t o DrawTexx c) h ∙ by_refusal s t n q DrawTexx c (gl_refusal s t n DrawTexx c) clean h i u
-by_gl_kind s t n q k c clean h i u d = not_drawn d
+by_gl_kind s t n q k c clean h i u d =
+    ap (λ o. gl_step_on s t o k c) h
+    ∙ ap (after_gl_rules s n (gl_refusal s t n k c)) (drawn_effect (gl_role k) s t n k c d (drawn_by s t n k c))
+    ∙ by_refusal s t n q k c (gl_refusal s t n k c) clean h i u
 
 -- what the part says of the context and of what it has bound
 with_part : (x : Option PartValue) → draws_to_surface x ≡ true → is_some x ≡ true
@@ -210,25 +228,24 @@ late_by_refusal s t n k c clean kind h late =
     by_part (Some q) e d u = by_gl_kind s t n q k c clean h e (unbound q u) d
 
 -- in a sound one the part tells what refuses it
-refusal_by_part : (s : State) (t n : ℕ) (k : GlKind) (c : CallValue) → IsReady s t → current_context s t ≡ Some n → is_draw (Gl k) ≡ true → draws_to_surface (own_of s t).context ≡ true → gl_refusal s t n k c ≡ late_refusal (part_of s t) c
-unfolding gl_refusal
-refusal_by_part s t n k c r h d u = by k d
+refusal_by_part : (s : State) (t n : ℕ) (k : GlKind) (c : CallValue) → c.kind ≡ Gl k → IsReady s t → current_context s t ≡ Some n → is_draw (Gl k) ≡ true → draws_to_surface (own_of s t).context ≡ true → gl_refusal s t n k c ≡ late_refusal (part_of s t) c
+refusal_by_part s t n k c e r h d u = refusal_by_rows s t n c k (facts_locally (part_of s t)) e
+    (rows_alike k c (gl_facts_of s t n c) (facts_locally (part_of s t)) (or_second (takes_pixels (gl_role k)) (draws (gl_role k)) d) (complete (own_of s t).context (sym (own_context s t n h)) u))
   where
     complete : (x : Option PartValue) → part_of_context s n ≡ x → draws_to_surface x ≡ true → is_complete (bound_framebuffer s t) ≡ is_some (own_of s t).draw
     complete None e u = not_drawn u
     complete (Some q) e u = complete-local s t n q (has_own s t r) h e (unbound q u)
 
-    by : (k : GlKind) → is_draw (Gl k) ≡ true → gl_refusal s t n k c ≡ late_refusal (part_of s t) c
-    by DrawTexi d = ap (λ z. gl_rules.gl_refusal c (framebuffer_facts z)) (complete (own_of s t).context (sym (own_context s t n h)) u)
-    by DrawTexx d = ap (λ z. gl_rules.gl_refusal c (framebuffer_facts z)) (complete (own_of s t).context (sym (own_context s t n h)) u)
-    by k d = not_drawn d
+    or_second : (a b : Bool) → b ≡ true → (a || b) ≡ true
+    or_second true b f = refl
+    or_second false b f = f
 
 pub late_as_step : (s : State) (t : ℕ) (c : CallValue) → IsReady s t → is_late (part_of s t) c ≡ true → step s t c ≡ late_step s t c (late_refusal (part_of s t) c)
 late_as_step s t c r late = let l = late_kind s t c late in by_current (current_context s t) refl c.kind refl l.draw l.surface
   where
     by_current : (o : Option ℕ) → current_context s t ≡ o → (k : Kind) → c.kind ≡ k → is_draw k ≡ true → draws_to_surface (own_of s t).context ≡ true → step s t c ≡ late_step s t c (late_refusal (part_of s t) c)
     by_current None h k e d u = not_drawn (ap (λ (o : Option ℕ). is_some o) (sym h) ∙ sym (has_own s t r).part ∙ with_part (own_of s t).context u)
-    by_current (Some n) h (Gl k) e d u = late_by_refusal s t n k c (sweep_clean s r.sound.litter) e h late ∙ ap (late_step s t c) (refusal_by_part s t n k c r h d u)
+    by_current (Some n) h (Gl k) e d u = late_by_refusal s t n k c (sweep_clean s r.sound.litter) e h late ∙ ap (late_step s t c) (refusal_by_part s t n k c e r h d u)
     by_current (Some n) h k e d u = not_drawn d
 
 -- ---- The same in a state from which other parts are out.

@@ -2,7 +2,7 @@
 use Rattle.std.proofs.Common.{◌≡◌, ℕ, ℤ, pos, Bool, true, false, cond, ◌||◌, ◌&&◌, List, [], refl, sym, ap, ◌∙◌, get_or, set, Option, None, Some, is_some}
 use Rattle.std.specs.Prelude.{◌==◌, not, unwrap_or}
 use Rattle.std.specs.Option.{option_and_then, option_map, option_map_or}
-use Rattle.std.proofs.lemmas.Bool.{eqb-true}
+use Rattle.std.proofs.lemmas.Bool.{and_parts, eqb-true}
 use Rattle.std.proofs.lemmas.List.{ext_get_or, set-get_or}
 use Rattle.egl_calls.specs.Calls.{CallValue}
 use Rattle.egl_calls.specs.declared.kinds.Kind.{Kind}
@@ -10,13 +10,16 @@ use Rattle.egl_calls.specs.declared.kinds.Kind.TheVariants.{Egl, Gl, Own as OwnC
 use Rattle.egl_calls.specs.declared.kinds.EglKind.{EglKind}
 use Rattle.egl_calls.specs.declared.kinds.EglKind.TheVariants.{GetError as EglGetError}
 use Rattle.egl_calls.specs.declared.kinds.GlKind.{GlKind}
-use Rattle.egl_calls.specs.declared.kinds.GlKind.TheVariants.{Clear, ReadPixels}
+use Rattle.egl_calls.specs.declared.kinds.GlKind.TheVariants.{GetError as GlGetError}
 use Rattle.egl_calls.specs.declared.errors.EglError.{EglError}
 use Rattle.egl_calls.specs.declared.errors.EglError.TheVariants.{Success}
 use Rattle.egl_calls.specs.declared.errors.GlError.{GlError}
+use Rattle.call_table.specs.Roles.{draws, takes_pixels}
+use Rattle.call_table.specs.Rows.{gl_role, gl_rules as table_rules}
+use Rattle.call_table.specs.declared.roles.Role.{Role}
+use Rattle.call_table.specs.declared.roles.Role.TheVariants.{Clears, Draws, ReadsPixels}
 use Rattle.context_state.specs.Parts.{PartValue, noted}
 use Rattle.context_state.specs.Kinds.{context_gl_call}
-use Rattle.context_state.specs.declared.kinds.ContextCall.{ContextCall}
 use Rattle.context_state.specs.Calls.{apply}
 use Rattle.pixel_rows.specs.Images.{ImageValue}
 use Rattle.pixel_rows.specs.Transfers.{row_bytes}
@@ -34,8 +37,10 @@ use Rattle.egl_names.specs.declared.codes.TheConstants.{GL_FRAMEBUFFER_COMPLETE_
 use Rattle.egl_model.specs.Drawing.{clear_storage, clears_colour, read_form, read_pixels, read_rect, rows_of}
 use Rattle.egl_model.specs.Sweep.{is_reached, roots, swept, sweep}
 use Rattle.model_laws.specs.Laws.{HasNoLitter}
-use Rattle.egl_model.specs.EglCalls.{egl_facts, egl_refusal, egl_effect}
-use Rattle.egl_model.specs.GlCalls.{gl_facts, gl_refusal, framebuffer_facts, effect_by, gl_effect, local_value, object_effect}
+use Rattle.egl_model.specs.EglCalls.{egl_refusal, egl_effect}
+use Rattle.egl_model.specs.Facts.{facts_of}
+use Rattle.egl_model.specs.GlFacts.{gl_facts_of}
+use Rattle.egl_model.specs.GlCalls.{gl_refusal, effect_by, gl_effect, local_value, role_effect}
 use Rattle.egl_model.specs.Effects.{Effect, valued}
 use Rattle.egl_calls.specs.declared.errors.Outcome.TheVariants.{InWait}
 use Rattle.egl_model.specs.Waits.{is_signalled, is_wait_end}
@@ -50,6 +55,9 @@ use Rattle.model_laws.proofs.PutMoves.{sweep-put}
 use Rattle.model_laws.proofs.StepPut.{answered}
 use Rattle.model_laws.specs.Sound.{IsSound}
 use Rattle.call_rules.specs.GlRules as gl_rules
+use Rattle.call_rules.specs.GlRules.{gl_holds, no_gl_facts, rows_by, ruled}
+use Rattle.call_rules.specs.declared.gl_facts.GlFacts.{GlFacts}
+use Rattle.refusal_rows.specs.Rows.{first_error}
 
 -- ---- A state without litter is swept.
 kept_all : (b : Bool) (o : Option Object) → (is_some o ≡ true → b ≡ true) → cond b o None ≡ o
@@ -135,9 +143,17 @@ not_local : {A : Type 0} → false ≡ true → A
 not_local h = absurd (let e : false ≡ true = h in cc)
 
 -- a local call of EGL, and no other one
-local_facts : (s : State) (t : ℕ) (c : CallValue) (k : EglKind) → is_local_egl k ≡ true → egl_facts s t k c ≡ no_facts
-local_facts s t c EglGetError h = refl
-local_facts s t c k h = cc
+local_rows : (s : State) (t : ℕ) (c : CallValue) (k : EglKind) → is_local_egl k ≡ true → rules.egl_rows k c (facts_of s t c) ≡ rules.egl_rows k c no_facts
+local_rows s t c EglGetError h = refl
+local_rows s t c k h = cc
+
+-- its rows ask for no fact
+local_refused : (s : State) (t : ℕ) (c : CallValue) (k : EglKind) → c.kind ≡ Egl k → is_local_egl k ≡ true → rules.egl_refusal c (facts_of s t c) ≡ local_refusal c
+unfolding rules.egl_refusal
+local_refused s t c k e h =
+    ap (λ (kind : Kind). first_error (rules.egl_rows_by kind c (facts_of s t c))) e
+    ∙ ap first_error (local_rows s t c k h)
+    ∙ ap (λ (kind : Kind). first_error (rules.egl_rows_by kind c no_facts)) (sym e)
 
 egl_effect-local : (s : State) (t : ℕ) (c : CallValue) (k : EglKind) → is_local_egl k ≡ true → egl_effect s t k c ≡ valued (egl_value (part_of s t) k c) s
 egl_effect-local s t c EglGetError h = refl
@@ -147,10 +163,10 @@ by_egl_refusal : (s : State) (t : ℕ) (v : ℤ) (o : Option EglError) → IsSou
 by_egl_refusal s t v (Some e) l = answered _ _ _ (error_as_put s t e)
 by_egl_refusal s t v None l = answered _ _ _ (ap sweep (error_as_put s t Success) ∙ put_swept s t (record (own_of s t) { error = Success }) l)
 
-egl_step-local : (s : State) (t : ℕ) (c : CallValue) (k : EglKind) → IsSound s → is_local_egl k ≡ true → egl_step s t k c ≡ as_step s t (egl_locally (part_of s t) (local_refusal c) (egl_value (part_of s t) k c))
+egl_step-local : (s : State) (t : ℕ) (c : CallValue) (k : EglKind) → c.kind ≡ Egl k → IsSound s → is_local_egl k ≡ true → egl_step s t k c ≡ as_step s t (egl_locally (part_of s t) (local_refusal c) (egl_value (part_of s t) k c))
 unfolding egl_step egl_refusal
-egl_step-local s t c k l h =
-    ap (λ f. after_egl_rules s t (rules.egl_refusal c f) (egl_effect s t k c)) (local_facts s t c k h)
+egl_step-local s t c k e l h =
+    ap (λ r. after_egl_rules s t r (egl_effect s t k c)) (local_refused s t c k e h)
     ∙ ap (after_egl_rules s t (local_refusal c)) (egl_effect-local s t c k h)
     ∙ by_egl_refusal s t (egl_value (part_of s t) k c) (local_refusal c) l
 
@@ -212,23 +228,23 @@ read_pixels-local s t n q c h e u =
     ∙ rows_there s.objects c q.pack_alignment (read_storage s t)
     ∙ ap (λ i. option_map_or (λ i. row_bytes i (read_rect c) (read_form c) q.pack_alignment) i []) (image_read s.objects (draw_storage s t) (read_storage s t) (are_same (draw_storage s t) (read_storage s t)) refl)
 
--- a case for each other local call of OpenGL ES
-object_effect-local : (s : State) (t n : ℕ) (q : PartValue) (c : CallValue) (k : GlKind) → current_context s t ≡ Some n → part_of_context s n ≡ Some q → (is_local_unbound k && is_unbound (Some q)) ≡ true →
-    object_effect s t n k c ≡ as_effect s t (object_locally (part_of s t) q k c)
-object_effect-local s t n q c Clear h e m = ap (valued (pos 0))
+-- a case for each role of another local call of OpenGL ES
+object_effect-local : (r : Role) (s : State) (t n : ℕ) (q : PartValue) (c : CallValue) (k : GlKind) → current_context s t ≡ Some n → part_of_context s n ≡ Some q → (takes_pixels r && is_unbound (Some q)) ≡ true →
+    role_effect r s t n k c ≡ as_effect s t (object_locally r (part_of s t) q c)
+object_effect-local Clears s t n q c k h e m = ap (valued (pos 0))
     (ap (λ (b : BoundFramebuffer). cond (clears_colour c) (clear_storage (part_of_context s n) b.draw s) s) (bound-local s t n q h e m)
     ∙ ap (λ o. cond (clears_colour c) (clear_storage o (draw_storage s t) s) s) e
     ∙ either_put s t (clears_colour c) (clear_storage (Some q) (draw_storage s t) s) (record (own_of s t) { draw = option_map (cleared_image q) (own_of s t).draw }) (cleared-local s t q (draw_storage s t) refl))
-object_effect-local s t n q c ReadPixels h e m = read_effect _ _ _ _ (read_pixels-local s t n q c h e m) (sym (put-own_of s t))
+object_effect-local ReadsPixels s t n q c k h e m = read_effect _ _ _ _ (read_pixels-local s t n q c h e m) (sym (put-own_of s t))
   where
     read_effect : (b d : List ℕ) (x y : State) → b ≡ d → x ≡ y → reads b x ≡ reads d y
     read_effect b d x y e f = ap (λ z. reads z x) e ∙ ap (reads d) f
-object_effect-local s t n q c k h e m = not_local m
+object_effect-local r s t n q c k h e m = not_local m
 
-effect_by-local : (o : Option ContextCall) (s : State) (t n : ℕ) (q : PartValue) (c : CallValue) (k : GlKind) → current_context s t ≡ Some n → part_of_context s n ≡ Some q → (is_some o || (is_local_unbound k && is_unbound (Some q))) ≡ true →
+effect_by-local : (o : Option GlKind) (s : State) (t n : ℕ) (q : PartValue) (c : CallValue) (k : GlKind) → current_context s t ≡ Some n → part_of_context s n ≡ Some q → (is_some o || (is_local_unbound k && is_unbound (Some q))) ≡ true →
     effect_by o s t n k c ≡ as_effect s t (locally_by o (part_of s t) q k c)
 effect_by-local (Some own) s t n q c k h e m = same_valued _ _ _ _ (ap (λ x. local_value x c) e) (part_as_put s t n (λ p. (apply c p).part) q h e)
-effect_by-local None s t n q c k h e m = object_effect-local s t n q c k h e m
+effect_by-local None s t n q c k h e m = object_effect-local (gl_role k) s t n q c k h e m
 
 gl_effect-local : (s : State) (t n : ℕ) (q : PartValue) (c : CallValue) (k : GlKind) → current_context s t ≡ Some n → part_of_context s n ≡ Some q → (is_local_gl k || (is_local_unbound k && is_unbound (Some q))) ≡ true →
     gl_effect s t n k c ≡ as_effect s t (gl_locally (part_of s t) q k c)
@@ -248,37 +264,83 @@ pub record HasOwn (s : State) (t : ℕ) : Type 0 where
 pub complete-local : (s : State) (t n : ℕ) (q : PartValue) → HasOwn s t → current_context s t ≡ Some n → part_of_context s n ≡ Some q → is_unbound (Some q) ≡ true → is_complete (bound_framebuffer s t) ≡ is_some (own_of s t).draw
 complete-local s t n q o h e u = ap is_complete (bound-local s t n q h e u) ∙ window_complete (draw_storage s t) ∙ sym o.image
 
--- a call whose facts look at more than what is bound isn't local
-local_gl_facts : (s : State) (t n : ℕ) (q : PartValue) (c : CallValue) (k : GlKind) → HasOwn s t → current_context s t ≡ Some n → part_of_context s n ≡ Some q → (is_local_gl k || (is_local_unbound k && is_unbound (Some q))) ≡ true → gl_facts s t n k c ≡ facts_locally (part_of s t) k
-local_gl_facts s t n q c Clear o h e m = ap framebuffer_facts (complete-local s t n q o h e m)
-local_gl_facts s t n q c ReadPixels o h e m = ap framebuffer_facts (complete-local s t n q o h e m)
-local_gl_facts s t n q c k o h e m = cc
+or_first : (a b : Bool) → a ≡ true → (a || b) ≡ true
+or_first true b h = refl
+or_first false b h = not_local h
 
-local_gl_refusal : (s : State) (t n : ℕ) (q : PartValue) (c : CallValue) (k : GlKind) → HasOwn s t → current_context s t ≡ Some n → part_of_context s n ≡ Some q → (is_local_gl k || (is_local_unbound k && is_unbound (Some q))) ≡ true → gl_refusal s t n k c ≡ gl_rules.gl_refusal c (facts_locally (part_of s t) k)
-unfolding gl_refusal
-local_gl_refusal s t n q c k o h e m = ap (gl_rules.gl_refusal c) (local_gl_facts s t n q c k o h e m)
+-- ---- Calls that ask of the state only whether what is bound is complete.
+abbrev complete_only : GlFacts → GlFacts
+complete_only f = record no_gl_facts { is_framebuffer_complete = f.is_framebuffer_complete }
 
-by_part : (s : State) (t n : ℕ) (c : CallValue) (k : GlKind) (x : Option PartValue) → IsSound s → HasOwn s t → current_context s t ≡ Some n → part_of_context s n ≡ x → is_some x ≡ true → (is_local_gl k || (is_local_unbound k && is_unbound x)) ≡ true →
+abbrev AsksOne : Role → GlKind → CallValue → GlFacts → Type 0
+AsksOne Clears k c f = ruled (table_rules k) c f ≡ ruled (table_rules k) c (complete_only f)
+AsksOne ReadsPixels k c f = ruled (table_rules k) c f ≡ ruled (table_rules k) c (complete_only f)
+AsksOne Draws k c f = ruled (table_rules k) c f ≡ ruled (table_rules k) c (complete_only f)
+AsksOne r k c f = true ≡ true
+
+-- a first call has a clause of its own, and the last clause goes by the cases that are left
+asks_one : (k : GlKind) (c : CallValue) (f : GlFacts) → AsksOne (gl_role k) k c f
+asks_one GlGetError c f = refl
+asks_one k c f = refl
+
+rules_alike : (r : Role) (k : GlKind) (c : CallValue) (f : GlFacts) → (takes_pixels r || draws r) ≡ true → AsksOne r k c f → ruled (table_rules k) c f ≡ ruled (table_rules k) c (complete_only f)
+rules_alike Clears k c f d e = e
+rules_alike ReadsPixels k c f d e = e
+rules_alike Draws k c f d e = e
+rules_alike r k c f d e = not_local d
+
+-- the rows of such a call look at two sets of facts alike that agree in this
+one_asked : (k : GlKind) (c : CallValue) (f g : GlFacts) → (takes_pixels (gl_role k) || draws (gl_role k)) ≡ true → f.is_framebuffer_complete ≡ g.is_framebuffer_complete → ruled (table_rules k) c f ≡ ruled (table_rules k) c g
+one_asked k c f g d same =
+    rules_alike (gl_role k) k c f d (asks_one k c f)
+    ∙ ap (λ b. ruled (table_rules k) c (record no_gl_facts { is_framebuffer_complete = b })) same
+    ∙ sym (rules_alike (gl_role k) k c g d (asks_one k c g))
+
+-- whatever a call of its context's own state asks is told by the call
+with_own : (o : Option GlKind) (k : GlKind) (c : CallValue) (f g : GlFacts) → (o ≡ None → ruled (table_rules k) c f ≡ ruled (table_rules k) c g) → rows_by (λ x. gl_holds x c f) o k c ≡ rows_by (λ x. gl_holds x c g) o k c
+with_own (Some own) k c f g h = refl
+with_own None k c f g h = h refl
+
+pub rows_alike : (k : GlKind) (c : CallValue) (f g : GlFacts) → (takes_pixels (gl_role k) || draws (gl_role k)) ≡ true → f.is_framebuffer_complete ≡ g.is_framebuffer_complete → gl_rules.gl_rows k c f ≡ gl_rules.gl_rows k c g
+rows_alike k c f g d same = with_own (context_gl_call k) k c f g (λ none. one_asked k c f g d same)
+
+local_gl_rows : (s : State) (t n : ℕ) (q : PartValue) (c : CallValue) (k : GlKind) → HasOwn s t → current_context s t ≡ Some n → part_of_context s n ≡ Some q → (is_local_gl k || (is_local_unbound k && is_unbound (Some q))) ≡ true → gl_rules.gl_rows k c (gl_facts_of s t n c) ≡ gl_rules.gl_rows k c (facts_locally (part_of s t))
+local_gl_rows s t n q c k o h e m = with_own (context_gl_call k) k c (gl_facts_of s t n c) (facts_locally (part_of s t)) (λ none.
+    let both = and_parts (takes_pixels (gl_role k)) (is_unbound (Some q)) (ap (λ x. is_some x || (takes_pixels (gl_role k) && is_unbound (Some q))) (sym none) ∙ m) in
+    one_asked k c (gl_facts_of s t n c) (facts_locally (part_of s t)) (or_first (takes_pixels (gl_role k)) (draws (gl_role k)) both.0) (complete-local s t n q o h e both.1))
+
+-- facts that the rows of a call don't tell from those of the state refuse it alike
+pub refusal_by_rows : (s : State) (t n : ℕ) (c : CallValue) (k : GlKind) (f : GlFacts) → c.kind ≡ Gl k → gl_rules.gl_rows k c (gl_facts_of s t n c) ≡ gl_rules.gl_rows k c f → gl_refusal s t n k c ≡ gl_rules.gl_refusal c f
+unfolding gl_refusal gl_rules.gl_refusal
+refusal_by_rows s t n c k f is h =
+    ap (λ (kind : Kind). first_error (gl_rules.gl_rows_by kind c (gl_facts_of s t n c))) is
+    ∙ ap first_error h
+    ∙ ap (λ (kind : Kind). first_error (gl_rules.gl_rows_by kind c f)) (sym is)
+
+local_gl_refusal : (s : State) (t n : ℕ) (q : PartValue) (c : CallValue) (k : GlKind) → c.kind ≡ Gl k → HasOwn s t → current_context s t ≡ Some n → part_of_context s n ≡ Some q → (is_local_gl k || (is_local_unbound k && is_unbound (Some q))) ≡ true → gl_refusal s t n k c ≡ gl_rules.gl_refusal c (facts_locally (part_of s t))
+local_gl_refusal s t n q c k is o h e m = refusal_by_rows s t n c k (facts_locally (part_of s t)) is (local_gl_rows s t n q c k o h e m)
+
+by_part : (s : State) (t n : ℕ) (c : CallValue) (k : GlKind) (x : Option PartValue) → c.kind ≡ Gl k → IsSound s → HasOwn s t → current_context s t ≡ Some n → part_of_context s n ≡ x → is_some x ≡ true → (is_local_gl k || (is_local_unbound k && is_unbound x)) ≡ true →
     gl_step_on s t (Some n) k c ≡ as_step s t (gl_with (part_of s t) x k c)
-by_part s t n c k None l o h i j m = not_local j
-by_part s t n c k (Some q) l o h i j m = ap (λ e. after_gl_rules s n e (gl_effect s t n k c)) (local_gl_refusal s t n q c k o h i m)
-    ∙ by_gl_refusal s t n q c k (gl_rules.gl_refusal c (facts_locally (part_of s t) k)) l h i m
+by_part s t n c k None is l o h i j m = not_local j
+by_part s t n c k (Some q) is l o h i j m = ap (λ e. after_gl_rules s n e (gl_effect s t n k c)) (local_gl_refusal s t n q c k is o h i m)
+    ∙ by_gl_refusal s t n q c k (gl_rules.gl_refusal c (facts_locally (part_of s t))) l h i m
 
-by_current : (s : State) (t : ℕ) (c : CallValue) (k : GlKind) (o : Option ℕ) → IsSound s → HasOwn s t → current_context s t ≡ o → is_some (own_of s t).context ≡ is_some o → is_local_kind (part_of s t) (Gl k) ≡ true →
+by_current : (s : State) (t : ℕ) (c : CallValue) (k : GlKind) (o : Option ℕ) → c.kind ≡ Gl k → IsSound s → HasOwn s t → current_context s t ≡ o → is_some (own_of s t).context ≡ is_some o → is_local_kind (part_of s t) (Gl k) ≡ true →
     gl_step_on s t o k c ≡ as_step s t (gl_with (part_of s t) (own_of s t).context k c)
 unfolding at_place
-by_current s t c k None l y h i m = answered _ _ _ (sym (put-own_of s t)) ∙ ap (λ (p : Option ℕ). as_step s t (gl_with (part_of s t) (at_place part_in p s.objects) k c)) (sym h)
-by_current s t c k (Some n) l y h i m =
-    by_part s t n c k (own_of s t).context l y h (ap (λ (p : Option ℕ). at_place part_in p s.objects) (sym h)) i m
+by_current s t c k None is l y h i m = answered _ _ _ (sym (put-own_of s t)) ∙ ap (λ (p : Option ℕ). as_step s t (gl_with (part_of s t) (at_place part_in p s.objects) k c)) (sym h)
+by_current s t c k (Some n) is l y h i m =
+    by_part s t n c k (own_of s t).context is l y h (ap (λ (p : Option ℕ). at_place part_in p s.objects) (sym h)) i m
 
-gl_step-local : (s : State) (t : ℕ) (c : CallValue) (k : GlKind) → IsSound s → HasOwn s t → is_local_kind (part_of s t) (Gl k) ≡ true → gl_step s t k c ≡ as_step s t (gl_with (part_of s t) (own_of s t).context k c)
+gl_step-local : (s : State) (t : ℕ) (c : CallValue) (k : GlKind) → c.kind ≡ Gl k → IsSound s → HasOwn s t → is_local_kind (part_of s t) (Gl k) ≡ true → gl_step s t k c ≡ as_step s t (gl_with (part_of s t) (own_of s t).context k c)
 unfolding gl_step
-gl_step-local s t c k l i m = by_current s t c k (current_context s t) l i refl i.part m
+gl_step-local s t c k is l i m = by_current s t c k (current_context s t) is l i refl i.part m
 
-by_kind-local : (s : State) (t : ℕ) (c : CallValue) (k : Kind) → IsSound s → HasOwn s t → is_local_kind (part_of s t) k ≡ true → step_by s t k c ≡ as_step s t (by_kind (part_of s t) k c)
-by_kind-local s t c (Egl k) l i m = egl_step-local s t c k l m
-by_kind-local s t c (Gl k) l i m = gl_step-local s t c k l i m
-by_kind-local s t c (OwnCall k) l i m = not_local m
+by_kind-local : (s : State) (t : ℕ) (c : CallValue) (k : Kind) → c.kind ≡ k → IsSound s → HasOwn s t → is_local_kind (part_of s t) k ≡ true → step_by s t k c ≡ as_step s t (by_kind (part_of s t) k c)
+by_kind-local s t c (Egl k) e l i m = egl_step-local s t c k e l m
+by_kind-local s t c (Gl k) e l i m = gl_step-local s t c k e l i m
+by_kind-local s t c (OwnCall k) e l i m = not_local m
 
 waiting-local : (s : State) (t : ℕ) (k : Kind) (signalled : Bool) → is_local_kind (part_of s t) k ≡ true → wait_step s t (is_wait_end k) signalled ≡ as_step s t (record { reply = bare InWait; own = own_of s t })
 waiting-local s t (Egl k) signalled m = answered _ _ _ (sym (put-own_of s t))
@@ -287,7 +349,7 @@ waiting-local s t (OwnCall k) signalled m = not_local m
 
 by_wait-local : (s : State) (t : ℕ) (c : CallValue) (o : Option ℕ) → IsSound s → HasOwn s t → is_local (part_of s t) c ≡ true → step_in o s t c ≡ as_step s t (in_wait (is_some o) (part_of s t) c)
 by_wait-local s t c (Some sync) l i m = waiting-local s t c.kind (is_signalled s sync) m
-by_wait-local s t c None l i m = by_kind-local s t c c.kind l i m
+by_wait-local s t c None l i m = by_kind-local s t c c.kind refl l i m
 
 -- a local call changes the thread's own alone; its reply, and what is then the thread's own, depend on the part and the call
 pub local_step : (s : State) (t : ℕ) (c : CallValue) → IsSound s → HasOwn s t → is_local (part_of s t) c ≡ true → step s t c ≡ as_step s t (locally (part_of s t) c)

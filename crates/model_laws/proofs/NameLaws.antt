@@ -1,12 +1,16 @@
 -- A name that is deleted is free, of whatever kind it is.
-use Rattle.std.proofs.Common.{◌≡◌, ℕ, zero, suc, ◌<◌, arith, ℤ, Bool, true, false, cond, not, is_some, inl, inr, List, [], ◌∷◌, length, get_or, refl, sym, ap, ◌∙◌, Option, None, Some}
+use Rattle.std.proofs.Common.{◌≡◌, ℕ, zero, suc, ◌<◌, arith, ℤ, Bool, true, false, cond, not, is_some, inl, inr, List, [], ◌∷◌, length, get_or, refl, sym, ap, subst, ◌∙◌, Option, None, Some}
 use Rattle.std.specs.Prelude.{Contains}
 use Rattle.std.specs.List.{find}
 use Rattle.std.specs.Option.{option_map_or}
 use Rattle.std.proofs.lemmas.Bool.{cond_both, false≢true}
 use Rattle.egl_calls.specs.Calls.{CallValue}
 use Rattle.egl_calls.specs.Ranges.{unsigned}
-use Rattle.egl_calls.specs.declared.kinds.GlKind.TheVariants.{DeleteBuffers, DeleteFramebuffers, DeleteRenderbuffers, DeleteTextures}
+use Rattle.egl_calls.specs.declared.kinds.GlKind.{GlKind}
+use Rattle.egl_calls.specs.declared.kinds.GlKind.TheVariants.{GetError as GlGetError}
+use Rattle.call_table.specs.Rows.{gl_role}
+use Rattle.call_table.specs.declared.roles.Role.{Role}
+use Rattle.call_table.specs.declared.roles.Role.TheVariants.{Deletes}
 use Rattle.driver_objects.specs.declared.objects.Object.{Object}
 use Rattle.driver_objects.specs.declared.objects.Object.TheVariants.{Context, Framebuffer, Group}
 use Rattle.framebuffer_objects.specs.Framebuffers.{FramebufferValue}
@@ -17,6 +21,7 @@ use Rattle.share_group.specs.declared.names.NameKind.{NameKind}
 use Rattle.share_group.specs.declared.names.NameKind.TheVariants.{Texture as textures, Buffer as buffers, Renderbuffer as renderbuffers, Framebuffer as framebuffers}
 use Rattle.model_laws.specs.Laws.{IsAllowedGl}
 use Rattle.egl_model.specs.Bindings.{bound_framebuffer_in, deleted_in, deleted_name, deleted_names, detached_from, detached_on, unbound_in, unbound_object}
+use Rattle.egl_model.specs.GlCalls.{gl_effect}
 use Rattle.egl_model.specs.Names.{group_of, names_in, object_named, with_name_of}
 use Rattle.egl_model.specs.Objects.{as_group, change_context, change_framebuffer, change_group, with_context, with_framebuffer, with_group}
 use Rattle.egl_model.specs.State.{State, object_at}
@@ -108,14 +113,18 @@ free_after : (k : NameKind) (s : State) (n : ℕ) (xs : List ℤ) (x : ℤ) → 
 unfolding names_at
 free_after k s n xs x i = unused_swept k (unsigned x) (group_of s n) (deleted_names k s n xs) (each_unused k (group_of s n) n i.0 x xs s i.1 i.2)
 
-pub deleted_texture_is_free : (s : State) (t n : ℕ) (c : CallValue) (x : ℤ) → IsAllowedGl s t n DeleteTextures c → Contains c.list x → is_used (unsigned x) (names_in (step s t c).state (group_of s n) textures) ≡ false
-deleted_texture_is_free s t n c x h i = ap (λ (y : Stepped). is_used (unsigned x) (names_in y.state (group_of s n) textures)) (allowed_gl s t n DeleteTextures c h) ∙ free_after textures s n c.list x i
+-- ---- The calls.
+-- what a deletion leaves. A first call has a clause of its own, and the last clause goes by the cases that are left
+abbrev DeletedBy : Role → State → ℕ → ℕ → GlKind → CallValue → Type 0
+DeletedBy (Deletes names) s t n k c = (gl_effect s t n k c).state ≡ deleted_names names s n c.list
+DeletedBy r s t n k c = true ≡ true
 
-pub deleted_buffer_is_free : (s : State) (t n : ℕ) (c : CallValue) (x : ℤ) → IsAllowedGl s t n DeleteBuffers c → Contains c.list x → is_used (unsigned x) (names_in (step s t c).state (group_of s n) buffers) ≡ false
-deleted_buffer_is_free s t n c x h i = ap (λ (y : Stepped). is_used (unsigned x) (names_in y.state (group_of s n) buffers)) (allowed_gl s t n DeleteBuffers c h) ∙ free_after buffers s n c.list x i
+deleted_by : (s : State) (t n : ℕ) (k : GlKind) (c : CallValue) → DeletedBy (gl_role k) s t n k c
+deleted_by s t n GlGetError c = refl
+deleted_by s t n k c = refl
 
-pub deleted_renderbuffer_is_free : (s : State) (t n : ℕ) (c : CallValue) (x : ℤ) → IsAllowedGl s t n DeleteRenderbuffers c → Contains c.list x → is_used (unsigned x) (names_in (step s t c).state (group_of s n) renderbuffers) ≡ false
-deleted_renderbuffer_is_free s t n c x h i = ap (λ (y : Stepped). is_used (unsigned x) (names_in y.state (group_of s n) renderbuffers)) (allowed_gl s t n DeleteRenderbuffers c h) ∙ free_after renderbuffers s n c.list x i
+pub deletion_done : (s : State) (t n : ℕ) (k : GlKind) (names : NameKind) (c : CallValue) → gl_role k ≡ Deletes names → IsAllowedGl s t n k c → (step s t c).state ≡ sweep (deleted_names names s n c.list)
+deletion_done s t n k names c e h = ap (λ (y : Stepped). y.state) (allowed_gl s t n k c h) ∙ ap sweep (subst (λ r. DeletedBy r s t n k c) e (deleted_by s t n k c))
 
-pub deleted_framebuffer_is_free : (s : State) (t n : ℕ) (c : CallValue) (x : ℤ) → IsAllowedGl s t n DeleteFramebuffers c → Contains c.list x → is_used (unsigned x) (names_in (step s t c).state (group_of s n) framebuffers) ≡ false
-deleted_framebuffer_is_free s t n c x h i = ap (λ (y : Stepped). is_used (unsigned x) (names_in y.state (group_of s n) framebuffers)) (allowed_gl s t n DeleteFramebuffers c h) ∙ free_after framebuffers s n c.list x i
+pub deleted_name_is_free : (s : State) (t n : ℕ) (k : GlKind) (names : NameKind) (c : CallValue) (x : ℤ) → gl_role k ≡ Deletes names → IsAllowedGl s t n k c → Contains c.list x → is_used (unsigned x) (names_in (step s t c).state (group_of s n) names) ≡ false
+deleted_name_is_free s t n k names c x e h i = ap (λ (a : State). is_used (unsigned x) (names_in a (group_of s n) names)) (deletion_done s t n k names c e h) ∙ free_after names s n c.list x i

@@ -20,7 +20,8 @@ use Rattle.driver_objects.specs.Storages.{stored}
 use Rattle.driver_objects.specs.declared.objects.Object.{Object}
 use Rattle.driver_objects.specs.declared.objects.Object.TheVariants.{Context, Renderbuffer, Storage}
 use Rattle.egl_model.specs.Arguments.{number}
-use Rattle.egl_model.specs.GlCalls.{gl_refusal, storage_facts}
+use Rattle.egl_model.specs.GlCalls.{gl_refusal}
+use Rattle.egl_model.specs.GlFacts.{gl_facts_of}
 use Rattle.egl_model.specs.Graph.{is_in}
 use Rattle.egl_model.specs.Objects.{as_renderbuffer, change_renderbuffer, renderbuffer_in, with_renderbuffer}
 use Rattle.egl_model.specs.Parts.{put_own, set_image, set_part}
@@ -122,11 +123,11 @@ side_few : (z : ℤ) → z ≤ℤ pos 2048 → unsigned z ≤ 2048
 side_few (pos n) h = omega (arith, ints, h)
 side_few (negsuc n) h = omega arith
 
-pub storage_passed : (s : State) (t n : ℕ) (c : CallValue) → c.kind ≡ Gl RenderbufferStorage → gl_refusal s t n RenderbufferStorage c ≡ None → StorageAllowed c (storage_facts s n c)
+pub storage_passed : (s : State) (t n : ℕ) (c : CallValue) → c.kind ≡ Gl RenderbufferStorage → gl_refusal s t n RenderbufferStorage c ≡ None → StorageAllowed c (gl_facts_of s t n c)
 unfolding gl_refusal
-storage_passed s t n c h r = storage_allowed c (storage_facts s n c) h r
+storage_passed s t n c h r = storage_allowed c (gl_facts_of s t n c) h r
 
-acts-stored_in : (s : State) (t n : ℕ) (c : CallValue) (o : Option ℕ) → StorageAllowed c (storage_facts s n c) → Acts quiet t s (λ a. stored_as (new_kind c) (new_pixels c) o a)
+acts-stored_in : (s : State) (t n : ℕ) (c : CallValue) (o : Option ℕ) → StorageAllowed c (gl_facts_of s t n c) → Acts quiet t s (λ a. stored_as (new_kind c) (new_pixels c) o a)
 unfolding asked
 acts-stored_in s t n c None h = acts_self t s
 acts-stored_in s t n c (Some x) h = acts-pixels s t x (new_kind c) (number c 2) (number c 3) (format_of (number c 1)) (side_few (signed c 2) h.width.high) (side_few (signed c 3) h.height.high) h.room

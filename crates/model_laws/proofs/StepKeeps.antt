@@ -1,6 +1,5 @@
 -- What each step keeps, and so each history.
 use Rattle.std.proofs.Common.{◌≡◌, ℕ, true, false, List, [], ◌∷◌, refl, sym, ap, subst, ◌∙◌, arith, get_or, Option, None, Some, is_some}
-use Rattle.display_table.specs.declared.handles.HandleKind.TheVariants.{Context as a_context, Surface as a_surface, Image as an_image, Sync as a_sync}
 use Rattle.std.specs.Prelude.{All, map, replicate}
 use Rattle.std.proofs.lemmas.List.Elements.{All-cons, All-head, All-nil, All-tail}
 use Rattle.std.proofs.lemmas.Option.{none-some}
@@ -8,13 +7,15 @@ use Rattle.egl_calls.specs.Calls.{CallValue}
 use Rattle.egl_calls.specs.declared.entries.Entry.{Entry}
 use Rattle.egl_calls.specs.declared.kinds.Kind.TheVariants.{Egl, Gl}
 use Rattle.egl_calls.specs.declared.kinds.EglKind.{EglKind}
-use Rattle.egl_calls.specs.declared.kinds.EglKind.TheVariants.{Initialize, Terminate, CreateWindowSurface, CreatePbufferSurface, CreateContext, MakeCurrent, DestroySurface, SurfaceAttrib, DestroyContext, SwapBuffers, WaitClient, ReleaseThread, CreateSync, DestroySync, ClientWaitSync, WaitSync, CreateImage, DestroyImage}
+use Rattle.egl_calls.specs.declared.kinds.EglKind.TheVariants.{Initialize}
 use Rattle.egl_calls.specs.declared.kinds.GlKind.{GlKind}
-use Rattle.egl_calls.specs.declared.kinds.GlKind.TheVariants.{Flush, Finish, Clear, DrawTexi, DrawTexx, GenTextures, DeleteTextures, BindTexture, TexParameterx, TexParameteriv, TexImage2d, TexSubImage2d, CopyTexImage2d, CopyTexSubImage2d, GenBuffers, DeleteBuffers, BindBuffer, BufferData, BufferSubData, GenRenderbuffers, DeleteRenderbuffers, BindRenderbuffer, RenderbufferStorage, GenFramebuffers, DeleteFramebuffers, BindFramebuffer, FramebufferTexture2d, FramebufferRenderbuffer, ImageTargetTexture2d, ImageTargetRenderbufferStorage}
+use Rattle.egl_calls.specs.declared.kinds.GlKind.TheVariants.{TexImage2d}
 use Rattle.egl_calls.specs.declared.errors.EglError.TheVariants.{Success}
+use Rattle.call_table.specs.Rows.{gl_role}
+use Rattle.call_table.specs.declared.roles.Role.{Role}
+use Rattle.call_table.specs.declared.roles.Role.TheVariants.{Asks, Attaches, Binds, Clears, Deletes, Draws, Flushes, Generates, ReadsPixels}
 use Rattle.context_state.specs.Parts.{noted}
 use Rattle.context_state.specs.Kinds.{context_gl_call}
-use Rattle.context_state.specs.declared.kinds.ContextCall.{ContextCall}
 use Rattle.context_state.specs.Calls.{apply}
 use Rattle.model_laws.specs.Extents.{SameFlags, egl_extent, extent_of_kind, quiet}
 use Rattle.display_table.specs.declared.handles.Handle.{Handle}
@@ -37,7 +38,7 @@ use Rattle.model_laws.specs.Slots.{held_slots}
 use Rattle.egl_model.specs.Arguments.{number}
 use Rattle.egl_model.specs.Currents.{current_context, has_context, has_surface}
 use Rattle.egl_model.specs.EglCalls.{egl_effect, egl_refusal}
-use Rattle.egl_model.specs.GlCalls.{effect_by, gl_effect, object_effect, gl_refusal}
+use Rattle.egl_model.specs.GlCalls.{effect_by, gl_effect, gl_refusal, plain_gl_effect, role_effect}
 use Rattle.egl_model.specs.History.{replay_from}
 use Rattle.egl_model.specs.Step.{note_error, step}
 use Rattle.model_laws.proofs.EglCalls.{acts-context, acts-error, acts-initialize, acts-make_current, acts-pbuffer, acts-terminate, acts-wait_end, acts-attribute, acts-destroyed, acts-released}
@@ -46,15 +47,13 @@ use Rattle.egl_model.specs.Flushes.{flush}
 use Rattle.egl_model.specs.Windows.{swapped}
 use Rattle.model_laws.proofs.SyncCalls.{acts-client_wait, acts-create_sync, acts-flush, acts-flushed, acts-serve}
 use Rattle.model_laws.proofs.GlCalls.{acts-clear, acts-own_part}
-use Rattle.share_group.specs.declared.names.NameKind.TheVariants.{Texture as textures, Buffer as buffers, Renderbuffer as renderbuffers, Framebuffer as framebuffers}
 use Rattle.model_laws.proofs.CopyCalls.{acts-copied, acts-copied_part}
-use Rattle.driver_objects.specs.Targets.{buffer_target}
-use Rattle.driver_objects.specs.declared.targets.BindTarget.TheVariants.{Texture as TextureTarget, Renderbuffer as RenderbufferTarget, Framebuffer as FramebufferTarget}
+use Rattle.driver_objects.specs.Targets.{target_of}
 use Rattle.model_laws.proofs.DrawCalls.{acts-drawn}
 use Rattle.model_laws.proofs.NameCalls.{acts-bound_name, acts-delete, acts-generated}
 use Rattle.model_laws.proofs.BufferCalls.{acts-data, acts-part_of}
 use Rattle.model_laws.proofs.RenderbufferCalls.{acts-stored}
-use Rattle.model_laws.proofs.FramebufferCalls.{acts-attached_renderbuffer, acts-attached_texture}
+use Rattle.model_laws.proofs.FramebufferCalls.{acts-attached_named}
 use Rattle.model_laws.proofs.ImageCalls.{acts-create_image, acts-renderbuffer_of_image, acts-texture_of_image}
 use Rattle.model_laws.proofs.TextureCalls.{acts-crop, acts-parameter, acts-rewritten, acts-specified}
 use Rattle.model_laws.proofs.FrameMoves.{frame_self, handles_then, objects_then}
@@ -68,64 +67,41 @@ use Rattle.model_laws.proofs.WholeSweep.{linked_from}
 use Rattle.model_laws.proofs.KeptNames.{applied_names}
 use Rattle.model_laws.proofs.Keeps.{Acts, Keeps, acts_self, acts_swept, acts_then, acts_within}
 
--- ---- One line for each call that changes the state.
+-- ---- Calls that change the state: by their moves, and by their roles.
+acts-swap_flushed : (s : State) (t : ℕ) → Acts quiet t s (λ a. flush (swapped a t) t)
+acts-swap_flushed s t = acts_then quiet t s (λ a. swapped a t) (λ a. flush a t) (acts-swap s t) (acts-flush (swapped s t) t)
+
+-- what calls of EGL do is made of these
+ruleset egl_moves = (acts_self, acts-initialize, acts-terminate, acts-window, acts-pbuffer, acts-attribute, acts-context, acts-make_current, acts-swap_flushed, acts-flush, acts-create_sync, acts-client_wait, acts-serve, acts-create_image, acts-destroyed, acts-released)
+
 egl_acts : (s : State) (t : ℕ) (c : CallValue) (k : EglKind) → c.kind ≡ Egl k → egl_refusal s t k c ≡ None → Acts (egl_extent k) t s (λ a. (egl_effect a t k c).state)
-egl_acts s t c Initialize h r = acts-initialize s t (number c 0) true
-egl_acts s t c Terminate h r = acts-terminate s t (number c 0)
-egl_acts s t c CreateWindowSurface h r = acts-window s t c h r
-egl_acts s t c CreatePbufferSurface h r = acts-pbuffer s t c h r
-egl_acts s t c DestroySurface h r = acts-destroyed s t c a_surface
-egl_acts s t c SurfaceAttrib h r = acts-attribute s t c
-egl_acts s t c CreateContext h r = acts-context s t c h r
-egl_acts s t c DestroyContext h r = acts-destroyed s t c a_context
-egl_acts s t c MakeCurrent h r = acts-make_current s t c h r
-egl_acts s t c SwapBuffers h r = acts_then quiet t s (λ a. swapped a t) (λ a. flush a t) (acts-swap s t) (acts-flush (swapped s t) t)
-egl_acts s t c WaitClient h r = acts-flush s t
-egl_acts s t c CreateSync h r = acts-create_sync s t c
-egl_acts s t c DestroySync h r = acts-destroyed s t c a_sync
-egl_acts s t c ClientWaitSync h r = acts-client_wait s t c
-egl_acts s t c WaitSync h r = acts-serve s t c
-egl_acts s t c CreateImage h r = acts-create_image s t c
-egl_acts s t c DestroyImage h r = acts-destroyed s t c an_image
-egl_acts s t c ReleaseThread h r = acts-released s t
-egl_acts s t c k h r = acts_self t s
+-- one call is named, so that each other is a case of its own
+egl_acts s t c Initialize h r = search (egl_moves, h, r)
+egl_acts s t c k h r = search (egl_moves, h, r)
 
-object_acts : (s : State) (t n : ℕ) (c : CallValue) (k : GlKind) → c.kind ≡ Gl k → gl_refusal s t n k c ≡ None → current_context s t ≡ Some n → Acts quiet t s (λ a. (object_effect a t n k c).state)
-object_acts s t n c Flush h r i = acts-flushed s t (Some n)
-object_acts s t n c Finish h r i = acts-flushed s t (Some n)
-object_acts s t n c Clear h r i = acts-clear s t n c i
-object_acts s t n c DrawTexi h r i = acts-drawn s t n DrawTexi c i
-object_acts s t n c DrawTexx h r i = acts-drawn s t n DrawTexx c i
-object_acts s t n c GenTextures h r i = acts-generated s t n textures (number c 0)
-object_acts s t n c DeleteTextures h r i = acts-delete s t n textures c.list i
-object_acts s t n c BindTexture h r i = acts-bound_name s t n TextureTarget (number c 1) i
-object_acts s t n c TexParameterx h r i = acts-parameter s t n (number c 1) (number c 2)
-object_acts s t n c TexParameteriv h r i = acts-crop s t n c.list
-object_acts s t n c TexImage2d h r i = acts-specified s t n c h r i
-object_acts s t n c TexSubImage2d h r i = acts-rewritten s t n c i
-object_acts s t n c CopyTexImage2d h r i = acts-copied s t n c h r
-object_acts s t n c CopyTexSubImage2d h r i = acts-copied_part s t n c
-object_acts s t n c GenBuffers h r i = acts-generated s t n buffers (number c 0)
-object_acts s t n c DeleteBuffers h r i = acts-delete s t n buffers c.list i
-object_acts s t n c BindBuffer h r i = acts-bound_name s t n (buffer_target (number c 0)) (number c 1) i
-object_acts s t n c BufferData h r i = acts-data s t n c h r
-object_acts s t n c BufferSubData h r i = acts-part_of s t n c
-object_acts s t n c GenRenderbuffers h r i = acts-generated s t n renderbuffers (number c 0)
-object_acts s t n c DeleteRenderbuffers h r i = acts-delete s t n renderbuffers c.list i
-object_acts s t n c BindRenderbuffer h r i = acts-bound_name s t n RenderbufferTarget (number c 1) i
-object_acts s t n c RenderbufferStorage h r i = acts-stored s t n c h r
-object_acts s t n c GenFramebuffers h r i = acts-generated s t n framebuffers (number c 0)
-object_acts s t n c DeleteFramebuffers h r i = acts-delete s t n framebuffers c.list i
-object_acts s t n c BindFramebuffer h r i = acts-bound_name s t n FramebufferTarget (number c 1) i
-object_acts s t n c FramebufferTexture2d h r i = acts-attached_texture s t n c
-object_acts s t n c FramebufferRenderbuffer h r i = acts-attached_renderbuffer s t n c
-object_acts s t n c ImageTargetTexture2d h r i = acts-texture_of_image s t n c
-object_acts s t n c ImageTargetRenderbufferStorage h r i = acts-renderbuffer_of_image s t n c
-object_acts s t n c k h r i = acts_self t s
+-- what calls on objects that are bound do is made of these
+ruleset plain_moves = (acts_self, acts-parameter, acts-crop, acts-specified, acts-rewritten, acts-copied, acts-copied_part, acts-data, acts-part_of, acts-stored, acts-texture_of_image, acts-renderbuffer_of_image)
 
-acts_by : (o : Option ContextCall) (s : State) (t n : ℕ) (c : CallValue) (k : GlKind) → c.kind ≡ Gl k → gl_refusal s t n k c ≡ None → current_context s t ≡ Some n → Acts quiet t s (λ a. (effect_by o a t n k c).state)
+plain_gl_acts : (s : State) (t n : ℕ) (c : CallValue) (k : GlKind) → c.kind ≡ Gl k → gl_refusal s t n k c ≡ None → current_context s t ≡ Some n → Acts quiet t s (λ a. (plain_gl_effect a t n k c).state)
+-- one call is named, so that each other is a case of its own
+plain_gl_acts s t n c TexImage2d h r i = search (plain_moves, h, r, i)
+plain_gl_acts s t n c k h r i = search (plain_moves, h, r, i)
+
+role_acts : (o : Role) (s : State) (t n : ℕ) (c : CallValue) (k : GlKind) → c.kind ≡ Gl k → gl_refusal s t n k c ≡ None → current_context s t ≡ Some n → Acts quiet t s (λ a. (role_effect o a t n k c).state)
+role_acts Flushes s t n c k h r i = acts-flushed s t (Some n)
+role_acts Clears s t n c k h r i = acts-clear s t n c i
+role_acts ReadsPixels s t n c k h r i = acts_self t s
+role_acts Draws s t n c k h r i = acts-drawn s t n k c i
+role_acts (Generates names) s t n c k h r i = acts-generated s t n names (number c 0)
+role_acts (Deletes names) s t n c k h r i = acts-delete s t n names c.list i
+role_acts (Asks names) s t n c k h r i = acts_self t s
+role_acts (Binds names) s t n c k h r i = acts-bound_name s t n (target_of names (number c 0)) (number c 1) i
+role_acts (Attaches names) s t n c k h r i = acts-attached_named s t n names c
+role_acts o s t n c k h r i = plain_gl_acts s t n c k h r i
+
+acts_by : (o : Option GlKind) (s : State) (t n : ℕ) (c : CallValue) (k : GlKind) → c.kind ≡ Gl k → gl_refusal s t n k c ≡ None → current_context s t ≡ Some n → Acts quiet t s (λ a. (effect_by o a t n k c).state)
 acts_by (Some own) s t n c k h r i = acts-own_part s t n (λ p. (apply c p).part) (applied_names c) i
-acts_by None s t n c k h r i = object_acts s t n c k h r i
+acts_by None s t n c k h r i = role_acts (gl_role k) s t n c k h r i
 
 gl_acts : (s : State) (t n : ℕ) (c : CallValue) (k : GlKind) → c.kind ≡ Gl k → gl_refusal s t n k c ≡ None → current_context s t ≡ Some n → Acts quiet t s (λ a. (gl_effect a t n k c).state)
 gl_acts s t n c k h r i = acts_by (context_gl_call k) s t n c k h r i

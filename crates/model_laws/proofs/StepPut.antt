@@ -1,5 +1,5 @@
 -- The first law of frame: a step of a thread, and what is put for another one, may come in either order.
-use Rattle.std.proofs.Common.{◌≡◌, ◌≢◌, ℕ, pos, Bool, true, false, List, [], ◌∷◌, refl, sym, ap, ◌∙◌, Option, None, Some, is_some, map}
+use Rattle.std.proofs.Common.{◌≡◌, ◌≢◌, ℕ, pos, Bool, true, false, List, [], ◌∷◌, refl, sym, ap, ◌∙◌, Option, None, Some, map}
 use Rattle.model_laws.proofs.Writes.{census-written}
 use Rattle.egl_model.specs.Contexts.{context_value, context_value_at, draws_with, is_drawn_with, value_of_context}
 use Rattle.egl_model.specs.Handles.{handle_at}
@@ -17,18 +17,20 @@ use Rattle.egl_calls.specs.declared.kinds.EglKind.TheVariants.{GetError as EglGe
 use Rattle.egl_calls.specs.declared.kinds.GlKind.{GlKind}
 use Rattle.egl_calls.specs.declared.kinds.GlKind.TheVariants.{GetError as GlGetError}
 use Rattle.call_rules.specs.GlRules as gl_rules
+use Rattle.call_table.specs.Rows.{gl_role}
+use Rattle.call_table.specs.declared.roles.Role.{Role}
+use Rattle.call_table.specs.declared.roles.Role.TheVariants.{Asks, Attaches, Binds, Clears, Deletes, Draws, Flushes, Generates, ReadsPixels}
 use Rattle.context_state.specs.Kinds.{context_gl_call}
-use Rattle.context_state.specs.declared.kinds.ContextCall.{ContextCall}
 use Rattle.context_state.specs.Parts.{PartValue}
 use Rattle.share_group.specs.Names.{given}
 use Rattle.share_group.specs.declared.names.NameKind.{NameKind}
-use Rattle.share_group.specs.declared.names.NameKind.TheVariants.{Texture as textures, Buffer as buffers, Renderbuffer as renderbuffers, Framebuffer as framebuffers}
+use Rattle.share_group.specs.declared.names.NameKind.TheVariants.{Texture as textures, Renderbuffer as renderbuffers}
 use Rattle.egl_model.specs.Buffers.{part_read}
-use Rattle.call_rules.specs.GlRules.{no_gl_facts}
-use Rattle.egl_model.specs.GlCalls.{facts_by, object_facts, attach_facts, attachment_facts, bound_facts, buffer_facts, renderbuffer_facts, effect_by, gl_effect, local_value, object_effect, gl_refusal}
+use Rattle.egl_model.specs.GlCalls.{effect_by, gl_effect, local_value, gl_refusal, plain_gl_effect, role_effect}
+use Rattle.egl_model.specs.GlFacts.{gl_facts_of}
 use Rattle.egl_model.specs.Names.{generated, group_of, name_value, object_named}
-use Rattle.model_laws.proofs.CopyCalls.{blind-copy_facts, blind-copy_part_facts}
-use Rattle.model_laws.proofs.TextureCalls.{blind-part_facts}
+use Rattle.model_laws.proofs.CopyCalls.{blind-read_alpha}
+use Rattle.model_laws.proofs.TextureCalls.{blind-level_form}
 use Rattle.model_laws.proofs.BufferCalls.{blind-buffer_of}
 use Rattle.model_laws.proofs.RenderbufferCalls.{blind-renderbuffer_of, blind-target_renderbuffer}
 use Rattle.model_laws.proofs.NameCalls.{blind-group_of, blind-named, blind-names}
@@ -40,12 +42,13 @@ use Rattle.display_table.specs.declared.handles.Handle.{Handle}
 use Rattle.egl_model.specs.declared.records.ThreadRecord.{ThreadRecord}
 use Rattle.egl_model.specs.State.{State, record_of}
 use Rattle.egl_model.specs.Currents.{current_context, display_at}
-use Rattle.egl_model.specs.Framebuffers.{attachment_of, bound_framebuffer, target_framebuffer}
+use Rattle.egl_model.specs.Framebuffers.{bound_framebuffer}
 use Rattle.egl_model.specs.Drawing.{pack_alignment, read_pixels, rows_of}
-use Rattle.egl_model.specs.EglCalls.{egl_effect, egl_facts, egl_refusal}
+use Rattle.egl_model.specs.EglCalls.{egl_effect, egl_refusal}
+use Rattle.egl_model.specs.Facts.{facts_of}
 use Rattle.model_laws.specs.Frame.{IsNone, moved_step}
 use Rattle.model_laws.specs.Hidden.{hide, nothing}
-use Rattle.egl_model.specs.MakeCurrent.{config_of_context, config_of_surface, context_handle, current_facts, draw_handle, is_context_taken, is_surface_taken, read_handle}
+use Rattle.egl_model.specs.MakeCurrent.{config_of_context, config_of_surface, context_handle, draw_handle, is_context_taken, is_surface_taken, read_handle}
 use Rattle.egl_model.specs.Objects.{context_in, storage_in}
 use Rattle.egl_model.specs.Parts.{Own, OwnObjects, own_objects, put_at, put_own}
 use Rattle.model_laws.specs.Shapes.{shapes}
@@ -54,12 +57,12 @@ use Rattle.egl_model.specs.Step.{Stepped, after_egl_rules, after_gl_rules, done,
 use Rattle.egl_model.specs.Surfaces.{surface_value, value_of_surface}
 use Rattle.egl_model.specs.OwnCalls.{buffer_effect, buffer_refusal}
 use Rattle.egl_model.specs.Waits.{is_signalled, is_wait_end}
-use Rattle.egl_model.specs.Effects.{valued}
+use Rattle.egl_model.specs.Effects.{Effect, valued}
 use Rattle.egl_calls.specs.declared.kinds.OwnKind.{OwnKind}
 use Rattle.egl_calls.specs.declared.kinds.OwnKind.TheVariants.{ReadBuffer, Census}
-use Rattle.model_laws.proofs.ImageCalls.{blind-new_image, blind-renderbuffer_target_facts, blind-target_facts}
-use Rattle.model_laws.proofs.SyncCalls.{blind-client_wait, blind-new_sync, blind-server, blind-sync_value}
-use Rattle.model_laws.proofs.WindowCalls.{blind-swap_facts, blind-window_facts}
+use Rattle.model_laws.proofs.ImageCalls.{blind-is_incomplete, blind-is_source, blind-is_source_sibling, blind-source_storage, blind-renderable, blind-target_handle}
+use Rattle.model_laws.proofs.SyncCalls.{blind-client_wait, blind-current_here, blind-sync_value}
+use Rattle.model_laws.proofs.WindowCalls.{blind-draws_to, blind-used}
 use Rattle.model_laws.proofs.Blinds.{blind-context_elsewhere, blind-context_of, blind-current, blind-live_bytes, blind-own_part, blind-record, blind-surface_elsewhere, blind-surface_of, blind-signalled, blind-any, blind-context, blind-display}
 use Rattle.model_laws.proofs.BoundFramebuffers.{blind-bound_framebuffer, blind-complete, blind-read_from, blind-target_framebuffer}
 use Rattle.model_laws.proofs.FramebufferCalls.{blind-attachment_of, blind-called_object}
@@ -69,6 +72,8 @@ use Rattle.model_laws.proofs.Keeps.{Blind}
 use Rattle.model_laws.proofs.PutMoves.{own_objects-stand}
 use Rattle.model_laws.proofs.PutWhole.{whole-put}
 use Rattle.model_laws.proofs.StepKeeps.{acts-egl_done, acts-gl_done, keeps-step, acts-swept_self, acts-wait_done}
+use Rattle.egl_model.specs.Facts.{is_compatible, is_surface_elsewhere}
+use Rattle.egl_model.specs.Windows.{named_place}
 
 -- ---- Facts: what those of any call read is the same. A first call has a clause of its own, and the last clause goes by the cases that are left.
 blind-config_of_context : (t : ℕ) (h : Option Handle) (s : State) → Blind t s (λ a. config_of_context a h)
@@ -85,10 +90,14 @@ blind-surface_taken : (t : ℕ) (h : Option Handle) (s : State) → Blind t s (�
 blind-surface_taken t None s w v x ne = refl
 blind-surface_taken t (Some h) s w v x ne = blind-surface_elsewhere t h.object s w v x ne
 
-blind-current_facts : (t : ℕ) (c : CallValue) (s : State) → Blind t s (λ a. current_facts a t c)
-blind-current_facts t c s w v x ne =
+blind-compatible : (t : ℕ) (c : CallValue) (s : State) → Blind t s (λ a. is_compatible a c)
+blind-compatible t c s w v x ne =
     let a = blind-config_of_context t (context_handle s c) s w v x ne in let b = blind-config_of_surface t (draw_handle s c) s w v x ne in let d = blind-config_of_surface t (read_handle s c) s w v x ne in
-    let e = blind-context_taken t (context_handle s c) s w v x ne in let f = blind-surface_taken t (draw_handle s c) s w v x ne in let g = blind-surface_taken t (read_handle s c) s w v x ne in
+    cc
+
+blind-surfaces_taken : (t : ℕ) (c : CallValue) (s : State) → Blind t s (λ a. is_surface_elsewhere a t c)
+blind-surfaces_taken t c s w v x ne =
+    let f = blind-surface_taken t (draw_handle s c) s w v x ne in let g = blind-surface_taken t (read_handle s c) s w v x ne in
     cc
 
 -- what a surface or a context is asked for
@@ -105,55 +114,40 @@ blind-value_of_context t a (Some h) s w v x ne =
 blind-context_value : (t : ℕ) (c : CallValue) (s : State) → Blind t s (λ a. context_value a c)
 blind-context_value t c s w v x ne = blind-value_of_context t (number c 2) (handle_at s c 1 a_context) s w v x ne
 
-blind-facts : (t : ℕ) (c : CallValue) (s : State) (k : EglKind) → Blind t s (λ a. egl_facts a t k c)
-blind-facts t c s EglGetError w v x ne = refl
-blind-facts t c s k w v x ne =
-    let window = blind-window_facts t c s w v x ne in let swap = blind-swap_facts t c s w v x ne in let bytes = blind-live_bytes t s w v x ne in
-    let current = blind-current_facts t c s w v x ne in let surface = blind-surface_value t c s w v x ne in let context = blind-context_value t c s w v x ne in
-    let new_sync = blind-new_sync t c s w v x ne in let server = blind-server t c s w v x ne in let sync = blind-sync_value t c s w v x ne in let image = blind-new_image t c s w v x ne in
+-- all facts of a call, whichever it is
+blind-facts : (t : ℕ) (c : CallValue) (s : State) → Blind t s (λ a. facts_of a t c)
+blind-facts t c s w v x ne =
+    let bytes = blind-live_bytes t s w v x ne in
+    let compatible = blind-compatible t c s w v x ne in let elsewhere = blind-context_taken t (context_handle s c) s w v x ne in let taken = blind-surfaces_taken t c s w v x ne in
+    let used = blind-used t (named_place s c) s w v x ne in let drawn = blind-draws_to t (handle_at s c 1 a_surface) s w v x ne in
+    let current = blind-current t s w v x ne in let here = blind-current_here t c s w v x ne in
+    let source = blind-is_source t c s w v x ne in let incomplete = blind-is_incomplete t c s w v x ne in
+    let pixels = blind-source_storage t c s w v x ne in let sibling = blind-is_source_sibling t c s w v x ne in
     cc
 
 blind-refusal : (t : ℕ) (c : CallValue) (s : State) (k : EglKind) → Blind t s (λ a. egl_refusal a t k c)
 unfolding egl_refusal
-blind-refusal t c s k w v x ne = ap (rules.egl_refusal c) (blind-facts t c s k w v x ne)
+blind-refusal t c s k w v x ne = ap (rules.egl_refusal c) (blind-facts t c s w v x ne)
 
-blind-buffer_facts : (t n : ℕ) (c : CallValue) (s : State) → Blind t s (λ a. buffer_facts a n c)
-blind-buffer_facts t n c s w v x ne = ap bound_facts (blind-buffer_of t n c s w v x ne)
-
-blind-renderbuffer_facts : (t n : ℕ) (s : State) → Blind t s (λ a. renderbuffer_facts a n)
-blind-renderbuffer_facts t n s w v x ne = ap (λ o. record no_gl_facts { is_bound = is_some o }) (blind-target_renderbuffer t n s w v x ne)
-
--- a call on a framebuffer
-blind-attach_facts : (t n : ℕ) (k : NameKind) (c : CallValue) (s : State) → Blind t s (λ a. attach_facts k a n c)
-blind-attach_facts t n k c s w v x ne =
-    ap (λ o. record no_gl_facts { is_bound = is_some o; is_named = is_some (object_named (put_own s v x) (group_of (put_own s v x) n) k (number c 3)) }) (blind-target_framebuffer t n s w v x ne)
-    ∙ ap (λ o. record no_gl_facts { is_bound = is_some (target_framebuffer s n); is_named = is_some o }) (blind-called_object t n k (number c 3) s w v x ne)
-
-blind-attachment_facts : (t n : ℕ) (c : CallValue) (s : State) → Blind t s (λ a. attachment_facts a n c)
-blind-attachment_facts t n c s w v x ne =
-    ap (λ o. record no_gl_facts { is_bound = is_some o; is_attached = is_some (attachment_of (put_own s v x) n c) }) (blind-target_framebuffer t n s w v x ne)
-    ∙ ap (λ o. record no_gl_facts { is_bound = is_some (target_framebuffer s n); is_attached = is_some o }) (blind-attachment_of t n c s w v x ne)
-
-blind-object_facts : (t n : ℕ) (c : CallValue) (s : State) (k : GlKind) → Blind t s (λ a. object_facts a t n k c)
-blind-object_facts t n c s GlGetError w v x ne = refl
-blind-object_facts t n c s k w v x ne =
-    let complete = blind-complete t s w v x ne in let bytes = blind-live_bytes t s w v x ne in let part = blind-part_facts t n c s w v x ne in
-    let copy = blind-copy_facts t c s w v x ne in let copy_part = blind-copy_part_facts t n c s w v x ne in let buffer = blind-buffer_facts t n c s w v x ne in
-    let renderbuffer = blind-renderbuffer_facts t n s w v x ne in let texture_given = blind-attach_facts t n textures c s w v x ne in let renderbuffer_given = blind-attach_facts t n renderbuffers c s w v x ne in
-    let attachment = blind-attachment_facts t n c s w v x ne in let texture_image = blind-target_facts t n c s w v x ne in let renderbuffer_image = blind-renderbuffer_target_facts t n c s w v x ne in
+-- the same of a call of OpenGL ES
+blind-gl_facts : (t n : ℕ) (c : CallValue) (s : State) → Blind t s (λ a. gl_facts_of a t n c)
+blind-gl_facts t n c s w v x ne =
+    let bytes = blind-live_bytes t s w v x ne in let complete = blind-complete t s w v x ne in let alpha = blind-read_alpha t s w v x ne in
+    let level = blind-level_form t n c s w v x ne in
+    let stored = ap (λ (p : Bool × ℕ × ℕ × ℕ). p.0) level in let width = ap (λ (p : Bool × ℕ × ℕ × ℕ). p.1) level in
+    let height = ap (λ (p : Bool × ℕ × ℕ × ℕ). p.2) level in let base = ap (λ (p : Bool × ℕ × ℕ × ℕ). p.3) level in
+    let buffer = blind-buffer_of t n c s w v x ne in let renderbuffer = blind-target_renderbuffer t n s w v x ne in let framebuffer = blind-target_framebuffer t n s w v x ne in
+    let texture = blind-called_object t n textures (number c 3) s w v x ne in let named = blind-called_object t n renderbuffers (number c 3) s w v x ne in
+    let attachment = blind-attachment_of t n c s w v x ne in let image = blind-target_handle t n c s w v x ne in let renderable = blind-renderable t n c s w v x ne in
     cc
-
-blind-facts_by : (o : Option ContextCall) (t n : ℕ) (c : CallValue) (s : State) (k : GlKind) → Blind t s (λ a. facts_by o a t n k c)
-blind-facts_by (Some own) t n c s k w v x ne = refl
-blind-facts_by None t n c s k w v x ne = blind-object_facts t n c s k w v x ne
 
 blind-gl_refusal : (t n : ℕ) (c : CallValue) (s : State) (k : GlKind) → Blind t s (λ a. gl_refusal a t n k c)
 unfolding gl_refusal
-blind-gl_refusal t n c s k w v x ne = ap (gl_rules.gl_refusal c) (blind-facts_by (context_gl_call k) t n c s k w v x ne)
+blind-gl_refusal t n c s k w v x ne = ap (gl_rules.gl_refusal c) (blind-gl_facts t n c s w v x ne)
 
 blind-buffer_refusal : (t n : ℕ) (c : CallValue) (s : State) → Blind t s (λ a. buffer_refusal a t n c)
 unfolding buffer_refusal
-blind-buffer_refusal t n c s w v x ne = ap (gl_rules.gl_refusal c) (blind-buffer_facts t n c s w v x ne)
+blind-buffer_refusal t n c s w v x ne = ap (gl_rules.gl_refusal c) (blind-gl_facts t n c s w v x ne)
 
 -- ---- Replies: what those of any call read is the same.
 blind-current_display : (t : ℕ) (s : State) → Blind t s (λ a. display_at a (current_context a t))
@@ -184,20 +178,31 @@ blind-is_name t n k name s w v x ne =
 blind-buffer_reply : (t n : ℕ) (c : CallValue) (s : State) → Blind t s (λ a. done (buffer_effect a t n c))
 blind-buffer_reply t n c s w v x ne = ap (λ o. done (record { waits = false; value = pos 0; list = []; bytes = part_read c o; state = s })) (blind-buffer_of t n c s w v x ne)
 
-blind-object_reply : (t n : ℕ) (c : CallValue) (s : State) (k : GlKind) → current_context s t ≡ Some n → Blind t s (λ a. done (object_effect a t n k c))
-blind-object_reply t n c s GlGetError e w v x ne = refl
-blind-object_reply t n c s k e w v x ne =
-    let pixels = blind-read_pixels t n c s e w v x ne in let buffer = blind-buffer_of t n c s w v x ne in let renderbuffer = blind-renderbuffer_of t n s w v x ne in
+abbrev reading : List ℕ → State → Effect
+reading b s = record { waits = false; value = pos 0; list = []; bytes = b; state = s }
+
+blind-plain_reply : (t n : ℕ) (c : CallValue) (s : State) (k : GlKind) → current_context s t ≡ Some n → Blind t s (λ a. done (plain_gl_effect a t n k c))
+blind-plain_reply t n c s GlGetError e w v x ne = refl
+blind-plain_reply t n c s k e w v x ne =
+    let buffer = blind-buffer_of t n c s w v x ne in let renderbuffer = blind-renderbuffer_of t n s w v x ne in
     let framebuffer = blind-bound_framebuffer t s w v x ne in let attachment = blind-attachment_of t n c s w v x ne in
-    let new_textures = blind-generated t n textures (number c 0) s w v x ne in let new_buffers = blind-generated t n buffers (number c 0) s w v x ne in
-    let new_renderbuffers = blind-generated t n renderbuffers (number c 0) s w v x ne in let new_framebuffers = blind-generated t n framebuffers (number c 0) s w v x ne in
-    let texture = blind-is_name t n textures (number c 0) s w v x ne in let a_buffer = blind-is_name t n buffers (number c 0) s w v x ne in
-    let a_renderbuffer = blind-is_name t n renderbuffers (number c 0) s w v x ne in let a_framebuffer = blind-is_name t n framebuffers (number c 0) s w v x ne in
     cc
 
-blind-reply_by : (o : Option ContextCall) (t n : ℕ) (c : CallValue) (s : State) (k : GlKind) → current_context s t ≡ Some n → Blind t s (λ a. done (effect_by o a t n k c))
+blind-role_reply : (o : Role) (t n : ℕ) (c : CallValue) (s : State) (k : GlKind) → current_context s t ≡ Some n → Blind t s (λ a. done (role_effect o a t n k c))
+blind-role_reply Flushes t n c s k e w v x ne = refl
+blind-role_reply Clears t n c s k e w v x ne = refl
+blind-role_reply ReadsPixels t n c s k e w v x ne = ap (λ b. done (reading b s)) (blind-read_pixels t n c s e w v x ne)
+blind-role_reply Draws t n c s k e w v x ne = refl
+blind-role_reply (Generates names) t n c s k e w v x ne = blind-generated t n names (number c 0) s w v x ne
+blind-role_reply (Deletes names) t n c s k e w v x ne = refl
+blind-role_reply (Asks names) t n c s k e w v x ne = blind-is_name t n names (number c 0) s w v x ne
+blind-role_reply (Binds names) t n c s k e w v x ne = refl
+blind-role_reply (Attaches names) t n c s k e w v x ne = refl
+blind-role_reply o t n c s k e w v x ne = blind-plain_reply t n c s k e w v x ne
+
+blind-reply_by : (o : Option GlKind) (t n : ℕ) (c : CallValue) (s : State) (k : GlKind) → current_context s t ≡ Some n → Blind t s (λ a. done (effect_by o a t n k c))
 blind-reply_by (Some own) t n c s k e w v x ne = ap (λ p. done (valued (local_value p c) s)) (blind-own_part t n s e w v x ne)
-blind-reply_by None t n c s k e w v x ne = blind-object_reply t n c s k e w v x ne
+blind-reply_by None t n c s k e w v x ne = blind-role_reply (gl_role k) t n c s k e w v x ne
 
 blind-gl_reply : (t n : ℕ) (c : CallValue) (s : State) (k : GlKind) → current_context s t ≡ Some n → Blind t s (λ a. done (gl_effect a t n k c))
 blind-gl_reply t n c s k e w v x ne = blind-reply_by (context_gl_call k) t n c s k e w v x ne

@@ -13,6 +13,7 @@ use Rattle.egl_calls.specs.declared.errors.EglError.TheVariants.{Success}
 use Rattle.egl_calls.specs.declared.kinds.EglKind.TheVariants.{SwapBuffers}
 use Rattle.egl_names.specs.declared.codes.TheConstants.{EGL_BUFFER_DESTROYED, EGL_BUFFER_PRESERVED}
 use Rattle.call_rules.proofs.EglLaws.{rows_off}
+use Rattle.call_rules.proofs.TestLaws.{given_last}
 use Rattle.pixel_formats.specs.declared.formats.Format.{Format}
 use Rattle.pixel_formats.specs.declared.formats.Format.TheVariants.{Rgba8888}
 use Rattle.pixel_rows.specs.Images.{ImageValue, blank}
@@ -31,6 +32,7 @@ use Rattle.egl_model.specs.declared.records.Bound.{Bound}
 use Rattle.egl_model.specs.declared.records.ThreadRecord.{ThreadRecord}
 use Rattle.egl_model.specs.Currents.{bound_surface, current_context, is_bound}
 use Rattle.egl_model.specs.EglCalls.{egl_refusal}
+use Rattle.egl_model.specs.Facts.{facts_of}
 use Rattle.egl_model.specs.Flushes.{flush, flushed_to}
 use Rattle.egl_model.specs.Handles.{handle_at}
 use Rattle.egl_model.specs.Objects.{as_storage, as_surface, change_storage, surface_in, surface_of, with_context, with_storage}
@@ -38,7 +40,7 @@ use Rattle.egl_model.specs.Parts.{image_in}
 use Rattle.egl_model.specs.State.{State, initial, object_at, record_of, set_error}
 use Rattle.egl_model.specs.Step.{step}
 use Rattle.egl_model.specs.Sweep.{roots, sweep}
-use Rattle.egl_model.specs.Windows.{back_of, draws_to, front_of, swap_facts, swapped_surface, swapped_with}
+use Rattle.egl_model.specs.Windows.{back_of, draws_to, front_of, swapped_surface, swapped_with}
 use Rattle.model_laws.specs.Full.{Full, IsWindow}
 use Rattle.model_laws.specs.Kinds.{KindsFit}
 use Rattle.model_laws.specs.Shapes.{Goes, HasKind, Leads, shapes, slots_in}
@@ -64,8 +66,8 @@ bound_of s (Some h) (Some b) x d e = ap (surface_in s.objects) (eqb-true b.objec
 drawn : (s : State) (t : ℕ) (c : CallValue) (x : BackedSurface) → IsSwap s t c x → bound_surface s (record_of s t).draw ≡ Some x
 unfolding egl_refusal
 drawn s t c x h =
-    let off = rows_off c (swap_facts s t c) SwapBuffers h.allowed.call.kind h.allowed.allowed in
-    bound_of s (handle_at s c 1 a_surface) (record_of s t).draw x (not-false (draws_to s t (handle_at s c 1 a_surface)) off.1.1.1.0) h.names
+    let off = rows_off c (facts_of s t c) SwapBuffers h.allowed.call.kind h.allowed.allowed in
+    bound_of s (handle_at s c 1 a_surface) (record_of s t).draw x (not-false (draws_to s t (handle_at s c 1 a_surface)) (given_last (not (draws_to s t (handle_at s c 1 a_surface))) (is_some (handle_at s c 1 a_surface)) (not-false _ off.1.1.0) off.1.1.1.0)) h.names
 
 -- the state behind the call, before what nothing reaches is gone
 abbrev behind : State → ℕ → State

@@ -5,16 +5,14 @@ use Rattle.std.specs.Option.{option_map}
 use Rattle.egl_calls.specs.Calls.{CallValue, ReplyValue}
 use Rattle.egl_calls.specs.declared.errors.Outcome.TheVariants.{Done, Waiting}
 use Rattle.egl_names.specs.declared.codes.TheConstants.{EGL_CONDITION_SATISFIED, EGL_TIMEOUT_EXPIRED}
-use Rattle.call_rules.specs.declared.egl_facts.EglFacts.{EglFacts}
 use Rattle.driver_objects.specs.declared.kinds.ObjectKind.TheVariants.{Sync as a_sync_kind}
 use Rattle.display_table.specs.declared.handles.Handle.{Handle}
 use Rattle.display_table.specs.declared.handles.HandleKind.TheVariants.{Sync as a_sync}
 use Rattle.egl_model.specs.Arguments.{number}
 use Rattle.egl_model.specs.Currents.{current_context, display_at}
-use Rattle.egl_model.specs.Displays.{display_facts}
 use Rattle.model_laws.specs.Extents.{making, quiet}
 use Rattle.egl_model.specs.Flushes.{flush, flushed, flushed_to}
-use Rattle.egl_model.specs.Handles.{are_used_up, with_handle}
+use Rattle.egl_model.specs.Handles.{with_handle}
 use Rattle.egl_model.specs.MakeCurrent.{bound_by}
 use Rattle.egl_model.specs.Objects.{change_context, change_fence, with_context, with_fence}
 use Rattle.egl_model.specs.Parts.{own_objects, put_own}
@@ -23,7 +21,7 @@ use Rattle.model_laws.specs.Sound.{IsWhole}
 use Rattle.egl_model.specs.State.{State}
 use Rattle.egl_model.specs.Sweep.{live_bytes}
 use Rattle.egl_model.specs.Step.{done}
-use Rattle.egl_model.specs.Syncs.{add_sync, asks_for_flush, client_waited, created_sync, fence_objects, flush_for, flush_if, new_sync_facts, serve, served_fence, server_facts, sync_facts, sync_handle, sync_value, sync_value_at, value_of_sync, wait_for, waited, waits_forever}
+use Rattle.egl_model.specs.Syncs.{add_sync, asks_for_flush, client_waited, created_sync, fence_objects, flush_for, flush_if, serve, served_fence, sync_handle, sync_value, sync_value_at, value_of_sync, wait_for, waited, waits_forever}
 use Rattle.egl_model.specs.Waits.{is_signalled, waiting}
 use Rattle.model_laws.proofs.Blinds.{blind-current, blind-display, blind-length, blind-signalled, signalled-put}
 use Rattle.model_laws.proofs.Keeps.{Acts, Blind, acts_cond, acts_of, acts_self, acts_then, acts_within, by_quiet_moves}
@@ -32,6 +30,7 @@ use Rattle.model_laws.proofs.Named.{goes_valid}
 use Rattle.model_laws.proofs.NewObjects.{without_pixels}
 use Rattle.model_laws.proofs.Places.{new_kind}
 use Rattle.model_laws.proofs.Setters.{setter-fence, setter-flush, suits-fence, suits-flush}
+use Rattle.egl_model.specs.Facts.{is_current_here}
 
 -- ---- Flushes.
 pub acts-flushed : (s : State) (t : ℕ) (o : Option ℕ) → Acts quiet t s (flushed o)
@@ -115,18 +114,15 @@ pub blind-client_wait : (t : ℕ) (c : CallValue) (s : State) → Blind t s (λ 
 blind-client_wait t c s w v x ne = blind-waited t c (sync_handle s c) s w v x ne
 
 -- ---- What is asked.
-pub blind-new_sync : (t : ℕ) (c : CallValue) (s : State) → Blind t s (λ a. new_sync_facts a t c)
-blind-new_sync t c s w v x ne =
-    ap (facts (put_own s v x)) (blind-current t s w v x ne) ∙ ap (facts_by (current_context s t)) (blind-display t (current_context s t) s w v x ne)
+pub blind-current_here : (t : ℕ) (c : CallValue) (s : State) → Blind t s (λ a. is_current_here a t c)
+blind-current_here t c s w v x ne =
+    ap (here (put_own s v x)) (blind-current t s w v x ne) ∙ ap (here_by (current_context s t)) (blind-display t (current_context s t) s w v x ne)
   where
-    facts_by : Option ℕ → ℕ → EglFacts
-    facts_by o d = record (display_facts s c) { is_current_here = is_some o && (d == number c 0); are_handles_used_up = are_used_up s }
+    here_by : Option ℕ → ℕ → Bool
+    here_by o d = is_some o && (d == number c 0)
 
-    facts : State → Option ℕ → EglFacts
-    facts a o = facts_by o (display_at a o)
-
-pub blind-server : (t : ℕ) (c : CallValue) (s : State) → Blind t s (λ a. server_facts a t c)
-blind-server t c s w v x ne = ap (λ o. record (sync_facts s c) { is_current = is_some o }) (blind-current t s w v x ne)
+    here : State → Option ℕ → Bool
+    here a o = here_by o (display_at a o)
 
 blind-value_of_sync : (t a : ℕ) (o : Option Handle) (s : State) → Blind t s (λ b. value_of_sync b a o)
 blind-value_of_sync t a None s w v x ne = refl

@@ -1,6 +1,6 @@
 -- What the calls on textures keep.
-use Rattle.std.proofs.Common.{◌≡◌, ℕ, ◌+◌, ◌||◌, ◌/◌, ◌^◌, ◌≤◌, ℤ, pos, pow_pos, ltb, true, false, List, [], ◌∷◌, ◌++◌, refl, ap, subst, ◌∙◌, arith, length, min, Option, None, Some}
-use Rattle.std.specs.Prelude.{int_lt, unwrap_or}
+use Rattle.std.proofs.Common.{◌≡◌, ℕ, ◌+◌, ◌||◌, ◌/◌, ◌^◌, ◌≤◌, ℤ, pos, pow_pos, ltb, Bool, true, false, List, [], ◌∷◌, ◌++◌, refl, ap, subst, ◌∙◌, arith, length, min, Option, None, Some}
+use Rattle.std.specs.Prelude.{int_lt, is_some, unwrap_or}
 use Rattle.std.specs.Option.{option_and_then, option_map, option_map_or}
 use Rattle.std.proofs.lemmas.Bool.{cond_both, or_parts, ltb-false}
 use Rattle.std.proofs.lemmas.Option.{none-some}
@@ -16,6 +16,7 @@ use Rattle.call_rules.proofs.GlLaws.{image_allowed}
 use Rattle.pixel_rows.specs.Images.{frozen}
 use Rattle.pixel_rows.specs.Painting.{painted}
 use Rattle.pixel_rows.specs.Payloads.{loaded}
+use Rattle.texture_objects.specs.Forms.{base_code}
 use Rattle.texture_objects.specs.Uploads.{uploaded}
 use Rattle.driver_objects.specs.Storages.{StorageValue, rewritten_image, storage_bytes, stored}
 use Rattle.driver_objects.specs.declared.kinds.ObjectKind.TheVariants.{Storage as a_storage}
@@ -24,7 +25,8 @@ use Rattle.driver_objects.specs.declared.objects.Object.TheVariants.{Context, St
 use Rattle.egl_model.specs.Currents.{current_context}
 use Rattle.model_laws.specs.Extents.{quiet}
 use Rattle.model_laws.specs.Full.{Full}
-use Rattle.egl_model.specs.GlCalls.{gl_refusal, image_facts, part_facts, stored_facts}
+use Rattle.egl_model.specs.GlCalls.{gl_refusal}
+use Rattle.egl_model.specs.GlFacts.{gl_facts_of, stored_level}
 use Rattle.egl_model.specs.Graph.{is_in}
 use Rattle.egl_model.specs.Objects.{as_storage, as_texture, change_storage, change_texture, storage_in, texture_in, with_texture}
 use Rattle.egl_model.specs.Parts.{put_own}
@@ -66,18 +68,22 @@ blind-level t n k s w v x ne =
     ap (λ o. option_and_then (storage_at k) (option_and_then (texture_in (put_own s v x).objects) o)) (blind-target t n s w v x ne)
     ∙ ap (λ o. option_and_then (storage_at k) o) (blind-texture t (target_texture s n) s w v x ne)
 
-stored-blind : IsBlind (λ o. stored_facts (as_storage o))
-stored-blind (Some (Context c)) = refl
-stored-blind (Some (Storage v)) = refl
-stored-blind o = refl
+-- what parts and copies ask of a level: whether it has storage, its sides and its base format
+abbrev pub level_form : Option StorageValue → Bool × ℕ × ℕ × ℕ
+level_form o = (is_some o, option_map_or (λ v. v.width) o 0, option_map_or (λ v. v.height) o 0, option_map_or (λ v. base_code v.format) o 0)
 
-blind-stored : (t : ℕ) (o : Option ℕ) (s : State) → Blind t s (λ a. stored_facts (option_and_then (storage_in a.objects) o))
+form-blind : IsBlind (λ o. level_form (as_storage o))
+form-blind (Some (Context c)) = refl
+form-blind (Some (Storage v)) = refl
+form-blind o = refl
+
+blind-stored : (t : ℕ) (o : Option ℕ) (s : State) → Blind t s (λ a. level_form (option_and_then (storage_in a.objects) o))
 blind-stored t None s w v x ne = refl
-blind-stored t (Some n) s w v x ne = blind-object (λ o. stored_facts (as_storage o)) stored-blind t n s w v x ne
+blind-stored t (Some n) s w v x ne = blind-object (λ o. level_form (as_storage o)) form-blind t n s w v x ne
 
-pub blind-part_facts : (t n : ℕ) (c : CallValue) (s : State) → Blind t s (λ a. part_facts a n c)
-blind-part_facts t n c s w v x ne =
-    ap (λ o. stored_facts (option_and_then (storage_in (put_own s v x).objects) o)) (blind-level t n (level_of c) s w v x ne)
+pub blind-level_form : (t n : ℕ) (c : CallValue) (s : State) → Blind t s (λ a. level_form (stored_level a n c))
+blind-level_form t n c s w v x ne =
+    ap (λ o. level_form (option_and_then (storage_in (put_own s v x).objects) o)) (blind-level t n (level_of c) s w v x ne)
     ∙ blind-stored t (level_storage s n (level_of c)) s w v x ne
 
 -- ---- glTexParameterx.
@@ -111,9 +117,9 @@ side_few level z h =
     let l = ltb-false _ _ b.1 in let f = longest_few level in omega (arith, l, f)
 
 -- what is known where glTexImage2D isn't refused
-pub specify_allowed : (s : State) (t n : ℕ) (c : CallValue) → c.kind ≡ Gl TexImage2d → gl_refusal s t n TexImage2d c ≡ None → ImageAllowed c (image_facts s c)
+pub specify_allowed : (s : State) (t n : ℕ) (c : CallValue) → c.kind ≡ Gl TexImage2d → gl_refusal s t n TexImage2d c ≡ None → ImageAllowed c (gl_facts_of s t n c)
 unfolding gl_refusal
-specify_allowed s t n c h r = image_allowed c (image_facts s c) h r
+specify_allowed s t n c h r = image_allowed c (gl_facts_of s t n c) h r
 
 pub small : (n : ℕ) → n ≤ 1024 → min n 1024 ≡ n
 small n h = omega (arith, h)
@@ -137,16 +143,16 @@ pub acts-no_level : (s : State) (t k x : ℕ) → Acts quiet t s (λ a. record a
 unfolding change_pixels
 acts-no_level s t k x = by_quiet_moves t s (Change x (with_pixels k None) ∷ []) refl (setter-pixels _ _, tt) (λ w. (suits-pixels t (shapes s.objects) s x k None tt (λ j h. no_edge j h), tt))
 
-acts-level : (s : State) (t k : ℕ) (c : CallValue) (align : ℕ) (o : Option ℕ) → ImageAllowed c (image_facts s c) → Acts quiet t s (λ a. specified k (new_level c align) o a)
-acts-level s t k c align None h = acts_self t s
-acts-level s t k c align (Some x) h =
+acts-level : (s : State) (t n k : ℕ) (c : CallValue) (align : ℕ) (o : Option ℕ) → ImageAllowed c (gl_facts_of s t n c) → Acts quiet t s (λ a. specified k (new_level c align) o a)
+acts-level s t n k c align None h = acts_self t s
+acts-level s t n k c align (Some x) h =
     let w = side_few _ (signed c 3) h.width in let e = side_few _ (signed c 4) h.height in let room = h.room in
     cond_both (has_no_side c) None (Some (stored (frozen (uploaded c align)))) (λ v. Acts quiet t s (λ a. specified k v (Some x) a)) (λ _. acts-no_level s t k x)
     (λ _. acts-new_level s t k x (stored (frozen (uploaded c align))) (full-uploaded c align (omega (arith, w)) (omega (arith, e))) (let b = new_bytes c align w e in omega (arith, b, room)))
 
 pub acts-specified : (s : State) (t n : ℕ) (c : CallValue) → c.kind ≡ Gl TexImage2d → gl_refusal s t n TexImage2d c ≡ None → current_context s t ≡ Some n → Acts quiet t s (λ a. specified (level_of c) (new_level c (unpack_alignment a n)) (target_texture a n) a)
 acts-specified s t n c h r i = acts_of quiet t s (λ a. unpack_alignment a n) (λ align a. specified (level_of c) (new_level c align) (target_texture a n) a) (blind-alignment t n s i)
-    (acts_of quiet t s (λ a. target_texture a n) (λ o a. specified (level_of c) (new_level c (unpack_alignment s n)) o a) (blind-target t n s) (acts-level s t (level_of c) c (unpack_alignment s n) (target_texture s n) (specify_allowed s t n c h r)))
+    (acts_of quiet t s (λ a. target_texture a n) (λ o a. specified (level_of c) (new_level c (unpack_alignment s n)) o a) (blind-target t n s) (acts-level s t n (level_of c) c (unpack_alignment s n) (target_texture s n) (specify_allowed s t n c h r)))
 
 -- ---- glTexSubImage2D.
 in_texture : (n k : ℕ) (o : Option Object) → option_and_then (storage_at k) (as_texture o) ≡ Some n → is_in n (pixels_in o) ≡ true

@@ -16,7 +16,8 @@ use Rattle.driver_objects.specs.declared.textures.BackedTexture.{BackedTexture}
 use Rattle.egl_model.specs.Copies.{copied, copied_from, copied_level, copies_nothing, read_image}
 use Rattle.pixel_rows.specs.Images.{ImageValue}
 use Rattle.egl_model.specs.Currents.{current_context}
-use Rattle.egl_model.specs.GlCalls.{gl_effect, copy_facts, gl_refusal, image_facts}
+use Rattle.egl_model.specs.GlCalls.{gl_effect, gl_refusal}
+use Rattle.egl_model.specs.GlFacts.{gl_facts_of}
 use Rattle.model_laws.specs.Laws.{IsAllowedGl, IsGlCall}
 use Rattle.egl_model.specs.Objects.{as_storage, as_texture, storage_in, texture_in}
 use Rattle.egl_model.specs.State.{State, object_at}
@@ -49,20 +50,20 @@ swept_same rs os n = by (is_some (get_or (swept rs os) n None)) refl
 -- ---- glTexImage2D wants pixels.
 pub image_is_refused : (s : State) (t n : ℕ) (c : CallValue) → IsGlCall s t TexImage2d c → current_context s t ≡ Some n → AnswersGl s t c OutOfMemory → ImageAsked c × WantsImage s c
 unfolding gl_refusal
-image_is_refused s t n c h i a = image_wants c (image_facts s c) h.kind (gl_refusal_of_reply s t n TexImage2d c OutOfMemory h i a)
+image_is_refused s t n c h i a = image_wants c (gl_facts_of s t n c) h.kind (gl_refusal_of_reply s t n TexImage2d c OutOfMemory h i a)
 
 pub image_wants_pixels : (s : State) (t n : ℕ) (c : CallValue) → IsGlCall s t TexImage2d c → current_context s t ≡ Some n → ImageAsked c × WantsImage s c → AnswersGl s t c OutOfMemory
 unfolding gl_refusal
-image_wants_pixels s t n c h i w = reply_of_gl_refusal s t n TexImage2d c OutOfMemory h i (wanting_image c (image_facts s c) h.kind w)
+image_wants_pixels s t n c h i w = reply_of_gl_refusal s t n TexImage2d c OutOfMemory h i (wanting_image c (gl_facts_of s t n c) h.kind w)
 
 -- ---- glCopyTexImage2D wants pixels.
-pub copy_is_refused : (s : State) (t n : ℕ) (c : CallValue) → IsGlCall s t CopyTexImage2d c → current_context s t ≡ Some n → AnswersGl s t c OutOfMemory → CopyAsked c (copy_facts s t c) × WantsCopy s c
+pub copy_is_refused : (s : State) (t n : ℕ) (c : CallValue) → IsGlCall s t CopyTexImage2d c → current_context s t ≡ Some n → AnswersGl s t c OutOfMemory → CopyAsked c (gl_facts_of s t n c) × WantsCopy s c
 unfolding gl_refusal
-copy_is_refused s t n c h i a = copy_wants c (copy_facts s t c) h.kind (gl_refusal_of_reply s t n CopyTexImage2d c OutOfMemory h i a)
+copy_is_refused s t n c h i a = copy_wants c (gl_facts_of s t n c) h.kind (gl_refusal_of_reply s t n CopyTexImage2d c OutOfMemory h i a)
 
-pub copy_wants_pixels : (s : State) (t n : ℕ) (c : CallValue) → IsGlCall s t CopyTexImage2d c → current_context s t ≡ Some n → CopyAsked c (copy_facts s t c) × WantsCopy s c → AnswersGl s t c OutOfMemory
+pub copy_wants_pixels : (s : State) (t n : ℕ) (c : CallValue) → IsGlCall s t CopyTexImage2d c → current_context s t ≡ Some n → CopyAsked c (gl_facts_of s t n c) × WantsCopy s c → AnswersGl s t c OutOfMemory
 unfolding gl_refusal
-copy_wants_pixels s t n c h i w = reply_of_gl_refusal s t n CopyTexImage2d c OutOfMemory h i (wanting_copy c (copy_facts s t c) h.kind w)
+copy_wants_pixels s t n c h i w = reply_of_gl_refusal s t n CopyTexImage2d c OutOfMemory h i (wanting_copy c (gl_facts_of s t n c) h.kind w)
 
 -- the object of a number after a change
 pub changed_at : (f : Option Object → Option Object) → f None ≡ None → (n : ℕ) (os : List (Option Object)) → get_or (set os n (f (get_or os n None))) n None ≡ f (get_or os n None)

@@ -1,5 +1,5 @@
 -- Where EGL_BAD_ALLOC comes of an eglCreateWindowSurface.
-use Rattle.std.proofs.Common.{◌≡◌, ◌⊎◌, ℕ, ◌+◌, inl, inr, refl, ◌∙◌, Bool, true, false, not, List, [], ◌∷◌, ◌++◌, Some}
+use Rattle.std.proofs.Common.{◌≡◌, ◌⊎◌, ℕ, ◌+◌, inl, inr, refl, ◌∙◌, Bool, true, false, not, ◌&&◌, List, [], ◌∷◌, ◌++◌, Some}
 use Rattle.std.specs.Prelude.{nat_lt}
 use Rattle.std.proofs.lemmas.Bool.{not-false}
 use Rattle.egl_calls.specs.Calls.{CallValue}
@@ -10,10 +10,10 @@ use Rattle.refusal_rows.specs.Rows.{AllOff, Row, ◌⇒◌, first_error}
 use Rattle.refusal_rows.proofs.RowLaws.{first_is, first_of, from_others, past_off}
 use Rattle.call_rules.specs.declared.egl_facts.EglFacts.{EglFacts}
 use Rattle.call_rules.proofs.EglLaws.{first_refused, refused_first}
-use Rattle.call_rules.proofs.TestLaws.{is_past, past}
+use Rattle.call_rules.proofs.TestLaws.{given_last, is_past, past, unless}
 use Rattle.egl_model.specs.State.{State}
 use Rattle.egl_model.specs.EglCalls.{egl_refusal}
-use Rattle.egl_model.specs.Windows.{window_facts}
+use Rattle.egl_model.specs.Facts.{facts_of}
 use Rattle.model_laws.specs.Laws.{IsEglCall}
 use Rattle.model_laws.specs.Wants.{Answers, IsFaultlessWindow, IsWindowUsed, WantsNumber, WantsWindowPixels}
 use Rattle.model_laws.proofs.WindowUses.{used_window, window_is_used}
@@ -25,8 +25,8 @@ asking f =
     (not f.is_display ⇒ BadDisplay) ∷
     (not f.is_initialized ⇒ NotInitialized) ∷
     (not f.is_config ⇒ BadConfig) ∷
-    (not f.is_list_allowed ⇒ BadAttribute) ∷
-    (not f.is_window_config ⇒ BadMatch) ∷
+    (not f.is_window_list ⇒ BadAttribute) ∷
+    (not f.is_window_config && f.is_config ⇒ BadMatch) ∷
     (not f.is_window ⇒ BadNativeWindow) ∷
     []
 
@@ -47,46 +47,47 @@ any_holds false false false (inl h) = absurd (let e : false ≡ true = h in cc)
 any_holds false false false (inr (inl h)) = absurd (let e : false ≡ true = h in cc)
 any_holds false false false (inr (inr h)) = absurd (let e : false ≡ true = h in cc)
 
-faultless : (s : State) (c : CallValue) → AllOff (asking (window_facts s c)) → IsFaultlessWindow s c
-faultless s c a = record {
-  on = record { display = not-false _ a.0; initialized = not-false _ a.1.0 };
+faultless : (s : State) (t : ℕ) (c : CallValue) → AllOff (asking (facts_of s t c)) → IsFaultlessWindow s c
+faultless s t c a = record {
+  display = not-false _ a.0;
+  initialized = not-false _ a.1.0;
   config = not-false _ a.1.1.0;
   list = not-false _ a.1.1.1.0;
-  windows = not-false _ a.1.1.1.1.0;
+  windows = not-false _ (given_last (not (facts_of s t c).is_window_config) (facts_of s t c).is_config (not-false _ a.1.1.0) a.1.1.1.1.0);
   declared = not-false _ a.1.1.1.1.1.0;
 }
 
-asking_off : (s : State) (c : CallValue) → IsFaultlessWindow s c → AllOff (asking (window_facts s c))
-asking_off s c a = (off _ a.on.display, (off _ a.on.initialized, (off _ a.config, (off _ a.list, (off _ a.windows, (off _ a.declared, tt))))))
+asking_off : (s : State) (t : ℕ) (c : CallValue) → IsFaultlessWindow s c → AllOff (asking (facts_of s t c))
+asking_off s t c a = (off _ a.display, (off _ a.initialized, (off _ a.config, (off _ a.list, (unless (facts_of s t c).is_window_config (facts_of s t c).is_config a.windows, (off _ a.declared, tt))))))
 
-too_many : State → CallValue → Bool
-too_many s c = let f = window_facts s c in nat_lt f.video_limit (f.live_bytes + f.new_bytes)
+too_many : State → ℕ → CallValue → Bool
+too_many s t c = let f = facts_of s t c in nat_lt f.video_limit (f.live_bytes + f.window_bytes)
 
-to_wants : (s : State) (c : CallValue) → (((window_facts s c).is_window_used ≡ true) ⊎ ((too_many s c ≡ true) ⊎ ((window_facts s c).are_handles_used_up ≡ true))) → IsWindowUsed s c ⊎ (WantsWindowPixels s c ⊎ WantsNumber s)
+to_wants : (s : State) (t : ℕ) (c : CallValue) → (((facts_of s t c).is_window_used ≡ true) ⊎ ((too_many s t c ≡ true) ⊎ ((facts_of s t c).are_handles_used_up ≡ true))) → IsWindowUsed s c ⊎ (WantsWindowPixels s c ⊎ WantsNumber s)
 unfolding too_many
-to_wants s c (inl u) = inl (window_is_used s c u)
-to_wants s c (inr (inl v)) = inr (inl (past _ _ v))
-to_wants s c (inr (inr n)) = inr (inr (to_number s n))
+to_wants s t c (inl u) = inl (window_is_used s c u)
+to_wants s t c (inr (inl v)) = inr (inl (past _ _ v))
+to_wants s t c (inr (inr n)) = inr (inr (to_number s n))
 
-from_wants : (s : State) (c : CallValue) → IsWindowUsed s c ⊎ (WantsWindowPixels s c ⊎ WantsNumber s) → (((window_facts s c).is_window_used ≡ true) ⊎ ((too_many s c ≡ true) ⊎ ((window_facts s c).are_handles_used_up ≡ true)))
+from_wants : (s : State) (t : ℕ) (c : CallValue) → IsWindowUsed s c ⊎ (WantsWindowPixels s c ⊎ WantsNumber s) → (((facts_of s t c).is_window_used ≡ true) ⊎ ((too_many s t c ≡ true) ⊎ ((facts_of s t c).are_handles_used_up ≡ true)))
 unfolding too_many
-from_wants s c (inl u) = inl (used_window s c u)
-from_wants s c (inr (inl v)) = inr (inl (is_past _ _ v))
-from_wants s c (inr (inr n)) = inr (inr (from_number s n))
+from_wants s t c (inl u) = inl (used_window s c u)
+from_wants s t c (inr (inl v)) = inr (inl (is_past _ _ v))
+from_wants s t c (inr (inr n)) = inr (inr (from_number s n))
 
 pub window_is_refused : (s : State) (t : ℕ) (c : CallValue) → IsEglCall s t CreateWindowSurface c → Answers s t c BadAlloc → IsFaultlessWindow s c × (IsWindowUsed s c ⊎ (WantsWindowPixels s c ⊎ WantsNumber s))
 unfolding egl_refusal too_many
 window_is_refused s t c h a =
-    let f = window_facts s c in
+    let f = facts_of s t c in
     let r = refused_first c f CreateWindowSurface BadAlloc h.kind (refusal_of_reply s t CreateWindowSurface c BadAlloc h a) in
-    let o = from_others is_bad_alloc BadAlloc (asking f) (wanting f.is_window_used (too_many s c) f.are_handles_used_up) refl (refl, (refl, (refl, (refl, (refl, (refl, tt)))))) (first_is BadAlloc (asking f ++ wanting f.is_window_used (too_many s c) f.are_handles_used_up) r) in
-    (faultless s c o.0, to_wants s c (one_holds f.is_window_used (too_many s c) f.are_handles_used_up o.1))
+    let o = from_others is_bad_alloc BadAlloc (asking f) (wanting f.is_window_used (too_many s t c) f.are_handles_used_up) refl (refl, (refl, (refl, (refl, (refl, (refl, tt)))))) (first_is BadAlloc (asking f ++ wanting f.is_window_used (too_many s t c) f.are_handles_used_up) r) in
+    (faultless s t c o.0, to_wants s t c (one_holds f.is_window_used (too_many s t c) f.are_handles_used_up o.1))
 
 pub window_wants_something : (s : State) (t : ℕ) (c : CallValue) → IsEglCall s t CreateWindowSurface c → IsFaultlessWindow s c × (IsWindowUsed s c ⊎ (WantsWindowPixels s c ⊎ WantsNumber s)) → Answers s t c BadAlloc
 unfolding egl_refusal too_many
 window_wants_something s t c h w =
-    let f = window_facts s c in
-    let rows = wanting f.is_window_used (too_many s c) f.are_handles_used_up in
+    let f = facts_of s t c in
+    let rows = wanting f.is_window_used (too_many s t c) f.are_handles_used_up in
     reply_of_refusal s t CreateWindowSurface c BadAlloc h
     (first_refused c f CreateWindowSurface BadAlloc h.kind
-    (first_of BadAlloc (asking f ++ rows) (past_off (asking f) rows (asking_off s c w.0) ∙ any_holds f.is_window_used (too_many s c) f.are_handles_used_up (from_wants s c w.1))))
+    (first_of BadAlloc (asking f ++ rows) (past_off (asking f) rows (asking_off s t c w.0) ∙ any_holds f.is_window_used (too_many s t c) f.are_handles_used_up (from_wants s t c w.1))))

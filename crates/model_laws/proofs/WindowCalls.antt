@@ -29,19 +29,19 @@ use Rattle.egl_model.specs.declared.records.ThreadRecord.{ThreadRecord}
 use Rattle.egl_model.specs.Arguments.{number}
 use Rattle.egl_model.specs.Currents.{bound_surface, draw_storage, is_bound}
 use Rattle.egl_model.specs.EglCalls.{egl_refusal}
+use Rattle.egl_model.specs.Facts.{facts_of}
 use Rattle.model_laws.specs.Extents.{making, quiet}
 use Rattle.model_laws.specs.Full.{IsFull, IsWindow}
-use Rattle.egl_model.specs.Handles.{handle_at, with_handle}
+use Rattle.egl_model.specs.Handles.{with_handle}
 use Rattle.egl_model.specs.Objects.{as_surface, change_storage, with_image}
 use Rattle.egl_model.specs.Parts.{own_objects, put_own}
 use Rattle.model_laws.specs.Shapes.{shapes}
 use Rattle.model_laws.specs.Slots.{Sides}
 use Rattle.model_laws.specs.Sound.{front_sides, window_sides}
 use Rattle.egl_model.specs.State.{State, record_of}
-use Rattle.egl_model.specs.Surfaces.{surface_facts}
 use Rattle.egl_model.specs.Sweep.{live_bytes}
-use Rattle.egl_model.specs.Windows.{asks_for_single, back_of, created_window, draws_to, is_used_at, named_place, named_spec, one_at, surfaces_at, swap_facts, swapped, swapped_surface, swapped_with, undeclared, window_facts, window_objects}
-use Rattle.model_laws.proofs.Blinds.{blind-length, blind-live_bytes, blind-own_storage, blind-record, draw_alone}
+use Rattle.egl_model.specs.Windows.{asks_for_single, back_of, created_window, draws_to, is_used_at, named_place, named_spec, one_at, surfaces_at, swapped, swapped_surface, swapped_with, undeclared, window_objects}
+use Rattle.model_laws.proofs.Blinds.{blind-length, blind-own_storage, blind-record, draw_alone}
 use Rattle.model_laws.proofs.Keeps.{Acts, Blind, acts_of, acts_self, by_full_moves, by_quiet_moves}
 use Rattle.model_laws.proofs.Moves.{Add, Change, Name, Post}
 use Rattle.model_laws.proofs.NewObjects.{full-blank, with_own_pixels, without_pixels}
@@ -65,22 +65,14 @@ one-blind k (Some (Context c)) = refl
 one-blind k (Some (Storage v)) = refl
 one-blind k o = refl
 
-blind-used : (t : ℕ) (p : Option ℕ) (s : State) → Blind t s (λ a. is_used_at a.objects p)
+pub blind-used : (t : ℕ) (p : Option ℕ) (s : State) → Blind t s (λ a. is_used_at a.objects p)
 unfolding surfaces_at
 blind-used t None s w v x ne = refl
 blind-used t (Some k) s w v x ne = ap (ltb 0) (sum-written (λ o. option_map_or (one_at k) o 0) (one-blind k) (own_objects s v) x s.objects)
 
-pub blind-window_facts : (t : ℕ) (c : CallValue) (s : State) → Blind t s (λ a. window_facts a c)
-blind-window_facts t c s w v x ne =
-    ap (λ n. record (window_facts (put_own s v x) c) { live_bytes = n }) (blind-live_bytes t s w v x ne)
-    ∙ ap (λ b. record (window_facts s c) { is_window_used = b }) (blind-used t (named_place s c) s w v x ne)
-
-blind-draws_to : (t : ℕ) (h : Option Handle) (s : State) → Blind t s (λ a. draws_to a t h)
+pub blind-draws_to : (t : ℕ) (h : Option Handle) (s : State) → Blind t s (λ a. draws_to a t h)
 blind-draws_to t None s w v x ne = refl
 blind-draws_to t (Some h) s w v x ne = ap (λ (r : ThreadRecord). is_bound h.object r.draw) (blind-record t s w v x ne)
-
-pub blind-swap_facts : (t : ℕ) (c : CallValue) (s : State) → Blind t s (λ a. swap_facts a t c)
-blind-swap_facts t c s w v x ne = ap (λ b. record (surface_facts s c) { is_drawn_to = b }) (blind-draws_to t (handle_at s c 1 a_surface) s w v x ne)
 
 blind-bound : (t : ℕ) (b : Option Bound) (s : State) → Blind t s (λ a. bound_surface a b)
 blind-bound t None s w v x ne = refl
@@ -116,9 +108,9 @@ acts-window s t c h r =
     (λ w v x ne. ap (λ k. (k, (named_spec s c, named_place s c))) (blind-length t s w v x ne))
     (by_full_moves t s (Add new ∷ Name (number c 0) a_surface n ∷ []) (tt, (tt, tt))
     (λ f. let a = named_sides s c f in ((tt, (full-blank (format_of (signed c 1)) spec.w spec.h a.0 a.1, tt)), (tt, tt)))
-    (λ p. let a = (window_allowed c (window_facts s c) h r).room in omega (arith, a))
+    (λ p. let a = (window_allowed c (facts_of s t c) h r).room in omega (arith, a))
     (λ w. (
-      ((new_kind s.objects new 1 (n + 1) a_storage refl refl, tt), with_own_pixels _ (n + 0) _ (omega arith) (new_frozen s.objects new 1 (n + 0 + 1) (omega arith)) (new_sides s.objects new 1 (n + 0 + 1) (omega arith)) (spec_is_shown s c (window_allowed c (window_facts s c) h r).window), (tt, without_pixels _ (n + 1) _ refl refl, tt)),
+      ((new_kind s.objects new 1 (n + 1) a_storage refl refl, tt), with_own_pixels _ (n + 0) _ (omega arith) (new_frozen s.objects new 1 (n + 0 + 1) (omega arith)) (new_sides s.objects new 1 (n + 0 + 1) (omega arith)) (spec_is_shown s c (window_allowed c (facts_of s t c) h r).window), (tt, without_pixels _ (n + 1) _ refl refl, tt)),
       λ v. (new_kind s.objects new 0 n a_surface_kind (omega arith) refl, tt),
     )))
 

@@ -1,5 +1,5 @@
 -- What is left of an object's bindings and attachments where its name is deleted.
-use Rattle.std.specs.Prelude.{◌≡◌, ◌≢◌, ℕ, ℤ, Contains, List, Option, Some}
+use Rattle.std.specs.Prelude.{◌≡◌, ◌≢◌, ℕ, ℤ, Bool, true, false, Contains, List, Option, Some}
 use Rattle.std.specs.Option.{option_and_then}
 use Rattle.egl_calls.specs.Calls.{CallValue}
 use Rattle.egl_calls.specs.Ranges.{unsigned}
@@ -24,6 +24,12 @@ HasUnbound Framebuffer x c = c.bound.framebuffer ≢ Some x
 -- an object has one of the names of a kind that a call is given
 abbrev pub IsNamedBy : NameKind → State → ℕ → CallValue → ℕ → Type 0
 IsNamedBy k s n c x = (v : ℤ) × Contains c.list v × (object_named s (group_of s n) k (unsigned v) ≡ Some x)
+
+-- objects with names of this kind are attached to framebuffers
+abbrev pub is_attachable : NameKind → Bool
+is_attachable Texture = true
+is_attachable Renderbuffer = true
+is_attachable k = false
 
 -- a framebuffer has no object of this number attached
 abbrev pub HasDetached : ℕ → FramebufferValue → Type 0

@@ -1,12 +1,13 @@
 -- Draws on what is a thread's own, which may be made once its part is out.
-use Rattle.std.specs.Prelude.{◌≡◌, ℕ, Bool, true, false, not, ◌&&◌, ◌⊎◌, List, [], ◌∷◌, if◌then◌else◌, Option, None, Some, is_some}
+use Rattle.std.specs.Prelude.{◌≡◌, ℕ, pos, Bool, false, not, ◌&&◌, ◌⊎◌, List, [], ◌∷◌, if◌then◌else◌, Option, None, Some}
 use Rattle.std.specs.Option.{option_and_then, option_map}
 use Rattle.egl_calls.specs.Calls.{CallValue}
 use Rattle.egl_calls.specs.declared.errors.GlError.{GlError}
 use Rattle.egl_calls.specs.declared.errors.Outcome.TheVariants.{Done, Gl as RefusedGl}
 use Rattle.egl_calls.specs.declared.kinds.Kind.{Kind}
 use Rattle.egl_calls.specs.declared.kinds.Kind.TheVariants.{Gl}
-use Rattle.egl_calls.specs.declared.kinds.GlKind.TheVariants.{DrawTexi, DrawTexx}
+use Rattle.call_table.specs.Roles.{draws}
+use Rattle.call_table.specs.Rows.{gl_role}
 use Rattle.call_rules.specs.GlRules as gl_rules
 use Rattle.context_state.specs.Parts.{PartValue, noted}
 use Rattle.driver_objects.specs.Storages.{drawn_image}
@@ -15,11 +16,10 @@ use Rattle.pixel_rows.specs.declared.rects.Rect.{Rect}
 use Rattle.rect_pipeline.specs.Samplers.{SamplerValue}
 use Rattle.egl_model.specs.Currents.{current_context}
 use Rattle.egl_model.specs.Draws.{drawn_rect, sampler}
-use Rattle.egl_model.specs.GlCalls.{framebuffer_facts}
 use Rattle.egl_model.specs.Parts.{Own, Private, own_of, put_own}
 use Rattle.egl_model.specs.State.{State}
 use Rattle.egl_model.specs.Step.{Stepped, bare}
-use Rattle.model_laws.specs.Local.{has_framebuffer}
+use Rattle.model_laws.specs.Local.{facts_locally, has_framebuffer}
 
 -- a thread is among these
 abbrev pub IsOut : ℕ → List ℕ → Type 0
@@ -39,8 +39,7 @@ drawn_state s t f = put_own s t (drawn_own f (own_of s t))
 
 -- ---- Which draws may be late.
 abbrev pub is_draw : Kind → Bool
-is_draw (Gl DrawTexi) = true
-is_draw (Gl DrawTexx) = true
+is_draw (Gl k) = draws (gl_role k)
 is_draw k = false
 
 -- a context is current, and what it has bound is the framebuffer of the window system
@@ -54,13 +53,13 @@ is_late p c = is_draw c.kind && (not p.kept.waits && draws_to_surface p.own.cont
 
 -- without surfaces there is nothing to draw to (OES_surfaceless_context)
 abbrev pub late_refusal : Private → CallValue → Option GlError
-late_refusal p c = gl_rules.gl_refusal c (framebuffer_facts (is_some p.own.draw))
+late_refusal p c = gl_rules.gl_refusal c (facts_locally p)
 
 -- ---- What a late draw does.
 -- left, bottom, width and height in 16.16 fixed point
 abbrev pub late_rect : Kind → CallValue → Rect
 late_rect (Gl k) c = drawn_rect k c
-late_rect k c = drawn_rect DrawTexx c
+late_rect k c = record { x = pos 0; y = pos 0; w = pos 0; h = pos 0 }
 
 -- what is sampled where GL_TEXTURE_2D is enabled
 abbrev pub sampled_by : Option PartValue → Option SamplerValue → Option SamplerValue

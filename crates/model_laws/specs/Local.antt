@@ -8,14 +8,16 @@ use Rattle.egl_calls.specs.declared.kinds.Kind.TheVariants.{Egl, Gl, Own as OwnC
 use Rattle.egl_calls.specs.declared.kinds.EglKind.{EglKind}
 use Rattle.egl_calls.specs.declared.kinds.EglKind.TheVariants.{GetError as EglGetError, GetDisplay, GetCurrentContext, BindApi, QueryApi, GetCurrentSurface, GetCurrentDisplay}
 use Rattle.egl_calls.specs.declared.kinds.GlKind.{GlKind}
-use Rattle.egl_calls.specs.declared.kinds.GlKind.TheVariants.{Clear, ReadPixels}
 use Rattle.egl_calls.specs.declared.errors.EglError.{EglError}
 use Rattle.egl_calls.specs.declared.errors.EglError.TheVariants.{Success}
 use Rattle.egl_calls.specs.declared.errors.GlError.{GlError}
 use Rattle.egl_calls.specs.declared.errors.Outcome.TheVariants.{Done, InWait, Egl as RefusedEgl, Gl as RefusedGl}
+use Rattle.call_table.specs.Roles.{is_own_state, takes_pixels}
+use Rattle.call_table.specs.Rows.{egl_role, gl_role}
+use Rattle.call_table.specs.declared.roles.Role.{Role}
+use Rattle.call_table.specs.declared.roles.Role.TheVariants.{Clears, ReadsPixels}
 use Rattle.context_state.specs.Parts.{PartValue, noted}
 use Rattle.context_state.specs.Kinds.{context_gl_call}
-use Rattle.context_state.specs.declared.kinds.ContextCall.{ContextCall}
 use Rattle.context_state.specs.Calls.{apply}
 use Rattle.pixel_rows.specs.Images.{ImageValue}
 use Rattle.pixel_rows.specs.Transfers.{row_bytes}
@@ -29,7 +31,6 @@ use Rattle.egl_model.specs.Arguments.{number}
 use Rattle.egl_model.specs.State.{api_code}
 use Rattle.egl_model.specs.Displays as displays
 use Rattle.egl_model.specs.Drawing.{clears_colour, read_form, read_rect}
-use Rattle.egl_model.specs.GlCalls.{framebuffer_facts}
 use Rattle.call_rules.specs.GlRules as gl_rules
 use Rattle.call_rules.specs.GlRules.{no_gl_facts}
 use Rattle.call_rules.specs.declared.gl_facts.GlFacts.{GlFacts}
@@ -38,23 +39,14 @@ use Rattle.egl_model.specs.Parts.{Own, Private}
 
 -- ---- Marks.
 abbrev pub is_local_egl : EglKind → Bool
-is_local_egl EglGetError = true
-is_local_egl GetDisplay = true
-is_local_egl GetCurrentContext = true
-is_local_egl BindApi = true
-is_local_egl QueryApi = true
-is_local_egl GetCurrentSurface = true
-is_local_egl GetCurrentDisplay = true
-is_local_egl k = false
+is_local_egl k = is_own_state (egl_role k)
 
 abbrev pub is_local_gl : GlKind → Bool
 is_local_gl k = is_some (context_gl_call k)
 
 -- local where no context is current, or the framebuffer of the window system is bound
 abbrev pub is_local_unbound : GlKind → Bool
-is_local_unbound Clear = true
-is_local_unbound ReadPixels = true
-is_local_unbound k = false
+is_local_unbound k = takes_pixels (gl_role k)
 
 abbrev pub has_framebuffer : PartValue → Bool
 has_framebuffer p = not (p.bound.framebuffer == 0)
@@ -121,14 +113,14 @@ read_image p = if p.kept.same then p.own.draw else p.own.read
 abbrev pub read_locally : Private → PartValue → CallValue → List ℕ
 read_locally p q c = option_map_or (λ i. row_bytes i (read_rect c) (read_form c) q.pack_alignment) (read_image p) []
 
-abbrev pub object_locally : Private → PartValue → GlKind → CallValue → LocalEffect
-object_locally p q Clear c = leaves (pos 0) (cleared_locally p.own q c)
-object_locally p q ReadPixels c = record { value = pos 0; list = []; bytes = read_locally p q c; own = p.own }
-object_locally p q k c = leaves (pos 0) p.own
+abbrev pub object_locally : Role → Private → PartValue → CallValue → LocalEffect
+object_locally Clears p q c = leaves (pos 0) (cleared_locally p.own q c)
+object_locally ReadsPixels p q c = record { value = pos 0; list = []; bytes = read_locally p q c; own = p.own }
+object_locally r p q c = leaves (pos 0) p.own
 
-abbrev pub locally_by : Option ContextCall → Private → PartValue → GlKind → CallValue → LocalEffect
+abbrev pub locally_by : Option GlKind → Private → PartValue → GlKind → CallValue → LocalEffect
 locally_by (Some own) p q k c = applied_locally p.own q c
-locally_by None p q k c = object_locally p q k c
+locally_by None p q k c = object_locally (gl_role k) p q c
 
 abbrev pub gl_locally : Private → PartValue → GlKind → CallValue → LocalEffect
 gl_locally p q k c = locally_by (context_gl_call k) p q k c
@@ -137,15 +129,13 @@ abbrev pub after_rules : Own → PartValue → Option GlError → LocalEffect �
 after_rules x q (Some e) f = record { reply = bare (RefusedGl e); own = record x { context = Some (noted e q) } }
 after_rules x q None f = record { reply = record { outcome = Done; value = f.value; list = f.list; bytes = f.bytes }; own = f.own }
 
--- what glClear and glReadPixels are judged by; no other local call of OpenGL ES asks for a fact
-abbrev pub facts_locally : Private → GlKind → GlFacts
-facts_locally p Clear = framebuffer_facts (is_some p.own.draw)
-facts_locally p ReadPixels = framebuffer_facts (is_some p.own.draw)
-facts_locally p k = no_gl_facts
+-- what a local call of OpenGL ES is judged by: glClear and glReadPixels ask whether there are pixels, and no other one asks for a fact
+abbrev pub facts_locally : Private → GlFacts
+facts_locally p = record no_gl_facts { is_framebuffer_complete = is_some p.own.draw }
 
 abbrev pub gl_with : Private → Option PartValue → GlKind → CallValue → Locally
 gl_with p None k c = record { reply = bare Done; own = p.own }
-gl_with p (Some q) k c = after_rules p.own q (gl_rules.gl_refusal c (facts_locally p k)) (gl_locally p q k c)
+gl_with p (Some q) k c = after_rules p.own q (gl_rules.gl_refusal c (facts_locally p)) (gl_locally p q k c)
 
 abbrev pub by_kind : Private → Kind → CallValue → Locally
 by_kind p (Egl k) c = egl_locally p (local_refusal c) (egl_value p k c)

@@ -9,19 +9,18 @@ use Rattle.egl_calls.specs.Arguments.{signed}
 use Rattle.egl_names.specs.declared.codes.TheConstants.{EGL_SYNC_FENCE}
 use Rattle.attrib_lists.specs.declared.allowed.Allowed.TheVariants.{Window}
 use Rattle.config_match.specs.Table.{is_config}
-use Rattle.call_rules.specs.EglAllowed.{ContextAsked, HasDisplay, ImageAsked, PbufferAsked}
+use Rattle.call_rules.specs.EglAllowed.{ContextAsked, ImageAsked, PbufferAsked}
 use Rattle.call_rules.specs.EglRules.{has_attributes, has_code}
 use Rattle.egl_model.specs.State.{State}
 use Rattle.egl_model.specs.Arguments.{number}
 use Rattle.egl_model.specs.Configs.{is_list_allowed}
-use Rattle.egl_model.specs.Contexts.{context_facts}
 use Rattle.egl_model.specs.Currents.{current_context, display_at}
-use Rattle.egl_model.specs.Displays.{display_facts}
+use Rattle.egl_model.specs.Displays.{is_display, is_initialized}
 use Rattle.driver_objects.specs.declared.surfaces.BackedSurface.{BackedSurface}
-use Rattle.egl_model.specs.Images.{new_image_facts}
 use Rattle.egl_model.specs.Objects.{surface_in}
 use Rattle.egl_model.specs.Windows.{is_window_config, named_place, named_spec}
-use Rattle.egl_model.specs.Surfaces.{asked_height, asked_width, asks_for_largest, surface_bytes, pbuffer_facts, side_of}
+use Rattle.egl_model.specs.Surfaces.{asked_height, asked_width, asks_for_largest, surface_bytes, side_of}
+use Rattle.egl_model.specs.Facts.{facts_of}
 use Rattle.egl_model.specs.Renderbuffers.{renderbuffer_bytes}
 use Rattle.egl_model.specs.Sweep.{live_bytes}
 use Rattle.egl_model.specs.Step.{bare, step}
@@ -36,18 +35,19 @@ abbrev pub AnswersGl : State → ℕ → CallValue → GlError → Type 0
 AnswersGl s t c e = (step s t c).reply ≡ bare (RefusedGl e)
 
 -- nothing is wrong with what the call asks for
-abbrev pub IsFaultlessPbuffer : State → CallValue → Type 0
-IsFaultlessPbuffer s c = PbufferAsked (pbuffer_facts s c)
+abbrev pub IsFaultlessPbuffer : State → ℕ → CallValue → Type 0
+IsFaultlessPbuffer s t c = PbufferAsked (facts_of s t c)
 
-abbrev pub IsFaultlessContext : State → CallValue → Type 0
-IsFaultlessContext s c = ContextAsked (context_facts s c)
+abbrev pub IsFaultlessContext : State → ℕ → CallValue → Type 0
+IsFaultlessContext s t c = ContextAsked (facts_of s t c)
 
-abbrev pub IsFaultlessImage : State → CallValue → Type 0
-IsFaultlessImage s c = ImageAsked c (new_image_facts s c)
+abbrev pub IsFaultlessImage : State → ℕ → CallValue → Type 0
+IsFaultlessImage s t c = ImageAsked c (facts_of s t c)
 
 -- the config has windows, the list is allowed, and the window is declared
 pub record IsFaultlessWindow (s : State) (c : CallValue) : Type 0 where
-  pub on : HasDisplay (display_facts s c)
+  pub display : is_display (number c DISPLAY) ≡ true
+  pub initialized : is_initialized s (number c DISPLAY) ≡ true
   pub config : is_config (signed c CONFIG) ≡ true
   pub list : is_list_allowed Window c ≡ true
   pub windows : is_window_config (signed c CONFIG) ≡ true
@@ -55,7 +55,8 @@ pub record IsFaultlessWindow (s : State) (c : CallValue) : Type 0 where
 
 -- a fence without attributes, and a context of the display is current to the thread
 pub record IsFaultlessSync (s : State) (t : ℕ) (c : CallValue) : Type 0 where
-  pub on : HasDisplay (display_facts s c)
+  pub display : is_display (number c DISPLAY) ≡ true
+  pub initialized : is_initialized s (number c DISPLAY) ≡ true
   pub fence : has_code c SYNC_TYPE EGL_SYNC_FENCE ≡ true
   pub list : has_attributes c ≡ false
   pub current : is_some (current_context s t) ≡ true

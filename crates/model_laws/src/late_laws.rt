@@ -24,7 +24,7 @@ pub fn a_late_draw_is_told_by_the_part()
     ensures { (s : State) (t : ℕ) (c : CallValue) → IsReady s t → is_late (part_of s t) c ≡ true → step s t c ≡ late_step s t c (late_refusal (part_of s t) c) }
 {}
 
-/// What it samples is there while the parts of other threads are out.
+/// What a late draw samples is there while the parts of other threads are out.
 pub fn a_late_draw_samples_what_is_seen()
     ensures { (s : State) (t : ℕ) (c : CallValue) (out : List ℕ) → IsReady s t → IsNone t out → late_sampler (hide out s) t c ≡ late_sampler s t c }
 {}

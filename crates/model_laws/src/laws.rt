@@ -1,7 +1,7 @@
 //! What is true of every sweep, step and history: the contracts of functions that do nothing.
 ghost use Rattle.std.specs.Prelude.{◌≡◌, ◌≢◌, ◌<◌, ◌+◌, ◌⊎◌, ◌↔◌, ℕ, ℤ, pos, ◌&&◌, ◌==◌, true, false, All, AllPairs, ◌≤◌, if◌then◌else◌, length, List, ◌++◌, None, Some, Contains, IfSome, is_some};
 ghost use Rattle.display_table.specs.declared.handles.Handle.{Handle};
-ghost use Rattle.model_laws.specs.Deleted.{HasDetached, HasUnbound, IsNamedBy, attached_at};
+ghost use Rattle.model_laws.specs.Deleted.{HasDetached, HasUnbound, IsNamedBy, attached_at, is_attachable};
 ghost use Rattle.framebuffer_objects.specs.Framebuffers.{FramebufferValue as AFramebuffer, at_point, object_of as object_attached};
 ghost use Rattle.framebuffer_objects.specs.declared.points.Point.{Point as APoint};
 ghost use Rattle.egl_model.specs.Framebuffers.{target_framebuffer};
@@ -15,7 +15,7 @@ ghost use Rattle.egl_calls.specs.declared.kinds.Kind.TheVariants.{Egl, Own};
 ghost use Rattle.egl_calls.specs.declared.kinds.EglKind.{EglKind};
 ghost use Rattle.egl_calls.specs.declared.kinds.EglKind.TheVariants.{Initialize, Terminate, CreatePbufferSurface, CreateContext, ReleaseThread, CreateWindowSurface, CreateSync, ClientWaitSync, CreateImage, DestroyImage};
 ghost use Rattle.egl_calls.specs.declared.kinds.GlKind.{GlKind};
-ghost use Rattle.egl_calls.specs.declared.kinds.GlKind.TheVariants.{CopyTexImage2d, DeleteTextures, TexImage2d, BufferData, DeleteBuffers, DeleteRenderbuffers, DeleteFramebuffers, RenderbufferStorage, ImageTargetTexture2d, ImageTargetRenderbufferStorage};
+ghost use Rattle.egl_calls.specs.declared.kinds.GlKind.TheVariants.{CopyTexImage2d, TexImage2d, BufferData, RenderbufferStorage, ImageTargetTexture2d, ImageTargetRenderbufferStorage};
 ghost use Rattle.egl_calls.specs.Ranges.{unsigned};
 ghost use Rattle.egl_calls.specs.declared.kinds.OwnKind.{OwnKind};
 ghost use Rattle.egl_calls.specs.declared.kinds.OwnKind.TheVariants.{ReadBuffer, WaitEnd};
@@ -53,12 +53,15 @@ ghost use Rattle.driver_objects.specs.Storages.{StorageValue};
 ghost use Rattle.driver_objects.specs.declared.contexts.Context.{Context as AContext};
 ghost use Rattle.driver_objects.specs.declared.textures.BackedTexture.{BackedTexture};
 ghost use Rattle.share_group.specs.Names.{is_used};
-ghost use Rattle.share_group.specs.declared.names.NameKind.TheVariants.{Texture as a_texture_name, Buffer as a_buffer_name, Renderbuffer as a_renderbuffer_name, Framebuffer as a_framebuffer_name};
+ghost use Rattle.share_group.specs.declared.names.NameKind.{NameKind as ANameKind};
+ghost use Rattle.call_table.specs.Rows.{gl_role};
+ghost use Rattle.call_table.specs.declared.roles.Role.TheVariants.{Deletes};
 ghost use Rattle.model_laws.specs.Shapes.{shapes};
 ghost use Rattle.driver_objects.specs.declared.fences.Fence.{Fence as AFence};
 ghost use Rattle.driver_objects.specs.declared.kinds.ObjectKind.TheVariants.{Context as ContextKind};
 ghost use Rattle.egl_model.specs.EglCalls.{egl_refusal};
-ghost use Rattle.egl_model.specs.GlCalls.{copy_facts, gl_refusal, data_facts, storage_facts};
+ghost use Rattle.egl_model.specs.GlCalls.{gl_refusal};
+ghost use Rattle.egl_model.specs.GlFacts.{gl_facts_of};
 ghost use Rattle.egl_model.specs.Step.{bare, done, note_error, step};
 ghost use Rattle.egl_model.specs.Waits.{ended, is_signalled};
 ghost use Rattle.egl_model.specs.Windows.{back_of, created_window, front_of};
@@ -120,7 +123,7 @@ pub fn an_object_exists_exactly_where_it_is_held()
     ensures { (windows : List WindowSpec) → windows_ok windows ≡ true → (video : ℕ) (entries : List Entry) (n : ℕ) → (has_object (replay_from (opening windows video) entries) n ≡ true) ↔ IsHeld (replay_from (opening windows video) entries) n }
 {}
 
-/// Handles name objects of their kind; a context and surfaces are current to threads; a context has a group and a texture, and a surface a storage. So it's before the first call, and after a step wherever it was so before.
+/// Handles name objects of their kind; a context and surfaces are current to threads; a context has a group and a texture, and a surface a storage. Holds before the first call, and is preserved by every step.
 pub fn names_lead_to_objects_of_their_kind()
     ensures opening { (windows : List WindowSpec) → windows_ok windows ≡ true → (video : ℕ) → let s = opening windows video in KindsFit (shapes s.objects) s }
     ensures step { (s : State) (t : ℕ) (c : CallValue) → IsSound s → let a = (step s t c).state in KindsFit (shapes a.objects) a }
@@ -290,8 +293,8 @@ pub fn a_reply_tells_its_refusal()
 
 /// eglCreatePbufferSurface answers EGL_BAD_ALLOC exactly where nothing else is wrong, and a side is too large, or the pixels that live before the call and the new ones are too many, or no number is left for its handle (EGL 1.5, section 3.5.2).
 pub fn a_pbuffer_wants_size_pixels_or_a_number()
-    ensures faultless { (s : State) (t : ℕ) (c : CallValue) → IsEglCall s t CreatePbufferSurface c → Answers s t c BadAlloc → IsFaultlessPbuffer s c }
-    ensures wants { (s : State) (t : ℕ) (c : CallValue) → IsEglCall s t CreatePbufferSurface c → IsFaultlessPbuffer s c → Answers s t c BadAlloc ↔ (AsksTooLarge c ⊎ (WantsVideo s c ⊎ WantsNumber s)) }
+    ensures faultless { (s : State) (t : ℕ) (c : CallValue) → IsEglCall s t CreatePbufferSurface c → Answers s t c BadAlloc → IsFaultlessPbuffer s t c }
+    ensures wants { (s : State) (t : ℕ) (c : CallValue) → IsEglCall s t CreatePbufferSurface c → IsFaultlessPbuffer s t c → Answers s t c BadAlloc ↔ (AsksTooLarge c ⊎ (WantsVideo s c ⊎ WantsNumber s)) }
 {}
 
 /// glTexImage2D answers GL_OUT_OF_MEMORY exactly where nothing is wrong with its own numbers and the pixels that live before the call and the new ones are too many (OpenGL ES 1.1, section 3.7.1).
@@ -301,17 +304,17 @@ pub fn an_image_wants_pixels()
 
 /// glCopyTexImage2D answers GL_OUT_OF_MEMORY exactly where nothing else is wrong with it and the pixels that live before the call and the new ones are too many (section 3.7.2).
 pub fn a_copy_wants_pixels()
-    ensures { (s : State) (t n : ℕ) (c : CallValue) → IsGlCall s t CopyTexImage2d c → current_context s t ≡ Some n → AnswersGl s t c OutOfMemory ↔ (CopyAsked c (copy_facts s t c) × WantsCopy s c) }
+    ensures { (s : State) (t n : ℕ) (c : CallValue) → IsGlCall s t CopyTexImage2d c → current_context s t ≡ Some n → AnswersGl s t c OutOfMemory ↔ (CopyAsked c (gl_facts_of s t n c) × WantsCopy s c) }
 {}
 
 /// glBufferData answers GL_OUT_OF_MEMORY exactly where nothing else is wrong and the bytes that live before the call and the new ones are too many (section 2.9).
 pub fn a_buffer_wants_bytes()
-    ensures { (s : State) (t n : ℕ) (c : CallValue) → IsGlCall s t BufferData c → current_context s t ≡ Some n → AnswersGl s t c OutOfMemory ↔ (DataAsked c (data_facts s n c) × WantsData s c) }
+    ensures { (s : State) (t n : ℕ) (c : CallValue) → IsGlCall s t BufferData c → current_context s t ≡ Some n → AnswersGl s t c OutOfMemory ↔ (DataAsked c (gl_facts_of s t n c) × WantsData s c) }
 {}
 
 /// glRenderbufferStorageOES answers GL_OUT_OF_MEMORY exactly where nothing else is wrong and the pixels that live before the call and the new ones are too many (OES_framebuffer_object).
 pub fn a_renderbuffer_wants_pixels()
-    ensures { (s : State) (t n : ℕ) (c : CallValue) → IsGlCall s t RenderbufferStorage c → current_context s t ≡ Some n → AnswersGl s t c OutOfMemory ↔ (StorageAsked c (storage_facts s n c) × WantsStorage s c) }
+    ensures { (s : State) (t n : ℕ) (c : CallValue) → IsGlCall s t RenderbufferStorage c → current_context s t ≡ Some n → AnswersGl s t c OutOfMemory ↔ (StorageAsked c (gl_facts_of s t n c) × WantsStorage s c) }
 {}
 
 /// A glTexImage2D or a glCopyTexImage2D gives one level of one texture: each other level of a texture that is still there has the storage that it had, and each storage that is still there is as it was (sections 3.7.1 and 3.7.2).
@@ -346,36 +349,25 @@ pub fn siblings_keep_their_pixels()
     ensures renderbuffer { (s : State) (t n : ℕ) (c : CallValue) → IsAllowedGl s t n ImageTargetRenderbufferStorage c → LeavesSiblings s (step s t c).state (target_renderbuffer s n) }
 {}
 
-/// A name that a glDeleteTextures, a glDeleteBuffers, a glDeleteRenderbuffersOES or a glDeleteFramebuffersOES is given is free at once, whoever still has its object bound (sections 3.7.11 and 2.9; OES_framebuffer_object). The object is gone with the last reference to it, as each object is.
+/// A name that a call is given which deletes names (a glDeleteTextures, a glDeleteBuffers, a glDeleteRenderbuffersOES or a glDeleteFramebuffersOES) is free at once, whoever still has its object bound (sections 3.7.11 and 2.9; OES_framebuffer_object). The object is gone with the last reference to it, as each object is.
 pub fn a_deleted_name_is_free()
-    ensures textures { (s : State) (t n : ℕ) (c : CallValue) (x : ℤ) → IsAllowedGl s t n DeleteTextures c → Contains c.list x → is_used (unsigned x) (names_in (step s t c).state (group_of s n) a_texture_name) ≡ false }
-    ensures buffers { (s : State) (t n : ℕ) (c : CallValue) (x : ℤ) → IsAllowedGl s t n DeleteBuffers c → Contains c.list x → is_used (unsigned x) (names_in (step s t c).state (group_of s n) a_buffer_name) ≡ false }
-    ensures renderbuffers { (s : State) (t n : ℕ) (c : CallValue) (x : ℤ) → IsAllowedGl s t n DeleteRenderbuffers c → Contains c.list x → is_used (unsigned x) (names_in (step s t c).state (group_of s n) a_renderbuffer_name) ≡ false }
-    ensures framebuffers { (s : State) (t n : ℕ) (c : CallValue) (x : ℤ) → IsAllowedGl s t n DeleteFramebuffers c → Contains c.list x → is_used (unsigned x) (names_in (step s t c).state (group_of s n) a_framebuffer_name) ≡ false }
+    ensures { (s : State) (t n : ℕ) (k : GlKind) (names : ANameKind) (c : CallValue) (x : ℤ) → gl_role k ≡ Deletes names → IsAllowedGl s t n k c → Contains c.list x → is_used (unsigned x) (names_in (step s t c).state (group_of s n) names) ≡ false }
 {}
 
-/// The object of a name that a glDeleteTextures, a glDeleteBuffers, a glDeleteRenderbuffersOES or a glDeleteFramebuffersOES is given isn't bound in the caller's context any more (sections 3.7.11 and 2.9; OES_framebuffer_object).
+/// The object of a name that such a call is given isn't bound in the caller's context any more (sections 3.7.11 and 2.9; OES_framebuffer_object).
 pub fn a_deleted_object_is_unbound()
-    ensures textures { (s : State) (t n x : ℕ) (c : CallValue) (v : ℤ) → IsAllowedGl s t n DeleteTextures c → Contains c.list v → object_named s (group_of s n) a_texture_name (unsigned v) ≡ Some x → IfSome (context_in (step s t c).state.objects n) (HasUnbound a_texture_name x) }
-    ensures buffers { (s : State) (t n x : ℕ) (c : CallValue) (v : ℤ) → IsAllowedGl s t n DeleteBuffers c → Contains c.list v → object_named s (group_of s n) a_buffer_name (unsigned v) ≡ Some x → IfSome (context_in (step s t c).state.objects n) (HasUnbound a_buffer_name x) }
-    ensures renderbuffers { (s : State) (t n x : ℕ) (c : CallValue) (v : ℤ) → IsAllowedGl s t n DeleteRenderbuffers c → Contains c.list v → object_named s (group_of s n) a_renderbuffer_name (unsigned v) ≡ Some x → IfSome (context_in (step s t c).state.objects n) (HasUnbound a_renderbuffer_name x) }
-    ensures framebuffers { (s : State) (t n x : ℕ) (c : CallValue) (v : ℤ) → IsAllowedGl s t n DeleteFramebuffers c → Contains c.list v → object_named s (group_of s n) a_framebuffer_name (unsigned v) ≡ Some x → IfSome (context_in (step s t c).state.objects n) (HasUnbound a_framebuffer_name x) }
+    ensures { (s : State) (t n x : ℕ) (k : GlKind) (names : ANameKind) (c : CallValue) (v : ℤ) → gl_role k ≡ Deletes names → IsAllowedGl s t n k c → Contains c.list v → object_named s (group_of s n) names (unsigned v) ≡ Some x → IfSome (context_in (step s t c).state.objects n) (HasUnbound names x) }
 {}
 
-/// The texture or renderbuffer of a name that a glDeleteTextures or a glDeleteRenderbuffersOES is given isn't attached any more to the framebuffer that the caller has bound (OES_framebuffer_object). Whatever else is attached there, and all that is attached to each other framebuffer, stays: that of another context too, and one that isn't bound.
+/// The texture or renderbuffer of a name that such a call is given isn't attached any more to the framebuffer that the caller has bound (OES_framebuffer_object). Whatever else is attached there, and all that is attached to each other framebuffer, stays: that of another context too, and one that isn't bound.
 pub fn a_deleted_object_is_detached()
-    ensures textures { (s : State) (t n x b : ℕ) (c : CallValue) → IsAllowedGl s t n DeleteTextures c → IsNamedBy a_texture_name s n c x → target_framebuffer s n ≡ Some b → IfSome (framebuffer_in (step s t c).state.objects b) (HasDetached x) }
-    ensures renderbuffers { (s : State) (t n x b : ℕ) (c : CallValue) → IsAllowedGl s t n DeleteRenderbuffers c → IsNamedBy a_renderbuffer_name s n c x → target_framebuffer s n ≡ Some b → IfSome (framebuffer_in (step s t c).state.objects b) (HasDetached x) }
-    ensures others_than_textures { (s : State) (t n m : ℕ) (p : APoint) (f : AFramebuffer) (c : CallValue) → IsAllowedGl s t n DeleteTextures c → (target_framebuffer s n ≡ Some m → (x : ℕ) → IsNamedBy a_texture_name s n c x → object_attached (attached_at s.objects m p) ≢ Some x) → framebuffer_in (step s t c).state.objects m ≡ Some f → at_point p f ≡ attached_at s.objects m p }
-    ensures others_than_renderbuffers { (s : State) (t n m : ℕ) (p : APoint) (f : AFramebuffer) (c : CallValue) → IsAllowedGl s t n DeleteRenderbuffers c → (target_framebuffer s n ≡ Some m → (x : ℕ) → IsNamedBy a_renderbuffer_name s n c x → object_attached (attached_at s.objects m p) ≢ Some x) → framebuffer_in (step s t c).state.objects m ≡ Some f → at_point p f ≡ attached_at s.objects m p }
+    ensures detached { (s : State) (t n x b : ℕ) (k : GlKind) (names : ANameKind) (c : CallValue) → gl_role k ≡ Deletes names → is_attachable names ≡ true → IsAllowedGl s t n k c → IsNamedBy names s n c x → target_framebuffer s n ≡ Some b → IfSome (framebuffer_in (step s t c).state.objects b) (HasDetached x) }
+    ensures others { (s : State) (t n m : ℕ) (k : GlKind) (names : ANameKind) (p : APoint) (f : AFramebuffer) (c : CallValue) → gl_role k ≡ Deletes names → is_attachable names ≡ true → IsAllowedGl s t n k c → (target_framebuffer s n ≡ Some m → (x : ℕ) → IsNamedBy names s n c x → object_attached (attached_at s.objects m p) ≢ Some x) → framebuffer_in (step s t c).state.objects m ≡ Some f → at_point p f ≡ attached_at s.objects m p }
 {}
 
 /// Each other context that is still there is as it was, and so has bound what it had.
 pub fn a_deletion_leaves_other_contexts()
-    ensures textures { (s : State) (t n m : ℕ) (c : CallValue) (y : AContext) → IsAllowedGl s t n DeleteTextures c → m ≢ n → context_in (step s t c).state.objects m ≡ Some y → context_in s.objects m ≡ Some y }
-    ensures buffers { (s : State) (t n m : ℕ) (c : CallValue) (y : AContext) → IsAllowedGl s t n DeleteBuffers c → m ≢ n → context_in (step s t c).state.objects m ≡ Some y → context_in s.objects m ≡ Some y }
-    ensures renderbuffers { (s : State) (t n m : ℕ) (c : CallValue) (y : AContext) → IsAllowedGl s t n DeleteRenderbuffers c → m ≢ n → context_in (step s t c).state.objects m ≡ Some y → context_in s.objects m ≡ Some y }
-    ensures framebuffers { (s : State) (t n m : ℕ) (c : CallValue) (y : AContext) → IsAllowedGl s t n DeleteFramebuffers c → m ≢ n → context_in (step s t c).state.objects m ≡ Some y → context_in s.objects m ≡ Some y }
+    ensures { (s : State) (t n m : ℕ) (k : GlKind) (names : ANameKind) (c : CallValue) (y : AContext) → gl_role k ≡ Deletes names → IsAllowedGl s t n k c → m ≢ n → context_in (step s t c).state.objects m ≡ Some y → context_in s.objects m ≡ Some y }
 {}
 
 /// glCheckFramebufferStatusOES tells the first status that holds of a framebuffer object, each exactly where it does (OES_framebuffer_object, "Framebuffer Completeness"): something may not stand where it is attached; nothing is attached; two of what is attached have different sides; no colour is attached; else it is complete. The window system's framebuffer is complete where the thread has a surface, and undefined where it has none (OES_surfaceless_context).
@@ -391,8 +383,8 @@ pub fn a_status_tells_what_is_attached()
 
 /// eglCreateContext answers EGL_BAD_ALLOC exactly where nothing else is wrong, and no number is left for its handle (section 3.7.1).
 pub fn a_context_wants_a_number()
-    ensures faultless { (s : State) (t : ℕ) (c : CallValue) → IsEglCall s t CreateContext c → Answers s t c BadAlloc → IsFaultlessContext s c }
-    ensures wants { (s : State) (t : ℕ) (c : CallValue) → IsEglCall s t CreateContext c → IsFaultlessContext s c → Answers s t c BadAlloc ↔ WantsNumber s }
+    ensures faultless { (s : State) (t : ℕ) (c : CallValue) → IsEglCall s t CreateContext c → Answers s t c BadAlloc → IsFaultlessContext s t c }
+    ensures wants { (s : State) (t : ℕ) (c : CallValue) → IsEglCall s t CreateContext c → IsFaultlessContext s t c → Answers s t c BadAlloc ↔ WantsNumber s }
 {}
 
 /// eglCreateWindowSurface answers EGL_BAD_ALLOC only where nothing else is wrong, and then exactly where a surface shows in the window, its pixels and those that live are too many, or the numbers of handles are used up (EGL 1.5, section 3.5.1).
@@ -409,8 +401,8 @@ pub fn a_sync_wants_a_number()
 
 /// eglCreateImage answers EGL_BAD_ALLOC only where nothing else is wrong, and then exactly where the numbers of handles are used up (section 3.9): an image shares the pixels that it is made of.
 pub fn an_image_wants_a_number()
-    ensures faultless { (s : State) (t : ℕ) (c : CallValue) → IsEglCall s t CreateImage c → Answers s t c BadAlloc → IsFaultlessImage s c }
-    ensures wants { (s : State) (t : ℕ) (c : CallValue) → IsEglCall s t CreateImage c → IsFaultlessImage s c → Answers s t c BadAlloc ↔ WantsNumber s }
+    ensures faultless { (s : State) (t : ℕ) (c : CallValue) → IsEglCall s t CreateImage c → Answers s t c BadAlloc → IsFaultlessImage s t c }
+    ensures wants { (s : State) (t : ℕ) (c : CallValue) → IsEglCall s t CreateImage c → IsFaultlessImage s t c → Answers s t c BadAlloc ↔ WantsNumber s }
 {}
 
 /// An eglClientWaitSync that no rule refuses is satisfied exactly where the sync is signalled, or where the call asks for a flush and the sync was made in the thread's current context: a flush signals just these. Else it waits where its timeout is for ever, and where it isn't its time is over at once (section 3.8.1.1). The thread then waits for that sync, and for none where the call doesn't wait.
@@ -437,7 +429,7 @@ pub fn all_pixels_fit()
     ensures history { (windows : List WindowSpec) → windows_ok windows ≡ true → (video : ℕ) (entries : List Entry) → PixelsFit (replay_from (opening windows video) entries) }
 {}
 
-/// The state is sound before the first call, after a step wherever it was so before, and so in each history: no object is litter and no reference leads nowhere; a context or a surface is current to at most one thread, and a thread has both surfaces and a context or none (EGL 1.5, section 3.7.3); each valid or bound handle's number is below the next one, and no two valid handles have one; each surface has a storage of its own; and all pixels fit.
+/// The state is sound before the first call, after a step wherever it was so before, and so in each history: no object is litter and no reference leads nowhere; a context or a surface is current to at most one thread (EGL 1.5, section 3.7.3). A thread has both surfaces or none, and a context wherever it has surfaces. Each valid or bound handle's number is below the next one, and no two valid handles have one; each surface has a storage of its own; and all pixels fit.
 pub fn the_state_is_sound()
     ensures opening { (windows : List WindowSpec) → windows_ok windows ≡ true → (video : ℕ) → IsSound (opening windows video) }
     ensures step { (s : State) (t : ℕ) (c : CallValue) → IsSound s → IsSound (step s t c).state }

@@ -68,6 +68,16 @@ fn counted<'a>(word: &str, text: &'a str) -> Result<(u64, &'a str)> {
     Ok((count, line))
 }
 
+impl Example {
+    /// Whether it is a log, whose answers stand in its lines.
+    fn is_log(&self) -> bool {
+        match &self.command {
+            Some(command) => command.as_str().starts_with("judge"),
+            None => false,
+        }
+    }
+}
+
 impl Draft {
     pub fn new(alloc: Global) -> Result<Draft> {
         let output = String::from_str(alloc, "recording\n")?;
@@ -100,7 +110,10 @@ impl Draft {
     /// Adds a line so many times; or once, with its last byte so many times.
     fn add_counted(&mut self, word: &str, text: &str) -> Result<()> {
         let (count, line) = counted(word, text)?;
-        ensure!(parted(line).1.is_none(), "a `{word}` has no answer");
+        ensure!(
+            self.example.is_log() || parted(line).1.is_none(),
+            "a `{word}` has no answer"
+        );
         if word == "repeat" {
             for _ in 0..count {
                 self.put_line(line)?;
@@ -122,6 +135,9 @@ impl Draft {
         }
         if let Some(text) = line.strip_prefix("long ") {
             return self.add_counted("long", text);
+        }
+        if self.example.is_log() {
+            return self.put_line(line);
         }
         let (call, answer) = parted(line);
         if let Some(answer) = answer {

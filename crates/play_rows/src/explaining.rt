@@ -1,14 +1,14 @@
 //! What `egl_explain` tells of the input of a file, beside what is wanted: behind the input stands a line `=> STATUS`, and behind that the text.
 use crate::playing::first_difference;
 use anyhow::{Result, anyhow, bail, ensure};
-use egl_explain::{Explained, Look, explain};
-use egl_flow::MOST_INPUT;
+use egl_explain::{Format, Look, explain};
+use egl_flow::{Answer, MOST_INPUT};
 
-/// Where the texts are shown: in no colours, and with lines of any length.
-const PLAIN: Look = Look {
+/// A text in no colours, and with lines of any length.
+pub const PLAIN: Format = Format::Text(Look {
     coloured: false,
     cut: false,
-};
+});
 
 /// What stands between an input and its status.
 const MARK: &str = "\n=> ";
@@ -21,20 +21,25 @@ fn parts(file: &str) -> Option<(&str, &str, &str)> {
 }
 
 /// What is said of the input of a file.
-fn told<R: AllocGlobal>(rt: &R, input: &str) -> Result<Explained> {
+fn told<R: AllocGlobal>(rt: &R, format: Format, input: &str) -> Result<Answer> {
     let mut bytes = Vec::from_slice(rt.alloc(), input.as_bytes())?;
     bytes.push(b'\n')?;
     let bytes = bytes.as_slice();
     ensure!(bytes.len() as u64 <= MOST_INPUT, "an input is too long");
-    explain(rt.alloc(), bytes, PLAIN).map_err(|_| anyhow!("no memory"))
+    explain(rt.alloc(), bytes, format).map_err(|_| anyhow!("no memory"))
 }
 
 /// Whether the text of a file's input is the one that is wanted; prints how it differs where not.
-pub fn is_explained<R: Print + AllocGlobal>(rt: &R, name: &str, file: &str) -> Result<bool> {
+pub fn is_explained<R: Print + AllocGlobal>(
+    rt: &R,
+    format: Format,
+    name: &str,
+    file: &str,
+) -> Result<bool> {
     let Some((input, status, wanted)) = parts(file) else {
         bail!("{name} has no line of a status");
     };
-    let explained = told(rt, input)?;
+    let explained = told(rt, format, input)?;
     let found = str::from_utf8(explained.text.as_slice())?;
     let number = explained.status.number();
     let same = found == wanted && format!(in rt.alloc(); "{number}")?.as_str() == status;
@@ -48,11 +53,11 @@ pub fn is_explained<R: Print + AllocGlobal>(rt: &R, name: &str, file: &str) -> R
 }
 
 /// Prints the text of a file's input behind it, in the form of such a file.
-pub fn show<R: Print + AllocGlobal>(rt: &R, name: &str, file: &str) -> Result<()> {
+pub fn show<R: Print + AllocGlobal>(rt: &R, format: Format, name: &str, file: &str) -> Result<()> {
     let Some((input, _, _)) = parts(file) else {
         bail!("{name} has no line of a status");
     };
-    let explained = told(rt, input)?;
+    let explained = told(rt, format, input)?;
     let found = str::from_utf8(explained.text.as_slice())?;
     println!(rt; "{input}\n=> {}\n{found}", explained.status.number())?;
     Ok(())

@@ -4,11 +4,13 @@
 //! - `serial` and `play` play the examples by that command, and `pictures` holds what the traces of scenes draw against
 //!   their pictures. For each that differs it prints where it stands, its heading, and the first line that is wanted and
 //!   found.
+//! - `judged` judges logs: the command `judge` stands for `egl_judge`, whose words stand behind it.
 //! - `any_order` plays them by `play`, and compares what is left at the end, and for each line whether it was refused, and by
 //!   which error: threads at once may play the lines in another order, and number what they make otherwise.
 //! - `read` prints each example as it is read.
 //! - `refused` compares why each text of the file is no file of examples.
-//! - `explained` compares what `egl_explain` tells of a file's input with the text behind it, and `show` prints it.
+//! - `explained` compares what `egl_explain` tells of a file's input with the text behind it, and `show` prints it;
+//!   `explained_json` and `show_json` do the same with what it tells programs.
 //! - `long_run` plays the 100,000 lines of a file of turns, and prints the sum of their recording.
 //!
 //! The word `stdin` names no file, and does what the program does with `serial`. At the end stands how many were played
@@ -25,8 +27,9 @@ mod reading;
 
 use anyhow::{Context, Result, ensure};
 use drafts::Example;
+use egl_explain::Format;
 use escapes::push_unescaped;
-use explaining::{is_explained, show};
+use explaining::{PLAIN, is_explained, show};
 use long_run::long_run;
 use playing::{ANY_ORDER, PICTURES, is_as_wanted, play_stdin};
 use reading::examples_of;
@@ -46,9 +49,9 @@ enum Task {
     /// Its texts are refused.
     Refuse,
     /// Its input is explained as it says.
-    Explain,
+    Explain(Format),
     /// What its input is explained as is printed.
-    Show,
+    Show(Format),
     /// Its turns are played.
     LongRun,
 }
@@ -147,12 +150,12 @@ fn do_file<R: Files + Print + AllocGlobal + Threads + Wait + Sync>(
     match task {
         Task::LongRun => return long_run(rt, text.as_str()),
         Task::Refuse => return refuse(rt, name, text.as_str(), tally),
-        Task::Explain => {
-            tally.count(is_explained(rt, name, text.as_str())?);
+        Task::Explain(format) => {
+            tally.count(is_explained(rt, format, name, text.as_str())?);
             println!(rt; "explained {name}")?;
             return Ok(());
         }
-        Task::Show => return show(rt, name, text.as_str()),
+        Task::Show(format) => return show(rt, format, name, text.as_str()),
         Task::Play(_) | Task::Read => {}
     }
     let examples = examples_of(rt.alloc(), text.as_str()).context(format_args!("{name}"))?;
@@ -174,12 +177,15 @@ fn main(rt: HostRuntime) -> Result<ExitCode> {
         match word.as_str() {
             "serial" => task = Task::Play("serial"),
             "play" => task = Task::Play("play"),
+            "judged" => task = Task::Play("judged"),
             "any_order" => task = Task::Play(ANY_ORDER),
             "pictures" => task = Task::Play(PICTURES),
             "read" => task = Task::Read,
             "refused" => task = Task::Refuse,
-            "explained" => task = Task::Explain,
-            "show" => task = Task::Show,
+            "explained" => task = Task::Explain(PLAIN),
+            "explained_json" => task = Task::Explain(Format::Json),
+            "show" => task = Task::Show(PLAIN),
+            "show_json" => task = Task::Show(Format::Json),
             "long_run" => task = Task::LongRun,
             "stdin" => status = play_stdin(&rt, rt.stdin(), rt.stdout())?,
             name => do_file(&rt, task, name, &mut tally)?,

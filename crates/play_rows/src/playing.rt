@@ -28,6 +28,15 @@ fn words_of(alloc: Global, command: &str) -> Result<Vec<Text>> {
     Ok(words)
 }
 
+/// The words of `egl_judge` behind the command `judge`.
+fn judge_words(alloc: Global, command: &str) -> Result<Option<Vec<Text>>> {
+    match command.strip_prefix("judge") {
+        Some("") => Ok(Some(Vec::new(alloc))),
+        Some(words) => Ok(Some(words_of(alloc, words.trim_start_matches(' '))?)),
+        None => Ok(None),
+    }
+}
+
 /// The exit status of a command on an input, and what it wrote.
 pub fn answer<R: AllocGlobal + Threads + Wait + Sync>(
     rt: &R,
@@ -35,14 +44,19 @@ pub fn answer<R: AllocGlobal + Threads + Wait + Sync>(
     input: &[u8],
 ) -> Result<(u8, MemorySink)> {
     let alloc = rt.alloc();
-    let words = words_of(alloc, command)?;
     let bytes = Bytes::from_vec(Vec::from_slice(alloc, input)?);
     let mut source = MemorySource::new(bytes, Numbers::new(alloc));
     let Ok(mut sink) = MemorySink::new(alloc, ROOM, Numbers::new(alloc)) else {
         bail!("no memory for a sink");
     };
-    let status = top(rt, alloc, &words, &mut source, &mut sink, &OpenGate).number();
-    Ok((status, sink))
+    let status = match judge_words(alloc, command)? {
+        Some(words) => egl_judge::top(alloc, &words, &mut source, &mut sink),
+        None => {
+            let words = words_of(alloc, command)?;
+            top(rt, alloc, &words, &mut source, &mut sink, &OpenGate)
+        }
+    };
+    Ok((status.number(), sink))
 }
 
 /// Does what the program does with the word `serial`, from standard input to standard output, and answers the exit status.

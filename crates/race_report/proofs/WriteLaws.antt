@@ -24,7 +24,6 @@ use Rattle.egl_calls.specs.declared.kinds.OwnKind.TheVariants.{ReadBuffer}
 use Rattle.call_table.specs.Rows.{gl_role}
 use Rattle.context_state.specs.Calls.{apply}
 use Rattle.context_state.specs.Kinds.{context_gl_call}
-use Rattle.context_state.specs.declared.kinds.ContextCall.{ContextCall}
 use Rattle.context_state.specs.Parts.{PartValue, noted}
 use Rattle.share_group.specs.Groups.{GroupValue}
 use Rattle.share_group.specs.declared.names.NameKind.{NameKind}
@@ -553,7 +552,7 @@ left-object : (s : State) (t n : ℕ) (c : CallValue) (k : GlKind) → LeftBy (o
 left-object s t n c Clear = search object_moves
 left-object s t n c k = search object_moves
 
-left_by-gl : (o : Option ContextCall) (s : State) (t n : ℕ) (c : CallValue) (k : GlKind) → LeftBy (touches_by_class o s t n k c).writes (left_out_of (Some n) (gl_role k) s) s (effect_by o s t n k c).state
+left_by-gl : (o : Option GlKind) (s : State) (t n : ℕ) (c : CallValue) (k : GlKind) → LeftBy (touches_by_class o s t n k c).writes (left_out_of (Some n) (gl_role k) s) s (effect_by o s t n k c).state
 left_by-gl (Some own) s t n c k = leaves_of [] _ s.objects _ s.windows _ (told-part [] s n (λ p. (apply c p).part))
 left_by-gl None s t n c k = left-object s t n c k
 

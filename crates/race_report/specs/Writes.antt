@@ -33,7 +33,7 @@ IsAsItWas o p =
 -- ---- What is left out. A deletion detaches what it deletes from the framebuffer that its context has bound, and that framebuffer isn't among what it writes.
 -- of a call with a role, by a thread with this current context: the framebuffer from which it may detach
 abbrev pub left_out_of : Option ℕ → Role → State → Option ℕ
-left_out_of (Some n) Deletes s = target_framebuffer s n
+left_out_of (Some n) (Deletes names) s = target_framebuffer s n
 left_out_of o r s = None
 
 abbrev pub left_out_by : Kind → Option ℕ → State → Option ℕ

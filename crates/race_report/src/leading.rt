@@ -254,8 +254,7 @@ fn waited_as(role: Role, entry: &Entry) -> Option<i64>
     let has_waited = match role {
         Role::ClientWaits => is_satisfied(&entry.reply),
         Role::ServerWaits => is_done(entry.reply.outcome),
-        Role::Plain | Role::Creates(_) | Role::Destroys(_) | Role::Binds => false,
-        Role::Releases | Role::Deletes | Role::Flushes | Role::OwnState => false,
+        _ => false,
     };
     if has_waited {
         Some(entry.call.args[NAMED])

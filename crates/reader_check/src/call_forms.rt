@@ -47,14 +47,14 @@ fn expect_forms<R: Abort>(rt: &R, alloc: Global, name: &str, forms: &[Form]) {
 
 #[test]
 fn calls_of_egl_are_read_in_their_forms(rt: HostRuntime) {
-    for (name, _, forms, _, _, _) in &EGL_CALLS {
+    for (name, _, forms, _, _, _, _) in &EGL_CALLS {
         expect_forms(&rt, rt.alloc(), name, forms);
     }
 }
 
 #[test]
 fn calls_of_opengl_es_are_read_in_their_forms(rt: HostRuntime) {
-    for (name, _, forms, _, _, _) in &GL_CALLS {
+    for (name, _, forms, _, _, _, _) in &GL_CALLS {
         expect_forms(&rt, rt.alloc(), name, forms);
     }
 }

@@ -15,7 +15,6 @@ use Rattle.context_state.specs.Parts.{PartValue}
 use Rattle.context_state.specs.Calls as context_calls
 use Rattle.context_state.specs.Calls.{apply}
 use Rattle.context_state.specs.Refusals.{context_rows, refusal}
-use Rattle.context_state.specs.declared.kinds.ContextCall.TheVariants.{Scissor as ScissorCall}
 use Rattle.call_rules.proofs.GlLaws.{refused_not}
 use Rattle.pixel_formats.specs.declared.pixels.Pixel.{Pixel}
 use Rattle.pixel_rows.specs.Images.{ImageValue}
@@ -27,7 +26,8 @@ use Rattle.egl_model.specs.declared.records.ThreadRecord.{ThreadRecord}
 use Rattle.egl_model.specs.State.{State}
 use Rattle.egl_model.specs.Effects.{Effect, outcome_of, valued}
 use Rattle.egl_model.specs.Currents.{current_context, part_of_context}
-use Rattle.egl_model.specs.GlCalls.{gl_facts, gl_refusal, gl_effect, applied, local_value}
+use Rattle.egl_model.specs.GlCalls.{gl_refusal, gl_effect, applied, local_value}
+use Rattle.egl_model.specs.GlFacts.{gl_facts_of}
 use Rattle.egl_model.specs.Objects.{as_context, change_part, with_part}
 use Rattle.egl_model.specs.Step.{Stepped, done, step}
 use Rattle.egl_model.specs.Sweep.{bytes_in, live_bytes, sweep}
@@ -86,18 +86,18 @@ bytes_part os texture name p i names f w =
     bytes-set os 2 (with_part f (get_or os 2 None)) (Context (context_with texture name p)) w.context_at (ap (λ o. bytes_in (with_part f o)) w.context_at)
 
 -- ---- glScissor.
-scissor_rows : (x y : ℤ) (w h : ℕ) → refusal ScissorCall (scissor x y w h) ≡ None
-scissor_rows x y w h = none_on (context_rows ScissorCall (scissor x y w h)) (or_from _ _ (is_not_below (pos w) (pos 0) (grind (arith, ints))) (is_not_below (pos h) (pos 0) (grind (arith, ints))), tt)
+scissor_rows : (x y : ℤ) (w h : ℕ) → refusal Scissor (scissor x y w h) ≡ None
+scissor_rows x y w h = none_on (context_rows Scissor (scissor x y w h)) (or_from _ _ (is_not_below (pos w) (pos 0) (grind (arith, ints))) (is_not_below (pos h) (pos 0) (grind (arith, ints))), tt)
 
 scissor_none : (s : State) (x y : ℤ) (w h : ℕ) → gl_refusal s 0 2 Scissor (scissor x y w h) ≡ None
 unfolding gl_refusal
-scissor_none s x y w h = refused_not (scissor x y w h) (gl_facts s 0 2 Scissor (scissor x y w h)) Scissor refl (or_from _ _ (is_not_below (pos w) (pos 0) (grind (arith, ints))) (is_not_below (pos h) (pos 0) (grind (arith, ints))), tt)
+scissor_none s x y w h = refused_not (scissor x y w h) (gl_facts_of s 0 2 (scissor x y w h)) Scissor refl (or_from _ _ (is_not_below (pos w) (pos 0) (grind (arith, ints))) (is_not_below (pos h) (pos 0) (grind (arith, ints))), tt)
 
 abbrev pub clipped : View → ℤ → ℤ → ℕ → ℕ → View
 clipped v x y w h = record v { clip = x ∷ y ∷ pos w ∷ pos h ∷ [] }
 
 scissored : (v : View) (x y : ℤ) (w h : ℕ) → (apply (scissor x y w h) (settings v)).part ≡ settings (clipped v x y w h)
-scissored v x y w h = ap (λ o. (context_calls.after_rules o ScissorCall (scissor x y w h) (settings v)).part) (scissor_rows x y w h)
+scissored v x y w h = ap (λ o. (context_calls.after_rules o Scissor (scissor x y w h) (settings v)).part) (scissor_rows x y w h)
 
 -- what holds of textures behind a call
 abbrev pub Keeps : State → View → State → Type 0

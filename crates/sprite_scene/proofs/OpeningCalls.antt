@@ -16,7 +16,8 @@ use Rattle.egl_calls.specs.declared.kinds.GlKind.{GlKind}
 use Rattle.egl_calls.specs.declared.kinds.GlKind.TheVariants.{Enable, TexEnvx}
 use Rattle.egl_names.specs.declared.codes.TheConstants.{GL_SCISSOR_TEST, GL_TEXTURE_2D}
 use Rattle.egl_model.specs.Flushes.{flushed}
-use Rattle.egl_model.specs.GlCalls.{applied, gl_effect, local_value, gl_facts, gl_refusal}
+use Rattle.egl_model.specs.GlCalls.{applied, gl_effect, local_value, gl_refusal}
+use Rattle.egl_model.specs.GlFacts.{gl_facts_of}
 use Rattle.egl_model.specs.Objects.{change_part}
 use Rattle.model_laws.proofs.PixelLaws.{live_bytes-swept}
 use Rattle.sprite_scene.proofs.LineCalls.{Goes, bytes_part, gl_call, goes, shows_part}
@@ -45,7 +46,8 @@ use Rattle.display_table.specs.declared.handles.HandleKind.TheVariants.{Context 
 use Rattle.display_table.specs.declared.handles.Handle.{Handle}
 use Rattle.driver_objects.specs.declared.objects.Object.{Object}
 use Rattle.egl_model.specs.Effects.{Effect, valued}
-use Rattle.egl_model.specs.EglCalls.{egl_effect, egl_facts, egl_refusal}
+use Rattle.egl_model.specs.EglCalls.{egl_effect, egl_refusal}
+use Rattle.egl_model.specs.Facts.{facts_of}
 use Rattle.egl_model.specs.State.{State, capacity, initial, set_error}
 use Rattle.egl_model.specs.Step.{Stepped, done, step, step_by}
 use Rattle.egl_model.specs.Sweep.{held_by, live_bytes, roots, roots_of, sweep, swept}
@@ -91,7 +93,7 @@ nothing_swept rs = refl
 -- ---- eglGetDisplay and eglInitialize.
 display_none : egl_refusal (idle false [] [] 3) 0 GetDisplay get_display ≡ None
 unfolding egl_refusal
-display_none = refused_not get_display (egl_facts (idle false [] [] 3) 0 GetDisplay get_display) GetDisplay refl tt
+display_none = refused_not get_display (facts_of (idle false [] [] 3) 0 get_display) GetDisplay refl tt
 
 swept_idle : (first : Bool) → sweep (set_error (idle first [] [] 3) 0 Success) ≡ idle first [] [] 3
 swept_idle first = ap sweep (still_idle first [] [] 3) ∙ ap (λ os. idle first os [] 3) (nothing_swept (roots (idle first [] [] 3)))
@@ -101,7 +103,7 @@ display_step = egl_stepped false [] [] 3 GetDisplay get_display refl display_non
 
 initialize_none : egl_refusal (idle false [] [] 3) 0 Initialize initialize ≡ None
 unfolding egl_refusal
-initialize_none = refused_not initialize (egl_facts (idle false [] [] 3) 0 Initialize initialize) Initialize refl (refl, tt)
+initialize_none = refused_not initialize (facts_of (idle false [] [] 3) 0 initialize) Initialize refl (refl, tt)
 
 pub initialize_step : step opened 0 initialize ≡ record { reply = done (egl_effect opened 0 Initialize initialize); state = idle true [] [] 3 }
 initialize_step = egl_stepped false [] [] 3 Initialize initialize refl initialize_none ∙ ap (λ s. record { reply = done (egl_effect opened 0 Initialize initialize); state = s }) (swept_idle true)
@@ -147,7 +149,7 @@ unfolding egl_refusal value_of bad_place live_bytes is_config is_allowed
 pbuffer_none w h a b =
     let e = pbuffer_size w h a b in
     let f = area_fits w h a b in
-    refused_not (create_pbuffer w h) (egl_facts (idle true [] [] 3) 0 CreatePbufferSurface (create_pbuffer w h)) CreatePbufferSurface refl (
+    refused_not (create_pbuffer w h) (facts_of (idle true [] [] 3) 0 (create_pbuffer w h)) CreatePbufferSurface refl (
       refl,
       (
         refl,
@@ -204,7 +206,7 @@ with_context_made w h = idle true (five_objects w h fresh) (surface_handle ∷ c
 
 context_none : (w h : ℕ) → egl_refusal (with_pbuffer w h) 0 CreateContext create_context ≡ None
 unfolding egl_refusal value_of bad_place is_config
-context_none w h = refused_not create_context (egl_facts (with_pbuffer w h) 0 CreateContext create_context) CreateContext refl (refl, (refl, (refl, (refl, (refl, (refl, (refl, (refl, (refl, tt)))))))))
+context_none w h = refused_not create_context (facts_of (with_pbuffer w h) 0 create_context) CreateContext refl (refl, (refl, (refl, (refl, (refl, (refl, (refl, (refl, (refl, tt)))))))))
 
 context_led : (w h i : ℕ) → i < 5 → Led (with_context_made w h) 4 i
 context_led w h zero l = let s = with_context_made w h in up_from s 0 (led_up s 0 0 (led_handle s 0 refl))
@@ -240,7 +242,7 @@ surface_alone = ap (list_any (has_surface 0)) no_other ∙ none_of (has_surface 
 current_none : (w h : ℕ) → egl_refusal (with_context_made w h) 0 MakeCurrent make_current ≡ None
 unfolding egl_refusal are_compatible attribute attribute_of
 current_none w h =
-    refused_not make_current (egl_facts (with_context_made w h) 0 MakeCurrent make_current) MakeCurrent refl
+    refused_not make_current (facts_of (with_context_made w h) 0 make_current) MakeCurrent refl
     (refl, (refl, (refl, (refl, (refl, (refl, (refl, (context_alone, (or_from _ _ surface_alone surface_alone, tt)))))))))
 
 -- the part of a context that is current for the first time
@@ -329,14 +331,14 @@ last_part w h = record (third_part w h) { is_scissor_enabled = true }
 
 replace_none : (s : State) → gl_refusal s 0 2 TexEnvx replace ≡ None
 unfolding gl_refusal
-replace_none s = gl_refused_not replace (gl_facts s 0 2 TexEnvx replace) TexEnvx refl (refl, tt)
+replace_none s = gl_refused_not replace (gl_facts_of s 0 2 replace) TexEnvx refl (refl, tt)
 
 pub replace_goes : (w h : ℕ) (s : State) → Begun w h (first_part w h) s → Goes s replace (Begun w h (second_part w h))
 replace_goes w h s b = setting_goes w h (first_part w h) (second_part w h) TexEnvx replace.args s b (replace_none s) refl refl
 
 enable_none : (s : State) (cap : ℕ) → may_enable cap ≡ true → gl_refusal s 0 2 Enable (enable cap) ≡ None
 unfolding gl_refusal
-enable_none s cap h = gl_refused_not (enable cap) (gl_facts s 0 2 Enable (enable cap)) Enable refl (ap not h, tt)
+enable_none s cap h = gl_refused_not (enable cap) (gl_facts_of s 0 2 (enable cap)) Enable refl (ap not h, tt)
 
 pub texture_goes : (w h : ℕ) (s : State) → Begun w h (second_part w h) s → Goes s (enable GL_TEXTURE_2D) (Begun w h (third_part w h))
 texture_goes w h s b = setting_goes w h (second_part w h) (third_part w h) Enable (enable GL_TEXTURE_2D).args s b (enable_none s GL_TEXTURE_2D refl) refl refl

@@ -34,7 +34,8 @@ use Rattle.egl_model.specs.Drawing.{rows_of}
 use Rattle.egl_model.specs.Draws.{draw_into, drawn_rect, sampler, sampler_by, sampler_in, sampler_over, shape_in, shape_of}
 use Rattle.egl_model.specs.Effects.{valued}
 use Rattle.egl_model.specs.Framebuffers.{BoundFramebuffer, bound_framebuffer, current_framebuffer_name, framebuffer_name, is_complete as is_framebuffer_complete, window_framebuffer, window_status}
-use Rattle.egl_model.specs.GlCalls.{gl_facts, gl_refusal, gl_effect}
+use Rattle.egl_model.specs.GlCalls.{gl_refusal, gl_effect}
+use Rattle.egl_model.specs.GlFacts.{gl_facts_of}
 use Rattle.egl_model.specs.Objects.{as_storage, as_surface, as_texture, change_storage, storage_in, surface_in, texture_in, with_storage}
 use Rattle.egl_model.specs.declared.records.ThreadRecord.{ThreadRecord}
 use Rattle.egl_model.specs.State.{State}
@@ -62,7 +63,7 @@ image_none : (s : State) (w h : ℕ) (texels : List ℕ) → is_texture_side w �
 unfolding gl_refusal
 image_none s w h texels a b room =
     let e = bytes_are w h texels (side_range w a).high (side_range h b).high in
-    refused_not (tex_image w h texels) (gl_facts s 0 2 TexImage2d (tex_image w h texels)) TexImage2d refl
+    refused_not (tex_image w h texels) (gl_facts_of s 0 2 (tex_image w h texels)) TexImage2d refl
     (refl, (refl, (refl, (refl, (or_from _ _ (side_fits w a) (side_fits h b), (refl, (refl, (refl, (is_within s.video (live_bytes s.objects + image_bytes (tex_image w h texels)) (omega (arith, e, room)), tt)))))))))
 
 -- the image of the texels
@@ -200,7 +201,7 @@ sampler_found s v b w h pixel r a k e p q =
 draw_none : (s : State) (v : View) (b : ℕ) (d : ScaledPart) → Stands s v b → 1 ≤ d.width → 1 ≤ d.height → gl_refusal s 0 2 DrawTexi (draw_tex d) ≡ None
 unfolding gl_refusal
 draw_none s v b d k p q =
-    refused_not (draw_tex d) (gl_facts s 0 2 DrawTexi (draw_tex d)) DrawTexi refl
+    refused_not (draw_tex d) (gl_facts_of s 0 2 (draw_tex d)) DrawTexi refl
     (or_from _ _ (is_not_below (pos d.width) (pos 1) (grind (arith, ints, p))) (is_not_below (pos d.height) (pos 1) (grind (arith, ints, q))), (ap not (complete s v b k), tt))
 
 -- the rectangle of a draw in fixed point
@@ -286,7 +287,7 @@ draw_goes s v b w h pixel cut d k a c p q dp dq =
 read_none : (s : State) (v : View) (b w h : ℕ) → Stands s v b → w ≤ 2048 → h ≤ 2048 → gl_refusal s 0 2 ReadPixels (read_all w h) ≡ None
 unfolding gl_refusal
 read_none s v b w h k p q =
-    refused_not (read_all w h) (gl_facts s 0 2 ReadPixels (read_all w h)) ReadPixels refl
+    refused_not (read_all w h) (gl_facts_of s 0 2 (read_all w h)) ReadPixels refl
     (or_from _ _ (side w p) (side h q), (refl, (refl, (ap not (complete s v b k), tt))))
   where
     side : (n : ℕ) → n ≤ 2048 → is_no_side (pos n) ≡ false

@@ -26,7 +26,8 @@ use Rattle.driver_objects.specs.declared.targets.BindTarget.TheVariants.{Texture
 use Rattle.egl_model.specs.Bindings.{bound_at, bound_named, bound_object, named_at}
 use Rattle.egl_model.specs.Contexts.{new_texture}
 use Rattle.egl_model.specs.Effects.{valued}
-use Rattle.egl_model.specs.GlCalls.{gl_facts, gl_refusal, gl_effect}
+use Rattle.egl_model.specs.GlCalls.{gl_refusal, gl_effect}
+use Rattle.egl_model.specs.GlFacts.{gl_facts_of}
 use Rattle.egl_model.specs.Names.{group_of, object_named, with_name_of}
 use Rattle.egl_model.specs.Objects.{as_context, as_group, change_context, change_group, change_texture, with_context, with_group, with_texture}
 use Rattle.egl_model.specs.State.{State}
@@ -87,7 +88,7 @@ binding_texture os x bound y t level a = texture_low _ 2 _ y t level (omega arit
 -- ---- glBindTexture of a name that has a texture.
 bind_none : (s : State) (name : ℕ) → gl_refusal s 0 2 BindTexture (bind_texture name) ≡ None
 unfolding gl_refusal
-bind_none s name = refused_not (bind_texture name) (gl_facts s 0 2 BindTexture (bind_texture name)) BindTexture refl (refl, (is_not_below (pos name) (pos 0) (grind (arith, ints)), tt))
+bind_none s name = refused_not (bind_texture name) (gl_facts_of s 0 2 (bind_texture name)) BindTexture refl (refl, (is_not_below (pos name) (pos 0) (grind (arith, ints)), tt))
 
 abbrev pub bound_state : State → ℕ → ℕ → State
 bound_state s x name = record s { objects = bound_object texture_target 2 (Some x) name s.objects }
@@ -246,11 +247,11 @@ grown t = record t { mag_filter = MagNearest }
 
 shrunk_none : (s : State) → gl_refusal s 0 2 TexParameterx (set_nearest GL_TEXTURE_MIN_FILTER) ≡ None
 unfolding gl_refusal
-shrunk_none s = refused_not (set_nearest GL_TEXTURE_MIN_FILTER) (gl_facts s 0 2 TexParameterx (set_nearest GL_TEXTURE_MIN_FILTER)) TexParameterx refl (refl, (refl, tt))
+shrunk_none s = refused_not (set_nearest GL_TEXTURE_MIN_FILTER) (gl_facts_of s 0 2 (set_nearest GL_TEXTURE_MIN_FILTER)) TexParameterx refl (refl, (refl, tt))
 
 grown_none : (s : State) → gl_refusal s 0 2 TexParameterx (set_nearest GL_TEXTURE_MAG_FILTER) ≡ None
 unfolding gl_refusal
-grown_none s = refused_not (set_nearest GL_TEXTURE_MAG_FILTER) (gl_facts s 0 2 TexParameterx (set_nearest GL_TEXTURE_MAG_FILTER)) TexParameterx refl (refl, (refl, tt))
+grown_none s = refused_not (set_nearest GL_TEXTURE_MAG_FILTER) (gl_facts_of s 0 2 (set_nearest GL_TEXTURE_MAG_FILTER)) TexParameterx refl (refl, (refl, tt))
 
 pub shrunk_goes : (s : State) (v : View) (b x : ℕ) (t : TextureValue) (level : Option ℕ) → Stands s v b → v.texture ≡ Some x → IsTexture s.objects x t level →
     Goes s (set_nearest GL_TEXTURE_MIN_FILTER) (Changed s v b x (shrunk t) level)
@@ -272,7 +273,7 @@ cropped xs t = record t { crop = xs }
 
 crop_none : (s : State) (u v w h : ℕ) → gl_refusal s 0 2 TexParameteriv (crop u v w h) ≡ None
 unfolding gl_refusal
-crop_none s u v w h = refused_not (crop u v w h) (gl_facts s 0 2 TexParameteriv (crop u v w h)) TexParameteriv refl (refl, (refl, (refl, tt)))
+crop_none s u v w h = refused_not (crop u v w h) (gl_facts_of s 0 2 (crop u v w h)) TexParameteriv refl (refl, (refl, (refl, tt)))
 
 pub crop_goes : (s : State) (o : View) (b x : ℕ) (t : TextureValue) (level : Option ℕ) (u v w h : ℕ) → Stands s o b → o.texture ≡ Some x → IsTexture s.objects x t level →
     Goes s (crop u v w h) (Changed s o b x (cropped (crop_of (pos u) (pos v) (pos w) (pos h)) t) level)

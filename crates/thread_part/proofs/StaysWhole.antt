@@ -7,14 +7,15 @@ use Rattle.egl_calls.specs.declared.errors.EglError.{EglError}
 use Rattle.egl_calls.specs.declared.errors.EglError.TheVariants.{Success}
 use Rattle.egl_calls.specs.declared.errors.GlError.{GlError}
 use Rattle.egl_calls.specs.declared.kinds.GlKind.{GlKind}
-use Rattle.egl_calls.specs.declared.kinds.GlKind.TheVariants.{Clear}
+use Rattle.call_table.specs.Rows.{gl_role}
+use Rattle.call_table.specs.declared.roles.Role.{Role}
+use Rattle.call_table.specs.declared.roles.Role.TheVariants.{Clears}
 use Rattle.egl_calls.specs.declared.kinds.Kind.{Kind}
 use Rattle.egl_calls.specs.declared.kinds.Kind.TheVariants.{Egl, Gl, Own as OwnCall}
 use Rattle.call_rules.specs.GlRules as gl_rules
 use Rattle.context_state.specs.Calls.{apply}
 use Rattle.context_state.specs.Kinds.{context_gl_call}
 use Rattle.context_state.specs.Parts.{PartValue, noted}
-use Rattle.context_state.specs.declared.kinds.ContextCall.{ContextCall}
 use Rattle.driver_objects.specs.Storages.{cleared_image}
 use Rattle.pixel_rows.specs.Images.{ImageValue}
 use Rattle.pixel_rows.specs.declared.rects.Rect.{Rect}
@@ -60,13 +61,13 @@ like-drawn f k x = record { names = refl; draw = some_map f x.draw; read = refl;
 like-cleared : (x : Own) (q : PartValue) (c : CallValue) → IsLike x (cleared_locally x q c)
 like-cleared x q c = cond_both (clears_colour c) (drawn_own (cleared_image q) x) x (IsLike x) (λ e. like-drawn (cleared_image q) (form-cleared q) x) (λ e. like-same x)
 
-like-object : (p : Private) (q : PartValue) (k : GlKind) (c : CallValue) → IsLike p.own (object_locally p q k c).own
-like-object p q Clear c = like-cleared p.own q c
-like-object p q k c = like-same p.own
+like-object : (r : Role) (p : Private) (q : PartValue) (c : CallValue) → IsLike p.own (object_locally r p q c).own
+like-object Clears p q c = like-cleared p.own q c
+like-object r p q c = like-same p.own
 
-like-by : (o : Option ContextCall) (p : Private) (q : PartValue) (k : GlKind) (c : CallValue) → p.own.context ≡ Some q → IsLike p.own (locally_by o p q k c).own
+like-by : (o : Option GlKind) (p : Private) (q : PartValue) (k : GlKind) (c : CallValue) → p.own.context ≡ Some q → IsLike p.own (locally_by o p q k c).own
 like-by (Some own) p q k c e = like-part p.own q (apply c q).part e (applied_names c q)
-like-by None p q k c e = like-object p q k c
+like-by None p q k c e = like-object (gl_role k) p q c
 
 like-ruled : (o : Option GlError) (p : Private) (q : PartValue) (f : LocalEffect) → p.own.context ≡ Some q → IsLike p.own f.own → IsLike p.own (after_rules p.own q o f).own
 like-ruled (Some g) p q f e l = like-part p.own q (noted g q) e refl
@@ -74,7 +75,7 @@ like-ruled None p q f e l = l
 
 like-with : (p : Private) (o : Option PartValue) (k : GlKind) (c : CallValue) → p.own.context ≡ o → IsLike p.own (gl_with p o k c).own
 like-with p None k c e = like-same p.own
-like-with p (Some q) k c e = like-ruled (gl_rules.gl_refusal c (facts_locally p k)) p q (gl_locally p q k c) e (like-by (context_gl_call k) p q k c e)
+like-with p (Some q) k c e = like-ruled (gl_rules.gl_refusal c (facts_locally p)) p q (gl_locally p q k c) e (like-by (context_gl_call k) p q k c e)
 
 like-egl : (p : Private) (o : Option EglError) (v : ℤ) → IsLike p.own (egl_locally p o v).own
 like-egl p (Some e) v = like-error p.own e

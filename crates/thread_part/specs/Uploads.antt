@@ -15,10 +15,9 @@ use Rattle.context_state.specs.Parts.{PartValue}
 use Rattle.driver_objects.specs.Storages.{StorageValue}
 use Rattle.egl_model.specs.Buffers.{with_data}
 use Rattle.egl_model.specs.Copies.{copied_level, copies_nothing}
-use Rattle.egl_model.specs.GlCalls.{framebuffer_facts}
 use Rattle.egl_model.specs.Parts.{Private}
 use Rattle.egl_model.specs.Textures.{new_level}
-use Rattle.model_laws.specs.Local.{has_framebuffer, read_image}
+use Rattle.model_laws.specs.Local.{facts_locally, has_framebuffer, read_image}
 use Rattle.thread_part.specs.declared.uploads.Upload.{Upload}
 use Rattle.thread_part.specs.declared.uploads.Upload.TheVariants.{Contents, Pixels}
 use Rattle.thread_part.specs.declared.uploads.TheConstants.{SMALL_BYTES}
@@ -32,7 +31,7 @@ is_upload k = false
 
 -- what such a call is judged by before its turn: nothing that others may change is against it
 abbrev pub early_facts : Private → GlFacts
-early_facts p = record (framebuffer_facts (is_some p.own.draw)) { has_read_alpha = true; is_bound = true }
+early_facts p = record (facts_locally p) { has_read_alpha = true; is_buffer_bound = true }
 
 -- the new contents of a buffer
 abbrev pub new_contents : CallValue → BufferValue

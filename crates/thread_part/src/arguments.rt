@@ -7,10 +7,9 @@ ghost use Rattle.egl_calls.specs.Arguments.{signed};
 ghost use Rattle.egl_model.specs.Arguments.{number};
 ghost use Rattle.egl_model.specs.Displays.{display_of};
 ghost use Rattle.egl_model.specs.Drawing.{clears_colour, read_form, read_rect};
-ghost use Rattle.egl_model.specs.GlCalls.{framebuffer_facts};
 ghost use Rattle.model_laws.specs.Local.{local_refusal};
 
-use call_rules::{EglFacts, GlFacts};
+use call_rules::EglFacts;
 use egl_calls::arguments::{number, signed};
 use egl_calls::places::{DISPLAY_ID, HEIGHT, MASK, READDRAW, TYPE, WIDTH, X, Y};
 use egl_calls::{Call, EglError};
@@ -78,16 +77,6 @@ pub fn read_form(call: &Call) -> Format
         Format::Rgb565
     } else {
         Format::Rgba8888
-    }
-}
-
-/// What a call of OpenGL ES that clears, draws, reads or copies is judged by: whether the framebuffer that is bound is complete.
-pub fn framebuffer_facts(is_complete: bool) -> GlFacts
-    ensures { result ≡ framebuffer_facts is_complete }
-{
-    GlFacts {
-        is_framebuffer_complete: is_complete,
-        ..GlFacts::none()
     }
 }
 

@@ -6,9 +6,10 @@ ghost use Rattle.model_laws.specs.Late.{drawing, drawn_part, draws_to_surface, i
 ghost use Rattle.rect_pipeline.specs.Samplers.{HasSides, sampled};
 
 use crate::parts::Parts;
+use call_table::gl_role;
 use context_state::ContextPart;
 use driver_objects::draw_image;
-use egl_calls::{Call, GlKind, Kind};
+use egl_calls::{Call, Kind};
 use pixel_rows::{Image, Rect};
 use rect_pipeline::Sampler;
 
@@ -16,7 +17,7 @@ fn is_draw(kind: Kind) -> bool
     ensures { result ≡ is_draw kind }
 {
     match kind {
-        Kind::Gl(GlKind::DrawTexi | GlKind::DrawTexx) => true,
+        Kind::Gl(kind) => gl_role(kind).draws(),
         _ => false,
     }
 }

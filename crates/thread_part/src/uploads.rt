@@ -15,10 +15,8 @@ ghost use Rattle.texture_objects.specs.Uploads.{IsImageCall};
 ghost use Rattle.thread_part.specs.Uploads.{are_few, contents_early, copied_locally, early_facts, given_by, is_upload, new_contents, upload_of, upload_with};
 ghost use Rattle.thread_part.specs.declared.uploads.Upload.TheVariants.{Pixels};
 
-use crate::arguments::framebuffer_facts;
 use crate::parts::Parts;
 use buffer_objects::Buffer;
-use call_rules::GlFacts;
 use context_state::ContextPart;
 use driver_objects::Storage;
 use egl_calls::arguments::{number, signed};
@@ -180,16 +178,6 @@ fn contents_early(alloc: Global, call: &Call) -> Result<Option<Upload>, NoMemory
 }
 
 impl Parts {
-    fn early_facts(&self) -> GlFacts
-        ensures { result ≡ early_facts self.now }
-    {
-        GlFacts {
-            has_read_alpha: true,
-            is_bound: true,
-            ..framebuffer_facts(self.draw.is_some())
-        }
-    }
-
     /// The pixels of the surface that is read from.
     fn read_image(&self) -> Option<&Image>
         ensures { option_copied result ≡ read_image self.now }
@@ -267,7 +255,7 @@ impl Parts {
         let Some(part) = part else {
             return Ok(None);
         };
-        match call_rules::gl_refusal(call, &self.early_facts()) {
+        match self.early_refusal(call) {
             Some(_) => Ok(None),
             None => self.given_by(alloc, part, call),
         }

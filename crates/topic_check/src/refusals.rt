@@ -29,7 +29,10 @@ fn valid() -> EglFacts {
         is_display: true,
         is_initialized: true,
         is_config: true,
-        is_list_allowed: true,
+        is_window_list: true,
+        is_pbuffer_list: true,
+        is_context_list: true,
+        is_image_list: true,
         is_share: true,
         is_share_here: true,
         version: 1,
@@ -49,10 +52,13 @@ fn facts_but(but: But) -> EglFacts {
     let mut facts = valid();
     match but {
         Nothing => (),
-        BadList => facts.is_list_allowed = false,
+        BadList => facts.is_pbuffer_list = false,
         NoWindow => facts.is_window = false,
         Height(height) => facts.height = height,
-        NewBytes(bytes) => facts.new_bytes = bytes,
+        NewBytes(bytes) => {
+            facts.window_bytes = bytes;
+            facts.pbuffer_bytes = bytes;
+        }
         Version(version, minor) => {
             facts.version = version;
             facts.minor_version = minor;

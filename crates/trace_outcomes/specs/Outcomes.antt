@@ -8,7 +8,9 @@ use Rattle.egl_calls.specs.Errors.{is_done}
 use Rattle.egl_calls.specs.declared.entries.Entry.{Entry}
 use Rattle.egl_calls.specs.declared.kinds.Kind.{Kind}
 use Rattle.egl_calls.specs.declared.kinds.Kind.TheVariants.{Egl}
-use Rattle.egl_calls.specs.declared.kinds.EglKind.TheVariants.{CreateWindowSurface, CreatePbufferSurface, CreateContext, CreateSync, CreateImage, GetCurrentContext, GetCurrentSurface}
+use Rattle.call_table.specs.Rows.{egl_answers}
+use Rattle.call_table.specs.declared.answers.AnswerSort.{AnswerSort}
+use Rattle.call_table.specs.declared.answers.AnswerSort.TheVariants.{Currents, Makes}
 use Rattle.trace_reader.specs.declared.traces.Line.{Line}
 use Rattle.trace_reader.specs.Traces.{TraceValue}
 use Rattle.trace_model.specs.Recording.{number_text, outcome_text, list_text, bytes_text}
@@ -19,19 +21,23 @@ use Rattle.journal_text.specs.Rests.{rest_text}
 use Rattle.trace_outcomes.specs.Histories.{histories}
 
 -- ---- Handles, which are told by the line that made them.
+abbrev pub is_made : AnswerSort → Bool
+is_made (Makes kind) = true
+is_made x = false
+
 abbrev pub makes_handle : Kind → Bool
-makes_handle (Egl CreateWindowSurface) = true
-makes_handle (Egl CreatePbufferSurface) = true
-makes_handle (Egl CreateContext) = true
-makes_handle (Egl CreateSync) = true
-makes_handle (Egl CreateImage) = true
+makes_handle (Egl k) = is_made (egl_answers k)
 makes_handle k = false
 
 -- a call that isn't refused answers a handle
+abbrev pub is_handle : AnswerSort → Bool
+is_handle (Makes kind) = true
+is_handle (Currents kind) = true
+is_handle x = false
+
 abbrev pub answers_handle : Kind → Bool
-answers_handle (Egl GetCurrentContext) = true
-answers_handle (Egl GetCurrentSurface) = true
-answers_handle k = makes_handle k
+answers_handle (Egl k) = is_handle (egl_answers k)
+answers_handle k = false
 
 -- a reply is that a call was carried out, with this value
 abbrev pub is_value : ℤ → Option ReplyValue → Bool

@@ -6,10 +6,11 @@ ghost use Rattle.trace_session.specs.Runs.{StandBehind};
 ghost use Rattle.trace_outcomes.specs.Outcomes.{makes_handle, answers_handle, is_value, made_here, maker, handle_text, value_text, reply_text, answer_text, outcome_of};
 
 use crate::outcomes::Outcome;
+use call_table::{AnswerSort, egl_answers};
 use driver_core::Driver;
 use egl_calls::{
-    Bytes, EglKind, Entry, Journal, Kind, List, NoMemory, Outcome as Answered, Reply, Text,
-    is_done, is_waiting,
+    Bytes, Entry, Journal, Kind, List, NoMemory, Outcome as Answered, Reply, Text, is_done,
+    is_waiting,
 };
 use journal_text::texts::{put_byte, put_decimal, put_number, put_text};
 use journal_text::{put_hex, put_list, rest};
@@ -21,13 +22,7 @@ fn makes_handle(kind: Kind) -> bool
     ensures { result ≡ makes_handle kind }
 {
     match kind {
-        Kind::Egl(
-            EglKind::CreateWindowSurface
-            | EglKind::CreatePbufferSurface
-            | EglKind::CreateContext
-            | EglKind::CreateSync
-            | EglKind::CreateImage,
-        ) => true,
+        Kind::Egl(kind) => matches!(egl_answers(kind), AnswerSort::Makes(_)),
         _ => false,
     }
 }
@@ -36,8 +31,11 @@ fn answers_handle(kind: Kind) -> bool
     ensures { result ≡ answers_handle kind }
 {
     match kind {
-        Kind::Egl(EglKind::GetCurrentContext | EglKind::GetCurrentSurface) => true,
-        _ => makes_handle(kind),
+        Kind::Egl(kind) => matches!(
+            egl_answers(kind),
+            AnswerSort::Makes(_) | AnswerSort::Currents(_)
+        ),
+        _ => false,
     }
 }
 

@@ -2,4 +2,4 @@ use Rattle.std.proofs.Common.{◌≤◌}
 use Rattle.egl_explain.proofs.further.put_entries.Given as goal
 
 abbrev pub invariant-each : goal.invariant-each
-invariant-each l = l.session.trace.threads ≤ l.driver.made
+invariant-each g l = l.session.trace.threads ≤ l.driver.made

@@ -2,7 +2,7 @@ use Rattle.std.proofs.Common.{◌≡◌, ℕ, List, subst}
 use Rattle.std.specs.Prelude.{IfOk}
 use Rattle.egl_calls.specs.declared.errors.Outcome.TheVariants.{Done}
 use Rattle.egl_model.specs.Step.{bare}
-use Rattle.driver_core.proofs.machine.Driver.object_effect.Goals as goal
+use Rattle.driver_core.proofs.machine.Driver.plain_effect.Goals as goal
 
 pub returns-in_ok-read_pixels-in-ReadPixels-clause-reply : goal.returns-in_ok-read_pixels-in-ReadPixels-clause-reply
 returns-in_ok-read_pixels-in-ReadPixels-clause-reply g c =
