@@ -1,4 +1,5 @@
 pub mod PickLaws
+pub mod LoneLaws
 pub mod WorkLaws
 pub mod RunLaws
 pub mod PlayLaws

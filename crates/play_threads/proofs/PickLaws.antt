@@ -8,9 +8,9 @@ use Rattle.std.proofs.lemmas.List.Folds.{list_all_at, list_any-append}
 use Rattle.std.proofs.lemmas.List.FromFn.{get_or-range_with_len, length-range_with_len}
 use Rattle.std.proofs.lemmas.Option.{get_or_from_slice_get, slice_get_cases, slice_get_within}
 use Rattle.std.specs.List.{range_with_len}
-use Rattle.std.specs.Prelude.{◌==◌, ◌⊎◌, All, IfOk, IfSome, IsSome, OnOk, if◌then◌else◌, is_none, is_some, nat_le, slice_get}
+use Rattle.std.specs.Prelude.{◌==◌, ◌⊎◌, All, IfOk, OnOk, if◌then◌else◌, is_none, is_some, nat_le, slice_get}
 use Rattle.std.specs.Option.{option_map}
-use Rattle.egl_calls.specs.Calls.{CallValue, ReplyValue}
+use Rattle.egl_calls.specs.Calls.{CallValue}
 use Rattle.egl_calls.specs.Journals.{is_halt}
 use Rattle.egl_calls.specs.declared.memory.NoMemory.{NoMemory}
 use Rattle.egl_calls.specs.declared.entries.Entry.{Entry}
@@ -23,12 +23,11 @@ use Rattle.trace_model.specs.Serial.{next_call}
 use Rattle.shared_driver.specs.declared.picks.Pick.{Pick}
 use Rattle.shared_driver.specs.declared.picks.Pick.TheVariants.{Call}
 use Rattle.driver_core.specs.Machine.{Machine}
-use Rattle.trace_session.specs.Sessions.{Knows, SessionValue, line_at}
+use Rattle.trace_session.specs.Sessions.{Knows, SessionValue}
 use Rattle.trace_session.proofs.AlikeLaws.{knows_alike}
-use Rattle.trace_session.proofs.KnownLaws.{line_is}
-use Rattle.shared_driver.specs.Cores.{entry, of_number}
+use Rattle.shared_driver.specs.Cores.{of_number}
 use Rattle.play_threads.specs.declared.pickers.LinePicker.{LinePicker}
-use Rattle.play_threads.specs.Picks.{GoesOn, HasLearnt, IsOver, IsPickOf, IsTold, KnowsOwn, Picks, entry_told, has_stalled, have_others_halted, is_halt_beside}
+use Rattle.play_threads.specs.Picks.{GoesOn, HasLearnt, IsOver, IsPickOf, IsTold, KnowsOwn, Picks, has_stalled, have_others_halted, is_halt_beside}
 
 abbrev pub of_others : ℕ → List Entry → Type 0
 of_others n es = All (λ e. e.thread ≢ n) es
@@ -211,57 +210,56 @@ learnt_same p q own es thread session place halted h = record {
 }
 
 -- of a journal that goes on
-told_longer : (p : LinePicker) (reply : ReplyValue) (own other xs ys : List Entry) → own ≡ other → IsTold p reply own xs → IsTold p reply other (xs ++ ys)
-told_longer p reply own other xs ys same t = record {
+told_longer : (p : LinePicker) (own other xs ys : List Entry) → own ≡ other → IsTold p own xs → IsTold p other (xs ++ ys)
+told_longer p own other xs ys same t = record {
   before = t.before;
+  last = t.last;
   more = t.more ++ ys;
-  line = t.line;
-  all = t.all;
+  place = t.place;
   learnt = t.learnt;
-  next = t.next;
+  mine = t.mine;
   own_now = sym same ∙ t.own_now;
-  whole = ap (λ (l : List Entry). l ++ ys) t.whole ∙ append_assoc (t.before ++ entry_told p t.before t.line reply ∷ []) t.more ys;
+  whole = ap (λ (l : List Entry). l ++ ys) t.whole ∙ append_assoc t.before (t.last ∷ t.more) ys;
 }
 
-pub knows_longer : (p : LinePicker) (o : Option ReplyValue) (own other xs ys : List Entry) → own ≡ other → KnowsOwn p o own xs → KnowsOwn p o other (xs ++ ys)
-knows_longer p None own other xs ys same h = learnt_longer p own other xs ys same h
-knows_longer p (Some reply) own other xs ys same t = told_longer p reply own other xs ys same t
+pub knows_longer : (p : LinePicker) (b : Bool) (own other xs ys : List Entry) → own ≡ other → KnowsOwn p b own xs → KnowsOwn p b other (xs ++ ys)
+knows_longer p false own other xs ys same h = learnt_longer p own other xs ys same h
+knows_longer p true own other xs ys same t = told_longer p own other xs ys same t
 
-pub knows_none : (p : LinePicker) (o : Option ReplyValue) (own es : List Entry) → o ≡ None → HasLearnt p own es → KnowsOwn p o own es
-knows_none p o own es none h = let P : Option ReplyValue → Type 0 = λ x. KnowsOwn p x own es in subst P (sym none) h
+pub knows_none : (p : LinePicker) (b : Bool) (own es : List Entry) → b ≡ false → HasLearnt p own es → KnowsOwn p b own es
+knows_none p b own es none h = let P : Bool → Type 0 = λ x. KnowsOwn p x own es in subst P (sym none) h
 
--- the line is there that it was told of
-pub told_line : (p : LinePicker) (o : Option ReplyValue) (own es : List Entry) → KnowsOwn p o own es → p.thread < p.session.trace.threads → IfSome o (λ _. IsSome (line_at p.session p.thread))
-told_line p None own es h below = tt
-told_line p (Some reply) own es t below =
-    ap (λ (o : Option Line). is_some o) (line_is p.session t.before (knows_all p t.before t.all t.learnt) p.thread below ∙ t.next)
+pub told_none : (p q : LinePicker) (b : Bool) → b ≡ false → (own es : List Entry) → KnowsOwn p b own es → q.thread ≡ p.thread → q.session ≡ p.session → q.learnt ≡ p.learnt → q.halted ≡ p.halted → HasLearnt q own es
+told_none p q b none own es h thread session place halted =
+    let P : Bool → Type 0 = λ x. KnowsOwn p x own es in
+    learnt_same p q own es thread session place halted (subst P none h)
+
+-- the entry behind a front
+get_behind : (front : List Entry) (e : Entry) (es : List Entry) → slice_get (front ++ e ∷ es) (length front) ≡ Some e
+get_behind [] e es = refl
+get_behind (x ∷ xs) e es = get_behind xs e es
+
+pub told_there : (p : LinePicker) (b : Bool) → b ≡ true → (own es : List Entry) → KnowsOwn p b own es → (t : IsTold p own es) × (slice_get es p.asked ≡ Some t.last)
+told_there p b is own es h =
+    let P : Bool → Type 0 = λ x. KnowsOwn p x own es in
+    let t : IsTold p own es = subst P is h in
+    (t, ap (λ (n : ℕ). slice_get es n) t.place ∙ ap (λ (xs : List Entry). slice_get xs (length t.before)) t.whole ∙ get_behind t.before t.last t.more)
 
 module _ (p w : LinePicker) (own es : List Entry) (thread : w.thread ≡ p.thread) (place : w.learnt ≡ p.learnt) (halted : w.halted ≡ p.halted) where
-  told_then : (reply : ReplyValue) (t : IsTold p reply own es) → Knows (t.before ++ entry_told p t.before t.line reply ∷ []) w.session → HasLearnt w own es
-  told_then reply t knows =
-      let e = entry_told p t.before t.line reply in
+  told_now : (t : IsTold p own es) → ((xs : List Entry) → Knows xs p.session → Knows (xs ++ t.last ∷ []) w.session) → HasLearnt w own es
+  told_now t knows =
       let P : List Entry → Type 0 = λ xs. HasLearnt w own xs in
-      let h : HasLearnt w own (t.before ++ e ∷ []) = learnt_told p w t.before (e ∷ []) own t.all t.learnt thread place halted knows (sym (of_own p.thread e refl)) (sym t.own_now) in
-      subst P (sym t.whole) (learnt_longer w own own (t.before ++ e ∷ []) t.more refl h)
-
-  told_by_case : (r : Result (Unit {0}) NoMemory) (reply : ReplyValue) → IsTold p reply own es
-      → ((xs : List Entry) (l : Line) → Knows xs p.session → next_line p.session.trace.lines xs p.thread ≡ Some l → OnOk r (Knows (xs ++ entry p.thread l.number (next_call p.session.trace.lines xs p.thread l) reply ∷ []) w.session))
-      → OnOk r (HasLearnt w own es)
-  told_by_case (Ok u) reply t told = told_then reply t (told t.before t.line (knows_all p t.before t.all t.learnt) t.next)
-  told_by_case (Err x) reply t told = tt
+      let here : HasLearnt w (of_number p.thread t.before ++ t.last ∷ []) t.before = learnt_own p w (of_number p.thread t.before) t.before t.last t.mine thread place halted t.learnt (knows t.learnt.learned t.learnt.knows) in
+      subst P (sym t.whole) (learnt_longer w (of_number p.thread t.before ++ t.last ∷ []) own t.before (t.last ∷ t.more) (sym t.own_now) here)
 
 -- once it takes in what it was told, it has learnt all its own
-pub told_if_ok : (r : Result (Unit {0}) NoMemory) (p w : LinePicker) (o : Option ReplyValue) (reply : ReplyValue) → Some reply ≡ o → (own es : List Entry) → KnowsOwn p o own es → w.thread ≡ p.thread → w.learnt ≡ p.learnt → w.halted ≡ p.halted
-    → ((xs : List Entry) (l : Line) → Knows xs p.session → next_line p.session.trace.lines xs p.thread ≡ Some l → OnOk r (Knows (xs ++ entry p.thread l.number (next_call p.session.trace.lines xs p.thread l) reply ∷ []) w.session))
-    → OnOk r (HasLearnt w own es)
-told_if_ok r p w o reply is own es h thread place halted told =
-    let P : Option ReplyValue → Type 0 = λ x. KnowsOwn p x own es in
-    told_by_case p w own es thread place halted r reply (subst P (sym is) h) told
-
-pub told_none : (p q : LinePicker) (o : Option ReplyValue) → None ≡ o → (own es : List Entry) → KnowsOwn p o own es → q.thread ≡ p.thread → q.session ≡ p.session → q.learnt ≡ p.learnt → q.halted ≡ p.halted → HasLearnt q own es
-told_none p q o is own es h thread session place halted =
-    let P : Option ReplyValue → Type 0 = λ x. KnowsOwn p x own es in
-    learnt_same p q own es thread session place halted (subst P (sym is) h)
+pub told_if_ok : (r : Result (Unit {0}) NoMemory) (p w : LinePicker) (b : Bool) (e : Entry) → b ≡ true → (own es : List Entry) → KnowsOwn p b own es → Some e ≡ slice_get es p.asked → w.thread ≡ p.thread → w.learnt ≡ p.learnt → w.halted ≡ p.halted
+    → ((xs : List Entry) → Knows xs p.session → OnOk r (Knows (xs ++ e ∷ []) w.session)) → OnOk r (HasLearnt w own es)
+told_if_ok (Ok u) p w b e is own es h at thread place halted knows =
+    let t = told_there p b is own es h in
+    let same : e ≡ t.0.last = (let f : Some e ≡ Some t.0.last = at ∙ t.1 in cc) in
+    told_now p w own es thread place halted t.0 (λ xs k. let K : Entry → Type 0 = λ x. Knows (xs ++ x ∷ []) w.session in subst K same (knows xs k))
+told_if_ok (Err x) p w b e is own es h at thread place halted knows = tt
 
 -- ---- The call that is picked.
 not_held : (b : Bool) → not b ≡ false → b ≡ true
@@ -317,14 +315,15 @@ waits_on t es d n mark at stall halt = (halt, λ all. not_over t es d.state n (n
     goes all = let le : nat_le t.threads d.made ≡ true = grind (arith, nat_tests, all) in sym (ap (λ (b : Bool). b && is_stalled t es d.state) le) ∙ stall
 
 -- what was picked by all that was learnt
-pub picks_if_ok : (x : Result Pick NoMemory) (p q : LinePicker) (es : List Entry) (d : Machine) → q.thread ≡ p.thread → q.session.trace ≡ p.session.trace → q.learnt ≡ length es → HasLearnt q (of_number p.thread es) es → q.answered ≡ None
+pub picks_if_ok : (x : Result Pick NoMemory) (p q : LinePicker) (es : List Entry) (d : Machine) → q.thread ≡ p.thread → q.session.trace ≡ p.session.trace → q.learnt ≡ length es → HasLearnt q (of_number p.thread es) es → q.answered ≡ false → q.asked ≡ length es
     → IfOk x (IsPickOf q.session.trace es d.state q.thread) → IfOk x (GoesOn q.session.trace es d q.thread) → IfOk x (λ k. Picks p es d k q)
-picks_if_ok (Ok k) p q es d thread trace all learnt told pick goes_on = record {
+picks_if_ok (Ok k) p q es d thread trace all learnt told asked pick goes_on = record {
   thread = thread;
   trace = trace;
-  all = all;
+  enough = inl all;
   learnt = learnt;
   told = told;
+  asked = asked;
   pick =
       let T : TraceValue → Type 0 = λ t. IsPickOf t es d.state q.thread k in
       let N : ℕ → Type 0 = λ n. IsPickOf p.session.trace es d.state n k in
@@ -334,7 +333,7 @@ picks_if_ok (Ok k) p q es d thread trace all learnt told pick goes_on = record {
       let N : ℕ → Type 0 = λ n. GoesOn p.session.trace es d n k in
       subst N thread (subst T trace goes_on);
 }
-picks_if_ok (Err e) p q es d thread trace all learnt told pick goes_on = tt
+picks_if_ok (Err e) p q es d thread trace all learnt told asked pick goes_on = tt
 
 pub learnt_of : (p q : LinePicker) (es : List Entry) → q.thread ≡ p.thread → HasLearnt q (of_number p.thread es) es → HasLearnt q (of_number q.thread es) es
 learnt_of p q es thread h = let P : List Entry → Type 0 = λ own. HasLearnt q own es in subst P (ap (λ (n : ℕ). of_number n es) (sym thread)) h

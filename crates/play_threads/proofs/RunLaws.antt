@@ -1,8 +1,8 @@
 -- What a worker's token and picker are behind some lines that it played in one turn.
-use Rattle.std.proofs.Common.{◌≡◌, ℕ, zero, suc, ◌<◌, false, List, [], ◌∷◌, ◌++◌, refl, sym, ap, ◌∙◌, subst, None, Some, inl}
+use Rattle.std.proofs.Common.{◌≡◌, ℕ, zero, suc, ◌<◌, true, false, List, [], ◌∷◌, ◌++◌, refl, sym, ap, ◌∙◌, subst, Some, inl}
 use Rattle.std.proofs.lemmas.List.{append-nil}
 use Rattle.std.specs.Prelude.{IsSome}
-use Rattle.egl_calls.specs.Calls.{CallValue, ReplyValue}
+use Rattle.egl_calls.specs.Calls.{ReplyValue}
 use Rattle.egl_calls.specs.Journals.{are_halted}
 use Rattle.egl_calls.specs.declared.entries.Entry.{Entry}
 use Rattle.egl_model.specs.State.{State, opening}
@@ -23,17 +23,17 @@ use Rattle.shared_driver.specs.declared.picks.Pick.TheVariants.{Call}
 use Rattle.shared_driver.specs.declared.picks.Picked.{Picked}
 use Rattle.shared_driver.specs.declared.picks.Picked.TheVariants.{Replied, Waited, Stopped}
 use Rattle.play_threads.specs.declared.pickers.LinePicker.{LinePicker}
-use Rattle.play_threads.specs.Picks.{HasLearnt, IsOver, IsTold, KnowsOwn, MayLook, Picks, entry_told}
+use Rattle.play_threads.specs.Picks.{HasLearnt, IsOver, IsTold, KnowsOwn, MayLook, Picks}
 use Rattle.play_threads.specs.Work.{PlayLone}
 use Rattle.play_threads.proofs.PickLaws.{knows_none, learnt_of, learnt_same, of_number-append, of_number-past, of_others, of_own}
 use Rattle.play_threads.proofs.WorkLaws.{Turned, handed_in, legal_front, lone_as, may_look, none_lone, not_owned, turn_calm, turn_learnt, turn_line, turn_over, turn_plays, turn_told}
 
 -- a call in a turn, and so many
 abbrev pub Round : State → Token → LinePicker → Token → LinePicker → Type 0
-Round o u p v q = IsTokenRound (λ p es d k q. Picks p es d k q) (λ p r q. q ≡ record p { answered = Some r }) o u p v q
+Round o u p v q = IsTokenRound (λ p es d k q. Picks p es d k q) (λ p r q. q ≡ record p { answered = true }) o u p v q
 
 abbrev pub Rounds : State → ℕ → Token → LinePicker → Token → LinePicker → Type 0
-Rounds o k u p v q = AreTokenRounds (λ p es d k q. Picks p es d k q) (λ p r q. q ≡ record p { answered = Some r }) o k u p v q
+Rounds o k u p v q = AreTokenRounds (λ p es d k q. Picks p es d k q) (λ p r q. q ≡ record p { answered = true }) o k u p v q
 
 -- the thread n of a trace has played its lines, as far as its token has seen and keeps them, and its picker knows them
 pub record Stands (t : TraceValue) (n : ℕ) (u : Token) (p : LinePicker) : Type 0 where
@@ -46,7 +46,7 @@ pub record Stands (t : TraceValue) (n : ℕ) (u : Token) (p : LinePicker) : Type
   pub known : KnowsOwn p p.answered (mine u) u.seen
 
 -- behind lines that it played without a turn
-pub stands_by : (t : TraceValue) (n : ℕ) (w u : Token) (p q : LinePicker) → w.number ≡ n → PlaysAs t n w.seen → PlayLone t n w.seen w.tail → are_halted (mine w) ≡ false → p.thread ≡ n → p.session.trace ≡ t → p.answered ≡ None
+pub stands_by : (t : TraceValue) (n : ℕ) (w u : Token) (p q : LinePicker) → w.number ≡ n → PlaysAs t n w.seen → PlayLone t n w.seen w.tail → are_halted (mine w) ≡ false → p.thread ≡ n → p.session.trace ≡ t → p.answered ≡ false
     → IsSame w u × (u.seen ≡ w.seen) → (q.thread ≡ p.thread) × (q.session.trace ≡ p.session.trace) → q.answered ≡ p.answered → (PlayLone p.session.trace p.thread w.seen w.tail → PlayLone p.session.trace p.thread u.seen u.tail)
     → (are_halted (mine w) ≡ false → are_halted (mine u) ≡ false) → HasLearnt q (mine u) u.seen → Stands t n u q
 stands_by t n w u p q same plays lone calm own of none moved picker told lones calms learnt = record {
@@ -100,28 +100,19 @@ module _ (o : State) (u v : Token) (p q : LinePicker) (d : Round o u p v q) wher
   none_left = ap (λ (x : Token). x.tail) d.now
 
   module _ (own : p.thread ≡ u.number) where
-    told_entry : entry_told (record d.asked { answered = Some d.reply }) d.entries d.picked.pick.0 d.reply ≡ e
-    told_entry =
-        let l : Line = d.picked.pick.0 in
-        ap (λ (x : TraceValue). entry d.asked.thread l.number (next_call x.lines d.entries d.asked.thread l) d.reply) d.picked.trace
-        ∙ ap (λ (m : ℕ). entry m l.number (next_call p.session.trace.lines d.entries m l) d.reply) d.picked.thread
-        ∙ ap (λ (m : ℕ). entry p.thread m (next_call p.session.trace.lines d.entries p.thread l) d.reply) (sym d.picked.pick.3)
-        ∙ ap (λ (c : CallValue). entry p.thread d.mark c d.reply) (sym d.picked.pick.4)
-        ∙ ap (λ (m : ℕ). entry m d.mark d.call d.reply) own
-
-    told_now : IsTold (record d.asked { answered = Some d.reply }) d.reply (mine v) v.seen
+    told_now : IsTold (record d.asked { answered = true }) (mine v) v.seen
     told_now =
-        let w : LinePicker = record d.asked { answered = Some d.reply } in
+        let w : LinePicker = record d.asked { answered = true } in
         let there : HasLearnt d.asked (of_number d.asked.thread d.entries) d.entries = learnt_of p d.asked d.entries d.picked.thread d.picked.learnt in
         record {
           before = d.entries;
+          last = e;
           more = [];
-          line = d.picked.pick.0;
-          all = d.picked.all;
+          place = d.picked.asked;
           learnt = learnt_same d.asked w (of_number d.asked.thread d.entries) d.entries refl refl refl refl there;
-          next = ap (λ (x : TraceValue). next_line x.lines d.entries d.asked.thread) d.picked.trace ∙ ap (next_line p.session.trace.lines d.entries) d.picked.thread ∙ d.picked.pick.1;
-          own_now = own_then ∙ ap (λ (l : List Entry). l ++ e ∷ []) (sym own_there ∙ ap (λ (m : ℕ). of_number m d.entries) (sym (d.picked.thread ∙ own))) ∙ ap (λ (x : Entry). of_number d.asked.thread d.entries ++ x ∷ []) (sym told_entry);
-          whole = ap (λ (x : Token). x.seen) d.now ∙ ap (λ (x : Entry). d.entries ++ x ∷ []) (sym told_entry) ∙ sym (append-nil (d.entries ++ entry_told w d.entries d.picked.pick.0 d.reply ∷ []));
+          mine = sym (d.picked.thread ∙ own);
+          own_now = own_then ∙ ap (λ (l : List Entry). l ++ e ∷ []) (sym own_there ∙ ap (λ (m : ℕ). of_number m d.entries) (sym (d.picked.thread ∙ own)));
+          whole = ap (λ (x : Token). x.seen) d.now;
         }
 
     pub known_now : KnowsOwn q q.answered (mine v) v.seen

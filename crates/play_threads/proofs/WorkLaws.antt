@@ -1,33 +1,29 @@
 -- What a worker's turns leave of its token.
-use Rattle.std.proofs.Common.{◌≡◌, ◌≢◌, ℕ, zero, suc, ◌<◌, Bool, true, false, not, ◌&&◌, ◌||◌, List, [], ◌∷◌, ◌++◌, refl, sym, ap, ◌∙◌, arith, subst, append_assoc, Option, Some, Result, Ok, Err, inl}
+use Rattle.std.proofs.Common.{◌≡◌, ◌≢◌, ℕ, zero, suc, ◌<◌, Bool, true, false, ◌||◌, List, [], ◌∷◌, ◌++◌, refl, sym, ap, ◌∙◌, arith, subst, append_assoc, Option, Some, Result, Ok, Err, inl, length, inr}
 use Rattle.std.proofs.lemmas.Bool.{eq-eqb}
 use Rattle.std.proofs.lemmas.List.{append-nil}
 use Rattle.std.proofs.lemmas.List.Elements.{All-head, All-tail, All-weaker}
 use Rattle.std.proofs.lemmas.List.Folds.{list_any-append}
-use Rattle.std.specs.Prelude.{◌==◌, All, IsSome, OnOk, if◌then◌else◌, is_some}
+use Rattle.std.specs.Prelude.{◌==◌, All, IsSome, OnOk, if◌then◌else◌, is_some, ◌⊎◌}
 use Rattle.egl_calls.specs.declared.memory.NoMemory.{NoMemory}
-use Rattle.std.specs.List.{list_all}
 use Rattle.egl_calls.specs.Calls.{CallValue, ReplyValue}
 use Rattle.egl_calls.specs.Journals.{is_halt, is_halt_kind, are_halted}
 use Rattle.egl_calls.specs.declared.entries.Entry.{Entry}
 use Rattle.egl_model.specs.State.{State, opening}
 use Rattle.egl_model.specs.Step.{step}
 use Rattle.egl_model.specs.History.{IsLegalFrom, replay_from}
-use Rattle.egl_model.specs.Arguments.{number}
-use Rattle.egl_model.specs.Waits.{is_ready}
 use Rattle.trace_reader.specs.declared.traces.Line.{Line}
-use Rattle.trace_reader.specs.declared.traces.Reference.{Reference}
 use Rattle.trace_reader.specs.Traces.{TraceValue}
 use Rattle.trace_reader.specs.Order.{IsTrace}
-use Rattle.trace_model.specs.Resolve.{put_arguments, put_items, resolved, resolved_by, variable_answer}
-use Rattle.trace_model.specs.Turns.{bare_wait_end, goes_on, is_await, is_free, is_posted, next_line}
+use Rattle.trace_model.specs.Resolve.{resolved}
+use Rattle.trace_model.specs.Turns.{bare_wait_end, goes_on, next_line, has_begun}
 use Rattle.trace_model.proofs.AlikeLaws.{same_begun, same_next}
 use Rattle.trace_session.specs.Answers.{IsLone}
 use Rattle.trace_model.specs.Serial.{state_behind, next_call, entry_of}
 use Rattle.trace_model.specs.Follows.{IsNextOf, PlaysAs}
 use Rattle.trace_model.proofs.FollowsLaws.{plays_none, plays_others, plays_turn}
 use Rattle.trace_session.specs.Sessions.{Knows, SessionValue, line_at}
-use Rattle.trace_session.proofs.KnownLaws.{line_is, no_halt_known}
+use Rattle.trace_session.proofs.KnownLaws.{no_halt_known}
 use Rattle.trace_session.proofs.TraceFacts.{facts_of}
 use Rattle.shared_driver.specs.Cores.{entry, halt_call, of_number}
 use Rattle.shared_driver.specs.Picks.{ComesOf, IsAnswer, IsAtTurn, IsSeenAtTurn, picked_entries}
@@ -44,6 +40,7 @@ use Rattle.shared_driver.specs.declared.picks.Picked.{Picked}
 use Rattle.shared_driver.specs.declared.picks.Picked.TheVariants.{Replied, Waited, Stopped}
 use Rattle.play_threads.specs.Picks.{HasLearnt, IsOver, IsPickOf, KnowsOwn, MayLook, Picks}
 use Rattle.play_threads.specs.Work.{GaveUp, PlayLone, PlaysLone}
+use Rattle.play_threads.proofs.LoneLaws.{call_of_lone, lone_goes, lone_moved, lone_told, own_line}
 use Rattle.play_threads.proofs.PickLaws.{knows_all, knows_longer, learnt_longer, learnt_of, learnt_own, learnt_told, of_number-append, of_number-past, of_others, of_own}
 
 -- ---- A thread plays its lines, whatever others add.
@@ -107,34 +104,13 @@ or_none : (b c : Bool) → b ≡ false → c ≡ false → (b || c) ≡ false
 or_none b c h k = ap (λ (x : Bool). x || c) h ∙ k
 
 -- ---- Lines that wait for nobody.
--- the call of such a line is what it says
-call_by : (lines : List Line) (es : List Entry) (l : Line) (uses : List Reference) → l.uses ≡ uses → uses ≡ [] → resolved_by (variable_answer lines es) l ≡ l.call
-unfolding put_arguments put_items
-call_by lines es l uses h none =
-    let e : l.uses ≡ [] = h ∙ none in
-    ap (λ us. record { kind = l.call.kind; args = put_arguments (variable_answer lines es) l.call.args us; list = put_items (variable_answer lines es) l.call.list us; bytes = l.call.bytes }) e
-
-lone_free : (lines : List Line) (es : List Entry) (l : Line) → l.uses ≡ [] → is_await l.call.kind ≡ false → is_free lines es l ≡ true
-lone_free lines es l none post =
-    ap (λ us. list_all (λ r. is_some (variable_answer lines es r.variable)) us && (not (is_await l.call.kind) || is_posted es (number l.call 0))) none
-    ∙ ap (λ b. not b || is_posted es (number l.call 0)) post
-
--- whatever others add, it is next
-lone_moved : (t : TraceValue) (n : ℕ) (before moved : List Entry) (l : Line) → of_number n before ≡ of_number n moved → IsLone t before n l → IsLone t moved n l
-lone_moved t n before moved l own h = record {
-  next = sym (same_next before moved n own t.lines) ∙ h.next;
-  begun = ap (λ (o : Option Entry). is_some o) (sym (same_begun before moved n own)) ∙ h.begun;
-  uses = h.uses;
-  await = h.await;
-}
-
 module _ (t : TraceValue) (is : IsTrace t) (n : ℕ) (below : n < t.threads) where
   -- an entry of such a line is the thread's next, where its reply is the step's
   lone_next : (es : List Entry) (e : Entry) → PlaysLone t n es e → e.reply ≡ (step (state_behind t es) e.thread e.call).reply → IsNextOf t es e
   lone_next es e h reply =
       let l : Line = h.line in
-      let call : next_call t.lines es n l ≡ l.call = ap (λ (b : Bool). if b then bare_wait_end else resolved t.lines es l) h.lone.begun ∙ call_by t.lines es l l.uses refl h.lone.uses in
-      let goes : goes_on t.lines es (state_behind t es) n l ≡ true = ap (λ (b : Bool). if b then is_ready (state_behind t es) n else is_free t.lines es l) h.lone.begun ∙ lone_free t.lines es l h.lone.uses h.lone.await in
+      let call : next_call t.lines es n l ≡ l.call = call_of_lone t es n l h.lone in
+      let goes : goes_on t.lines es (state_behind t es) n l ≡ true = lone_goes t es (state_behind t es) n l h.lone in
       let told : e.reply ≡ (step (state_behind t es) n (next_call t.lines es n l)).reply = reply ∙ ap (λ m. (step (state_behind t es) m e.call).reply) h.own ∙ ap (λ c. (step (state_behind t es) n c).reply) (h.call ∙ sym call) in
       let made : e ≡ entry_of (state_behind t es) n l (next_call t.lines es n l) =
       ap (λ m. record { thread = m; mark = e.mark; call = e.call; reply = e.reply }) h.own
@@ -177,9 +153,6 @@ module _ (t : TraceValue) (is : IsTrace t) (n : ℕ) (below : n < t.threads) whe
       subst P (sym is_seen) (hand_in u.seen (u.seen ++ between) u.tail (sym (of_number-past n u.seen between apart)) lone (plays_past t n u.seen between apart plays) (subst O opens (subst L whole legal)))
 
 -- ---- One such line more.
-call_of_lone : (t : TraceValue) (es : List Entry) (n : ℕ) (l : Line) → IsLone t es n l → next_call t.lines es n l ≡ l.call
-call_of_lone t es n l h = ap (λ (b : Bool). if b then bare_wait_end else resolved t.lines es l) h.begun ∙ call_by t.lines es l l.uses refl h.uses
-
 more_lone : (t : TraceValue) (n : ℕ) (before xs : List Entry) (e : Entry) → PlayLone t n before xs → PlaysLone t n (before ++ xs) e → PlayLone t n before (xs ++ e ∷ [])
 more_lone t n before [] e h p = let P : List Entry → Type 0 = λ es. PlaysLone t n es e in (subst P (append-nil before) p, tt)
 more_lone t n before (x ∷ xs) e h p = let P : List Entry → Type 0 = λ es. PlaysLone t n es e in (h.0, more_lone t n (before ++ x ∷ []) xs e h.1 (subst P (sym (append_assoc before (x ∷ []) xs)) p))
@@ -243,18 +216,29 @@ module _ (t : TraceValue) (is : IsTrace t) (n : ℕ) (below : n < t.threads) (es
   plays_picked Stop Stopped a legal p = let P : List Entry → Type 0 = λ xs. PlaysAs t n xs in subst P (sym (append-nil es)) plays
 
 -- no line is a Halt
-pub calm_picked : (t : TraceValue) → IsTrace t → (s : SessionValue) → s.trace ≡ t → (n : ℕ) → n < t.threads → (es own : List Entry) (x : State) → Knows es s → (k : Pick) (r : Picked) → IsPickOf t es x n k → are_halted own ≡ false → are_halted (own ++ picked_entries n k r) ≡ false
-calm_picked t is s of n below es own x knows (Call mark call) (Replied reply) (l, next, goes, at, is_call) calm =
-    let T : TraceValue → Type 0 = λ u. IsTrace u in
-    let same : next_call s.trace.lines es n l ≡ next_call t.lines es n l = ap (λ (u : TraceValue). next_call u.lines es n l) of in
-    let quiet : is_halt_kind (next_call s.trace.lines es n l).kind ≡ false =
-    no_halt_known s (facts_of s.trace (subst T (sym of) is)) es knows n l (subst (λ (u : TraceValue). n < u.threads) (sym of) below) (ap (λ (u : TraceValue). next_line u.lines es n) of ∙ next) in
-    let last : is_halt_kind call.kind ≡ false = ap (λ (c : CallValue). is_halt_kind c.kind) (is_call ∙ sym same) ∙ quiet in
-    list_any-append is_halt own (entry n mark call reply ∷ []) ∙ or_none (are_halted own) _ calm (or_none (is_halt_kind call.kind) false last refl)
-calm_picked t is s of n below es own x knows (Call mark call) Waited p calm = ap are_halted (append-nil own) ∙ calm
-calm_picked t is s of n below es own x knows (Call mark call) Stopped p calm = ap are_halted (append-nil own) ∙ calm
-calm_picked t is s of n below es own x knows (Wait what) r p calm = ap are_halted (append-nil own) ∙ calm
-calm_picked t is s of n below es own x knows Stop r p calm = ap are_halted (append-nil own) ∙ calm
+halt_same : (lines : List Line) (l : Line) (xs ys : List Entry) (b : Bool) → is_halt_kind (if b then bare_wait_end else resolved lines xs l).kind ≡ is_halt_kind (if b then bare_wait_end else resolved lines ys l).kind
+halt_same lines l xs ys true = refl
+halt_same lines l xs ys false = refl
+
+module _ (t : TraceValue) (is : IsTrace t) (s : SessionValue) (of : s.trace ≡ t) (n : ℕ) (below : n < t.threads) (es learned : List Entry) (known : Knows learned s) (own_same : of_number n learned ≡ of_number n es) where
+  quiet_line : (l : Line) → next_line t.lines es n ≡ Some l → is_halt_kind (next_call t.lines es n l).kind ≡ false
+  quiet_line l next =
+      let T : TraceValue → Type 0 = λ u. IsTrace u in
+      let L : TraceValue → Type 0 = λ u. is_halt_kind (next_call u.lines learned n l).kind ≡ false in
+      let there : next_line s.trace.lines learned n ≡ Some l = ap (λ (u : TraceValue). next_line u.lines learned n) of ∙ same_next learned es n own_same t.lines ∙ next in
+      let quiet : is_halt_kind (next_call t.lines learned n l).kind ≡ false =
+      subst L of (no_halt_known s (facts_of s.trace (subst T (sym of) is)) learned known n l (subst (λ (u : TraceValue). n < u.threads) (sym of) below) there) in
+      let begun : has_begun es n ≡ has_begun learned n = ap (λ (o : Option Entry). is_some o) (sym (same_begun learned es n own_same)) in
+      ap (λ (b : Bool). is_halt_kind (if b then bare_wait_end else resolved t.lines es l).kind) begun ∙ halt_same t.lines l es learned (has_begun learned n) ∙ quiet
+
+  pub calm_picked : (own : List Entry) (x : State) (k : Pick) (r : Picked) → IsPickOf t es x n k → are_halted own ≡ false → are_halted (own ++ picked_entries n k r) ≡ false
+  calm_picked own x (Call mark call) (Replied reply) (l, next, goes, at, is_call) calm =
+      let last : is_halt_kind call.kind ≡ false = ap (λ (c : CallValue). is_halt_kind c.kind) is_call ∙ quiet_line l next in
+      list_any-append is_halt own (entry n mark call reply ∷ []) ∙ or_none (are_halted own) _ calm (or_none (is_halt_kind call.kind) false last refl)
+  calm_picked own x (Call mark call) Waited p calm = ap are_halted (append-nil own) ∙ calm
+  calm_picked own x (Call mark call) Stopped p calm = ap are_halted (append-nil own) ∙ calm
+  calm_picked own x (Wait what) r p calm = ap are_halted (append-nil own) ∙ calm
+  calm_picked own x Stop r p calm = ap are_halted (append-nil own) ∙ calm
 
 -- ---- A turn.
 -- what came of a picker's look in a turn
@@ -299,36 +283,18 @@ none_waited n (Call mark call) Stopped e = refl
 none_waited n (Wait what) r e = refl
 none_waited n Stop r e = refl
 
--- a call that was answered is that of a line
-line_by : (t : TraceValue) (es : List Entry) (s : State) (n : ℕ) (reply : ReplyValue) (k : Pick) (r : Picked) → r ≡ Replied reply → IsAnswer k r → IsPickOf t es s n k → IsSome (next_line t.lines es n)
-line_by t es s n reply (Call mark call) r e a (l, next, goes, at, is) = ap (λ (o : Option Line). is_some o) next
+-- a call that was answered is that of a line, and its entry is that line's
+abbrev pub IsOfLine : TraceValue → List Entry → ℕ → ReplyValue → List Entry → Type 0
+IsOfLine t es n reply more = (l : Line) × (next_line t.lines es n ≡ Some l) × (entry n l.number (next_call t.lines es n l) reply ∷ [] ≡ more)
+
+line_by : (t : TraceValue) (es : List Entry) (s : State) (n : ℕ) (reply : ReplyValue) (k : Pick) (r : Picked) → r ≡ Replied reply → IsAnswer k r → IsPickOf t es s n k → IsOfLine t es n reply (picked_entries n k r)
+line_by t es s n reply (Call mark call) (Replied other) e a (l, next, goes, at, is) =
+    let same : reply ≡ other = (let f : Replied other ≡ Replied reply = e in (let g : other ≡ reply = cc in sym g)) in
+    (l, next, ap (λ (m : ℕ). entry n m (next_call t.lines es n l) reply ∷ []) (sym at) ∙ ap (λ (c : CallValue). entry n mark c reply ∷ []) (sym is) ∙ ap (λ (x : ReplyValue). entry n mark call x ∷ []) same)
 line_by t es s n reply k Waited e a p = absurd (let f : Waited ≡ Replied reply = e in cc)
 line_by t es s n reply k Stopped e a p = absurd (let f : Stopped ≡ Replied reply = e in cc)
 line_by t es s n reply (Wait what) (Replied other) e a p = absurd a
 line_by t es s n reply Stop (Replied other) e a p = absurd a
-
--- what a session learnt of its thread's answer is the entry of the pick
-told_by : (t : TraceValue) (es : List Entry) (s : State) (n : ℕ) (q w : LinePicker) (reply : ReplyValue) → q.thread ≡ n → q.session.trace ≡ t → Knows es q.session
-    → ((xs : List Entry) (l : Line) → Knows xs q.session → next_line q.session.trace.lines xs q.thread ≡ Some l → Knows (xs ++ entry q.thread l.number (next_call q.session.trace.lines xs q.thread l) reply ∷ []) w.session)
-    → (k : Pick) (r : Picked) → r ≡ Replied reply → IsAnswer k r → IsPickOf t es s n k → Knows (es ++ picked_entries n k r) w.session
-told_by t es s n q w reply owner of knows told (Call mark call) (Replied other) e a (l, next, goes, at, is) =
-    let E : Entry → Type 0 = λ x. Knows (es ++ x ∷ []) w.session in
-    let here : next_line q.session.trace.lines es q.thread ≡ Some l = ap (λ (x : TraceValue). next_line x.lines es q.thread) of ∙ ap (next_line t.lines es) owner ∙ next in
-    let same : entry q.thread l.number (next_call q.session.trace.lines es q.thread l) reply ≡ entry n mark call other =
-    ap (λ (x : TraceValue). entry q.thread l.number (next_call x.lines es q.thread l) reply) of
-    ∙ ap (λ (m : ℕ). entry m l.number (next_call t.lines es m l) reply) owner
-    ∙ ap (λ (m : ℕ). entry n m (next_call t.lines es n l) reply) (sym at)
-    ∙ ap (λ (c : CallValue). entry n mark c reply) (sym is)
-    ∙ ap (entry n mark call) (let f : Replied other ≡ Replied reply = e in (let g : other ≡ reply = cc in sym g)) in
-    subst E same (told es l knows here)
-told_by t es s n q w reply owner of knows told (Call mark call) Waited e a p = absurd a
-told_by t es s n q w reply owner of knows told (Call mark call) Stopped e a p = absurd a
-told_by t es s n q w reply owner of knows told (Wait what) (Replied other) e a p = absurd a
-told_by t es s n q w reply owner of knows told (Wait what) Waited e a p = absurd (let f : Waited ≡ Replied reply = e in cc)
-told_by t es s n q w reply owner of knows told (Wait what) Stopped e a p = absurd a
-told_by t es s n q w reply owner of knows told Stop (Replied other) e a p = absurd a
-told_by t es s n q w reply owner of knows told Stop Waited e a p = absurd a
-told_by t es s n q w reply owner of knows told Stop Stopped e a p = absurd (let f : Stopped ≡ Replied reply = e in cc)
 
 module _ (t : TraceValue) (is : IsTrace t) (o : State) (opens : o ≡ opening t.windows t.video) (n : ℕ) (below : n < t.threads) (u v : Token) (p q : LinePicker) (r : Picked)
     (same : u.number ≡ n) (plays : PlaysAs t n u.seen) (lone : PlayLone t n u.seen u.tail) (calm : are_halted (mine u) ≡ false) (own : p.thread ≡ n) (of : p.session.trace ≡ t) (turn : Turned o u p r q v) where
@@ -359,13 +325,19 @@ module _ (t : TraceValue) (is : IsTrace t) (o : State) (opens : o ≡ opening t.
       let whole : IsPickOf t es (replay_from o es) n picked = pick_same t es (hide (outs turn.1.away) (replay_from o es)) (replay_from o es) (ready_hidden (outs turn.1.away) (replay_from o es)) n picked there in
       subst S (ap (λ s. replay_from s es) opens) whole
 
-  knows_turn : Knows es q.session
-  knows_turn = knows_all q es turn.4.all (learnt_of p q es turn.4.thread turn.4.learnt)
+  learnt_turn : HasLearnt q (of_number q.thread es) es
+  learnt_turn = learnt_of p q es turn.4.thread turn.4.learnt
+
+  owner : q.thread ≡ n
+  owner = turn.4.thread ∙ own
+
+  own_learnt : of_number n learnt_turn.learned ≡ of_number n es
+  own_learnt = let P : ℕ → Type 0 = λ m. of_number m learnt_turn.learned ≡ of_number m es in subst P owner learnt_turn.mine
 
   pub turn_calm : are_halted (mine v) ≡ false
   turn_calm =
       ap are_halted (turn.5.own ∙ ap (λ m. mine u ++ picked_entries m picked r) same)
-      ∙ calm_picked t is q.session (turn.4.trace ∙ of) n below es (mine u) (state_behind t es) knows_turn picked r pick_is calm
+      ∙ calm_picked t is q.session (turn.4.trace ∙ of) n below es learnt_turn.learned learnt_turn.knows own_learnt (mine u) (state_behind t es) picked r pick_is calm
 
   pub turn_over : r ≡ Stopped → IsOver t v.seen (state_behind t v.seen) n
   turn_over e = over_by t es v.seen n picked r turn.5.answer e pick_is seen_is
@@ -406,28 +378,50 @@ module _ (t : TraceValue) (is : IsTrace t) (o : State) (opens : o ≡ opening t.
   turn_learnt e =
       let P : List Entry → Type 0 = λ xs. HasLearnt q (mine v) xs in
       let unchanged : of_number q.thread es ≡ mine v = sym (append-nil (of_number q.thread es)) ∙ sym (ap (λ l. of_number q.thread es ++ l) (none_waited n picked r e)) ∙ own_now in
-      subst P (sym seen_is) (learnt_longer q (of_number q.thread es) (mine v) es more unchanged (learnt_of p q es turn.4.thread turn.4.learnt))
+      subst P (sym seen_is) (learnt_longer q (of_number q.thread es) (mine v) es more unchanged learnt_turn)
 
   -- a call was answered: it is that of the line where the picker's thread is
   pub turn_line : (reply : ReplyValue) → r ≡ Replied reply → IsSome (line_at q.session q.thread)
   turn_line reply e =
       let many : q.session.trace.threads ≡ t.threads = ap (λ (x : TraceValue). x.threads) (turn.4.trace ∙ of) in
       let lt : q.thread < q.session.trace.threads = omega (arith, turn.4.thread, own, many, below) in
-      ap (λ (o : Option Line). is_some o) (line_is q.session es knows_turn q.thread lt)
+      ap (λ (o : Option Line). is_some o) (own_line q es learnt_turn lt)
       ∙ ap (λ (x : TraceValue). is_some (next_line x.lines es q.thread)) (turn.4.trace ∙ of)
-      ∙ ap (λ (m : ℕ). is_some (next_line t.lines es m)) (turn.4.thread ∙ own)
-      ∙ line_by t es (state_behind t es) n reply picked r e turn.5.answer pick_is
+      ∙ ap (λ (m : ℕ). is_some (next_line t.lines es m)) owner
+      ∙ ap (λ (o : Option Line). is_some o) (line_by t es (state_behind t es) n reply picked r e turn.5.answer pick_is).1
 
   -- a call was answered, and the picker was told
-  pub turn_told : (reply : ReplyValue) → r ≡ Replied reply → (w : LinePicker) → w.thread ≡ q.thread → w.learnt ≡ q.learnt → w.halted ≡ q.halted
-      → ((xs : List Entry) (l : Line) → Knows xs q.session → next_line q.session.trace.lines xs q.thread ≡ Some l → Knows (xs ++ entry q.thread l.number (next_call q.session.trace.lines xs q.thread l) reply ∷ []) w.session)
-      → HasLearnt w (mine v) v.seen
-  turn_told reply e w thread place halted told =
-      let P : List Entry → Type 0 = λ xs. HasLearnt w (mine v) xs in
-      let h : HasLearnt q (of_number q.thread es) es = learnt_of p q es turn.4.thread turn.4.learnt in
-      let owner : q.thread ≡ n = turn.4.thread ∙ own in
-      let knows : Knows (es ++ more) w.session = told_by t es (state_behind t es) n q w reply owner (turn.4.trace ∙ of) knows_turn told picked r e turn.5.answer pick_is in
-      subst P (sym seen_is) (learnt_told q w es more (mine v) turn.4.all h thread place halted knows (sym (ap (λ m. of_number m more) owner ∙ picked_own n picked r)) own_now)
+  module _ (reply : ReplyValue) (e : r ≡ Replied reply) (w : LinePicker) (thread : w.thread ≡ q.thread) (place : w.learnt ≡ q.learnt) (halted : w.halted ≡ q.halted)
+      (told : (xs : List Entry) (l : Line) → Knows xs q.session → next_line q.session.trace.lines xs q.thread ≡ Some l → Knows (xs ++ entry q.thread l.number (next_call q.session.trace.lines xs q.thread l) reply ∷ []) w.session) where
+    of_line : IsOfLine t es n reply more
+    of_line = line_by t es (state_behind t es) n reply picked r e turn.5.answer pick_is
+
+    next_here : next_line q.session.trace.lines es q.thread ≡ Some of_line.0
+    next_here = ap (λ (x : TraceValue). next_line x.lines es q.thread) (turn.4.trace ∙ of) ∙ ap (next_line t.lines es) owner ∙ of_line.1
+
+    entry_here : entry q.thread of_line.0.number (next_call q.session.trace.lines es q.thread of_line.0) reply ∷ [] ≡ more
+    entry_here =
+        ap (λ (x : TraceValue). entry q.thread of_line.0.number (next_call x.lines es q.thread of_line.0) reply ∷ []) (turn.4.trace ∙ of)
+        ∙ ap (λ (m : ℕ). entry m of_line.0.number (next_call t.lines es m of_line.0) reply ∷ []) owner ∙ of_line.2
+
+    -- it had learnt all, or the line waits for nobody
+    told_behind : (q.learnt ≡ length es) ⊎ ((l : Line) → next_line p.session.trace.lines es p.thread ≡ Some l → IsLone p.session.trace es p.thread l) → HasLearnt w (mine v) (es ++ more)
+    told_behind (inl all) =
+        let K : List Entry → Type 0 = λ xs. Knows (es ++ xs) w.session in
+        let knows : Knows (es ++ more) w.session = subst K entry_here (told es of_line.0 (knows_all q es all learnt_turn) next_here) in
+        learnt_told q w es more (mine v) all learnt_turn thread place halted knows (sym (ap (λ m. of_number m more) owner ∙ picked_own n picked r)) own_now
+    told_behind (inr lone) =
+        let l : Line = of_line.0 in
+        let T : TraceValue → Type 0 = λ y. IsLone y es p.thread l in
+        let N : ℕ → Type 0 = λ m. IsLone q.session.trace es m l in
+        let next : next_line p.session.trace.lines es p.thread ≡ Some l = ap (λ (x : TraceValue). next_line x.lines es p.thread) of ∙ ap (next_line t.lines es) own ∙ of_line.1 in
+        let here : IsLone q.session.trace es q.thread l = subst N (sym turn.4.thread) (subst T (sym turn.4.trace) (lone l next)) in
+        let P : List Entry → Type 0 = λ xs. HasLearnt w (of_number q.thread es ++ xs) (es ++ xs) in
+        let M : List Entry → Type 0 = λ xs. HasLearnt w xs (es ++ more) in
+        subst M own_now (subst P entry_here (lone_told q w es l reply learnt_turn here thread place halted told))
+
+    pub turn_told : HasLearnt w (mine v) v.seen
+    turn_told = let P : List Entry → Type 0 = λ xs. HasLearnt w (mine v) xs in subst P (sym seen_is) (told_behind turn.4.enough)
 
 -- ---- A thread that gives up.
 pub gave_up : (t : TraceValue) → IsTrace t → (o : State) → o ≡ opening t.windows t.video → (u v : Token) (n : ℕ) → n < t.threads → u.number ≡ n → PlaysAs t n u.seen → PlayLone t n u.seen u.tail → IsLegalFrom o (v.seen ++ v.tail) → Halts u v → GaveUp t n v.seen

@@ -1,8 +1,7 @@
 -- What a worker picks in its turn.
-use Rattle.std.specs.Prelude.{◌≡◌, ◌≢◌, ◌⊎◌, ℕ, ◌<◌, ◌≤◌, Bool, true, false, not, ◌&&◌, ◌==◌, nat_le, List, [], ◌∷◌, ◌++◌, length, take, Option, None, Some}
+use Rattle.std.specs.Prelude.{◌≡◌, ◌≢◌, ◌⊎◌, ℕ, ◌<◌, ◌≤◌, Bool, true, false, not, ◌&&◌, ◌==◌, nat_le, List, [], ◌∷◌, ◌++◌, length, take, Some}
 use Rattle.std.specs.List.{list_any}
-use Rattle.egl_calls.specs.Calls.{ReplyValue}
-use Rattle.egl_calls.specs.Journals.{is_halt}
+use Rattle.egl_calls.specs.Journals.{are_halted, is_halt}
 use Rattle.egl_calls.specs.declared.entries.Entry.{Entry}
 use Rattle.egl_model.specs.State.{State}
 use Rattle.driver_core.specs.Machine.{Machine}
@@ -11,8 +10,9 @@ use Rattle.trace_reader.specs.Traces.{TraceValue}
 use Rattle.trace_model.specs.Turns.{next_line, goes_on, is_at_end, is_blocked}
 use Rattle.trace_model.specs.Serial.{next_call}
 use Rattle.trace_model.specs.Stalled.{is_stalled}
+use Rattle.trace_session.specs.Answers.{IsLone}
 use Rattle.trace_session.specs.Sessions.{Knows}
-use Rattle.shared_driver.specs.Cores.{entry, of_number}
+use Rattle.shared_driver.specs.Cores.{of_number}
 use Rattle.shared_driver.specs.declared.picks.Pick.{Pick}
 use Rattle.shared_driver.specs.declared.picks.Pick.TheVariants.{Call, Wait, Stop}
 use Rattle.play_threads.specs.declared.pickers.LinePicker.{LinePicker}
@@ -34,25 +34,21 @@ pub record HasLearnt (p : LinePicker) (own es : List Entry) : Type 0 where
   pub others : (n : ℕ) → n ≢ p.thread → of_number n learned ≡ of_number n (take p.learnt es)
   pub halted : p.halted ≡ have_others_halted p.thread (take p.learnt es)
 
--- the entry of a picker's next line behind a journal, answered so
-abbrev pub entry_told : LinePicker → List Entry → Line → ReplyValue → Entry
-entry_told p before l reply = entry p.thread l.number (next_call p.session.trace.lines before p.thread l) reply
-
--- a picker was told how the call of its next line was answered. It had learnt the journal up to that entry, with which these are its own
-pub record IsTold (p : LinePicker) (reply : ReplyValue) (own es : List Entry) : Type 0 where
+-- The call that a picker picked last was answered, and its entry stands where the picker awaits it. Before that it had learnt its own entries
+pub record IsTold (p : LinePicker) (own es : List Entry) : Type 0 where
   pub before : List Entry
+  pub last : Entry
   pub more : List Entry
-  pub line : Line
-  pub all : p.learnt ≡ length before
+  pub place : p.asked ≡ length before
   pub learnt : HasLearnt p (of_number p.thread before) before
-  pub next : next_line p.session.trace.lines before p.thread ≡ Some line
-  pub own_now : own ≡ of_number p.thread before ++ entry_told p before line reply ∷ []
-  pub whole : es ≡ (before ++ entry_told p before line reply ∷ []) ++ more
+  pub mine : last.thread ≡ p.thread
+  pub own_now : own ≡ of_number p.thread before ++ last ∷ []
+  pub whole : es ≡ before ++ last ∷ more
 
 -- a picker knows its own entries in a journal, by what it has learnt, and the answer that it was told
-abbrev pub KnowsOwn : LinePicker → Option ReplyValue → List Entry → List Entry → Type 0
-KnowsOwn p None own es = HasLearnt p own es
-KnowsOwn p (Some reply) own es = IsTold p reply own es
+abbrev pub KnowsOwn : LinePicker → Bool → List Entry → List Entry → Type 0
+KnowsOwn p false own es = HasLearnt p own es
+KnowsOwn p true own es = IsTold p own es
 
 -- a picker may look at a journal that goes on behind what it learnt and whose entries of its own it knows, and at a driver that has its thread
 pub record MayLook (p : LinePicker) (es : List Entry) (d : Machine) : Type 0 where
@@ -70,6 +66,12 @@ IsPickOf t es s thread (Call mark call) = (l : Line) × (next_line t.lines es th
 IsPickOf t es s thread (Wait what) = is_blocked t.lines es s thread ≡ true
 IsPickOf t es s thread Stop = IsOver t es s thread
 
+-- the pick by the thread's own entries alone, in a journal in which nobody gave up where it is a call: its next line waits for nobody, or it is at its end
+abbrev pub IsOwnPick : TraceValue → List Entry → List Entry → ℕ → Pick → Type 0
+IsOwnPick t es journal thread (Call mark call) = (l : Line) × IsLone t es thread l × (mark ≡ l.number) × (call ≡ l.call) × (are_halted journal ≡ false)
+IsOwnPick t es journal thread (Wait what) = ⊥
+IsOwnPick t es journal thread Stop = is_at_end t.lines es thread ≡ true
+
 -- whether a run has stalled. While threads of the trace have no token yet, it hasn't
 abbrev pub has_stalled : TraceValue → List Entry → Machine → Bool
 has_stalled t es d = nat_le t.threads d.made && is_stalled t es d.state
@@ -80,12 +82,13 @@ GoesOn t es d thread (Call mark call) = ¬ (IsOver t es d.state thread)
 GoesOn t es d thread (Wait what) = (have_others_halted thread es ≡ false) × (t.threads ≤ d.made → ¬ (IsOver t es d.state thread))
 GoesOn t es d thread Stop = Unit {0}
 
--- a picker that has learnt all entries, and what it was told, gave the pick of its thread
+-- a picker that has learnt what it was told, and all entries unless its next line waits for nobody, gave the pick of its thread
 pub record Picks (p : LinePicker) (es : List Entry) (d : Machine) (k : Pick) (q : LinePicker) : Type 0 where
   pub thread : q.thread ≡ p.thread
   pub trace : q.session.trace ≡ p.session.trace
-  pub all : q.learnt ≡ length es
+  pub enough : (q.learnt ≡ length es) ⊎ ((l : Line) → next_line p.session.trace.lines es p.thread ≡ Some l → IsLone p.session.trace es p.thread l)
   pub learnt : HasLearnt q (of_number p.thread es) es
-  pub told : q.answered ≡ None
+  pub told : q.answered ≡ false
+  pub asked : q.asked ≡ length es
   pub pick : IsPickOf p.session.trace es d.state p.thread k
   pub goes_on : GoesOn p.session.trace es d p.thread k

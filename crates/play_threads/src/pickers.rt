@@ -1,5 +1,5 @@
 //! What a worker picks, by what it knows of the journal.
-ghost use Rattle.std.specs.Prelude.{◌≡◌, ◌<◌, ◌+◌, ◌-◌, ◌^◌, ◌||◌, ◌∷◌, ◌++◌, [], length, slice_get, is_some, None, Some, IfOk, IfSome, IsSome, OnOk, List};
+ghost use Rattle.std.specs.Prelude.{◌≡◌, ◌<◌, ◌+◌, ◌-◌, ◌^◌, ◌||◌, ◌∷◌, ◌++◌, [], length, slice_get, is_some, false, Some, IfOk, IfSome, IsSome, OnOk, List};
 ghost use Rattle.egl_calls.specs.Journals.{is_halt};
 ghost use Rattle.egl_calls.specs.declared.entries.Entry.{Entry as AnEntry};
 ghost use Rattle.trace_reader.specs.declared.traces.Line.{Line as ALine};
@@ -10,7 +10,7 @@ ghost use Rattle.trace_session.specs.Chains.{AreChains};
 ghost use Rattle.trace_session.specs.Facts.{HasFacts};
 ghost use Rattle.trace_session.specs.Sessions.{Knows, line_at};
 ghost use Rattle.shared_driver.specs.Cores.{entry, of_number};
-ghost use Rattle.play_threads.specs.Picks.{GoesOn, HasLearnt, IsPickOf, KnowsOwn, MayLook, Picks, has_stalled, have_others_halted};
+ghost use Rattle.play_threads.specs.Picks.{GoesOn, HasLearnt, IsOwnPick, IsPickOf, KnowsOwn, MayLook, Picks, has_stalled, have_others_halted};
 
 use crate::needs::wanted;
 use driver_core::Driver;
@@ -20,20 +20,22 @@ use std::alloc::Global;
 use trace_reader::{Line, Trace};
 use trace_session::{Chains, Session};
 
-/// Picks the next call of one thread of a trace. In its look it learns the entries of other threads that were added since the last one; its own it is told when they are answered.
+/// Picks the next call of one thread of a trace. It learns the entries of other threads no sooner than its thread has a line that may wait for them, since in a run each of many threads would else learn each entry, in its turns. Its own it is told when they are answered.
 #[derive(Drop)]
 pub struct LinePicker<'a> {
     pub(crate) alloc: Global,
     pub(crate) thread: u32,
     pub(crate) session: Session<'a>,
-    // how many of the journal's entries it has looked at
+    // how many of the journal's entries it has learnt
     pub(crate) learnt: u64,
     // another thread gave up
     pub(crate) halted: bool,
     // its own thread is in a wait
     pub(crate) waits: bool,
-    // how the call that it picked last was answered, where its session hasn't learnt that yet
-    pub(crate) answered: Option<Reply>,
+    // where the entry of the call that it picked last comes to stand
+    pub(crate) asked: u64,
+    // that call was answered, and its session hasn't learnt its entry yet
+    pub(crate) answered: bool,
     // it may pick several lines in one turn
     pub(crate) runs: bool,
 }
@@ -57,7 +59,7 @@ impl<'a> LinePicker<'a> {
         requires { AreChains trace.now chains.now }
         ensures trace { IfOk result (λ p. p.session.trace ≡ trace.now) }
         ensures thread { IfOk result (λ p. p.thread ≡ thread) }
-        ensures told { IfOk result (λ p. p.answered ≡ None) }
+        ensures told { IfOk result (λ p. p.answered ≡ false) }
         ensures learnt { IfOk result (λ p. (es : List AnEntry) → HasLearnt p [] es) }
     {
         Ok(LinePicker {
@@ -67,7 +69,8 @@ impl<'a> LinePicker<'a> {
             learnt: 0,
             halted: false,
             waits: false,
-            answered: None,
+            asked: 0,
+            answered: false,
             runs,
         })
     }
@@ -76,7 +79,7 @@ impl<'a> LinePicker<'a> {
     fn learn_other(&mut self, entry: &Entry) -> Result<(), NoMemory>
         requires { self.old.learnt < 2 ^ 64 - 1 }
         ensures same { (self.new.thread ≡ self.old.thread) × (self.new.session.trace ≡ self.old.session.trace) }
-        ensures told { self.new.answered ≡ self.old.answered }
+        ensures told { (self.new.answered ≡ self.old.answered) × (self.new.asked ≡ self.old.asked) }
         ensures next { OnOk result (self.new.learnt ≡ self.old.learnt + 1) }
         ensures knows { (es : List AnEntry) → Knows es self.old.session → OnOk result (Knows (es ++ entry.now ∷ []) self.new.session) }
         ensures halted { OnOk result (self.new.halted ≡ (self.old.halted || is_halt entry.now)) }
@@ -91,7 +94,7 @@ impl<'a> LinePicker<'a> {
     fn learn_one(&mut self, entry: &Entry) -> Result<(), NoMemory>
         requires { self.old.learnt < 2 ^ 64 - 1 }
         ensures same { (self.new.thread ≡ self.old.thread) × (self.new.session.trace ≡ self.old.session.trace) }
-        ensures told { self.new.answered ≡ self.old.answered }
+        ensures told { (self.new.answered ≡ self.old.answered) × (self.new.asked ≡ self.old.asked) }
         ensures next { OnOk result (self.new.learnt ≡ self.old.learnt + 1) }
         ensures learnt { (own es : List AnEntry) → HasLearnt self.old own es → slice_get es self.old.learnt ≡ Some entry.now → OnOk result (HasLearnt self.new own es) }
     {
@@ -106,7 +109,7 @@ impl<'a> LinePicker<'a> {
     fn learn(&mut self, journal: &Journal) -> Result<(), NoMemory>
         requires { HasLearnt self.old (of_number self.old.thread journal.now.entries) journal.now.entries }
         ensures same { (self.new.thread ≡ self.old.thread) × (self.new.session.trace ≡ self.old.session.trace) }
-        ensures told { self.new.answered ≡ self.old.answered }
+        ensures told { (self.new.answered ≡ self.old.answered) × (self.new.asked ≡ self.old.asked) }
         ensures all { OnOk result (self.new.learnt ≡ length journal.now.entries) }
         ensures learnt { OnOk result (HasLearnt self.new (of_number self.old.thread journal.now.entries) journal.now.entries) }
     {
@@ -118,6 +121,23 @@ impl<'a> LinePicker<'a> {
             }
         }
         Ok(())
+    }
+
+    // The pick by its own entries alone, where these tell it: the call of a line that waits for nobody, as long as nobody gave up, or nothing any more at the thread's end.
+    fn own_pick(&self, journal: &Journal) -> Result<Option<Pick>, NoMemory>
+        requires { self.now.thread < self.now.session.trace.threads }
+        ensures { (es : List AnEntry) → Knows es self.now.session → IfOk result (λ o. IfSome o (IsOwnPick self.now.session.trace es journal.now.entries self.now.thread)) }
+    {
+        if self.session.line(self.thread).is_none() {
+            return Ok(Some(Pick::Stop));
+        }
+        if journal.is_halted() {
+            return Ok(None);
+        }
+        let Some(line) = self.session.lone_line(self.thread) else {
+            return Ok(None);
+        };
+        Ok(Some(Pick::Call(line.number, line.call.to_call(self.alloc)?)))
     }
 
     // What its thread waits for, where it is blocked.
@@ -186,18 +206,24 @@ impl<'a> LinePicker<'a> {
         self.session.learn_next(self.alloc, self.thread, reply)
     }
 
-    // Takes in how the call that it picked last was answered, where it was told that in the same turn.
-    fn learn_told(&mut self) -> Result<(), NoMemory>
-        requires below { self.old.thread < self.old.session.trace.threads }
-        requires line { IfSome self.old.answered (λ _. IsSome (line_at self.old.session self.old.thread)) }
+    // Begins a look at a journal: takes in the entry of its last call, where that was answered in the same turn, and notes where that of its next one comes to stand.
+    fn learn_told(&mut self, journal: &Journal) -> Result<(), NoMemory>
+        requires { KnowsOwn self.old self.old.answered (of_number self.old.thread journal.now.entries) journal.now.entries }
         ensures same { (self.new.thread ≡ self.old.thread) × (self.new.session.trace ≡ self.old.session.trace) }
-        ensures told { self.new.answered ≡ None }
-        ensures learnt { (own es : List AnEntry) → KnowsOwn self.old self.old.answered own es → OnOk result (HasLearnt self.new own es) }
+        ensures told { (self.new.answered ≡ false) × (self.new.asked ≡ length journal.now.entries) }
+        ensures learnt { OnOk result (HasLearnt self.new (of_number self.old.thread journal.now.entries) journal.now.entries) }
     {
-        match self.answered.take() {
-            Some(reply) => self.learn_own(reply),
-            None => Ok(()),
+        let place = self.asked;
+        self.asked = journal.len();
+        if !self.answered {
+            return Ok(());
         }
+        self.answered = false;
+        let Some(entry) = journal.entry(place) else {
+            unreachable!()
+        };
+        self.waits = is_waiting(entry.reply.outcome);
+        self.session.learn(self.alloc, entry)
     }
 }
 
@@ -207,7 +233,10 @@ impl<'a> Picker for LinePicker<'a> {
     ghost picks = { λ p es d k q. Picks p es d k q };
 
     fn pick(&mut self, journal: &Journal, driver: &Driver) -> Result<Pick, NoMemory> {
-        self.learn_told()?;
+        self.learn_told(journal)?;
+        if let Some(pick) = self.own_pick(journal)? {
+            return Ok(pick);
+        }
         self.learn(journal)?;
         self.picked(driver)
     }

@@ -1,5 +1,5 @@
 //! How long a worker plays its lines in one turn.
-ghost use Rattle.std.specs.Prelude.{◌≡◌, Some};
+ghost use Rattle.std.specs.Prelude.{◌≡◌, true};
 ghost use Rattle.play_threads.specs.Turns.{is_left_to_part, is_client_wait, is_played_on, picks_again};
 
 use crate::pickers::LinePicker;
@@ -29,7 +29,7 @@ fn is_played_on(line: &Line, freed: bool) -> bool
 }
 
 impl<'a> Runner for LinePicker<'a> {
-    ghost told = { λ p r q. q ≡ record p { answered = Some r } };
+    ghost told = { λ p r q. q ≡ record p { answered = true } };
 
     ghost wants = { λ p r freed. picks_again p r freed };
 
@@ -47,7 +47,8 @@ impl<'a> Runner for LinePicker<'a> {
         }
     }
 
-    fn tell(&mut self, reply: Reply) {
-        self.answered = Some(reply);
+    // The reply stands in the journal as well, where the next look finds it.
+    fn tell(&mut self, _reply: Reply) {
+        self.answered = true;
     }
 }

@@ -1,4 +1,4 @@
-use Rattle.std.proofs.Common.{◌≡◌, false, None}
+use Rattle.std.proofs.Common.{◌≡◌, false}
 use Rattle.egl_calls.specs.Journals.{are_halted}
 use Rattle.trace_model.specs.Follows.{PlaysAs}
 use Rattle.shared_driver.specs.Tokens.{IsOf, IsSame, mine, token_of}
@@ -15,6 +15,6 @@ invariant-turns g l = record {
   calm : are_halted (mine (token_of l.thread)) ≡ false;
   thread : l.picker.thread ≡ (token_of l.fn.thread).number;
   trace : l.picker.session.trace ≡ l.trace;
-  told : l.picker.answered ≡ None;
+  told : l.picker.answered ≡ false;
   learnt : HasLearnt l.picker (mine (token_of l.thread)) (token_of l.thread).seen;
 }

@@ -6,7 +6,7 @@ pub each-preserved : goal.each-preserved
 each-preserved c = record {
   thread = c.learn_one.ensures.same.0 ∙ c.each.invariant.thread;
   trace = c.learn_one.ensures.same.1 ∙ c.each.invariant.trace;
-  told = c.learn_one.ensures.told ∙ c.each.invariant.told;
+  told = (c.learn_one.ensures.told.0 ∙ c.each.invariant.told.0, c.learn_one.ensures.told.1 ∙ c.each.invariant.told.1);
   learnt = c.in_ok-learn_one-in-Some.ensures.learnt _ c.args.journal.now.entries c.each.invariant.learnt (sym c.in-Some.ensures);
 }
 

@@ -7,7 +7,7 @@ abbrev pub invariant-each : goal.invariant-each
 invariant-each l = record {
   thread : l.self.thread ≡ l.fn.self.thread;
   trace : l.self.session.trace ≡ l.fn.self.session.trace;
-  told : l.self.answered ≡ l.fn.self.answered;
+  told : (l.self.answered ≡ l.fn.self.answered) × (l.self.asked ≡ l.fn.self.asked);
   learnt : HasLearnt l.self (of_number l.fn.self.thread l.journal.entries) l.journal.entries;
 }
 
