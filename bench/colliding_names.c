@@ -1,8 +1,9 @@
 /*
  * Prints keys that collide under the key with which a plain driver hashes (both of its numbers are 0): all of them lead to one group
  * of an index map of up to 73,728 entries. Words: how many, and either `names`, which are numbers of 32 bits as textures have them,
- * or `variables` and how many characters each has, from 9 to 32. Under the key of a trace, which all its bytes give, they collide no
- * more than others. Compiled by cc.
+ * or `variables` and how many characters each has, from 9 to 32, or `entries`, a number and a byte: numbers that collide behind these
+ * two, as a driver's handles and names stand behind a display or a group and a kind. Under the key of a trace or a log, which all its
+ * bytes give, they collide no more than others. Compiled by cc.
  */
 #include <stdint.h>
 #include <stdio.h>
@@ -73,6 +74,25 @@ static void print_names(struct state begun, long wanted) {
   }
 }
 
+static void put(unsigned char *bytes, uint64_t number, int count) {
+  for (int k = 0; k < count; k++)
+    bytes[k] = (unsigned char)(number >> 8 * k);
+}
+
+static void print_entries(struct state begun, long wanted, uint64_t first, uint64_t second) {
+  /* 8 bytes, one, and a number of 16. */
+  unsigned char bytes[25] = {0};
+  put(bytes, first, 8);
+  put(bytes + 8, second, 1);
+  for (uint64_t number = 1; wanted > 0; number++) {
+    put(bytes + 9, number, 8);
+    if (is_in_first_group(hash_of(begun, bytes, sizeof bytes))) {
+      printf("%llu\n", (unsigned long long)number);
+      wanted--;
+    }
+  }
+}
+
 static void print_variables(struct state begun, long wanted, long length) {
   unsigned char word[LONGEST + 2];
   memset(word, 'a', sizeof word);
@@ -96,6 +116,8 @@ int main(int count, char **words) {
   take(&begun, 0);
   if (wanted > 0 && count == 3 && strcmp(words[2], "names") == 0)
     print_names(begun, wanted);
+  else if (wanted > 0 && count == 5 && strcmp(words[2], "entries") == 0)
+    print_entries(begun, wanted, strtoull(words[3], NULL, 10), strtoull(words[4], NULL, 10));
   else if (wanted > 0 && count == 4 && strcmp(words[2], "variables") == 0 && length >= SHORTEST && length <= LONGEST)
     print_variables(begun, wanted, length);
   else

@@ -6,17 +6,16 @@ The program plays the log's calls in their order, and what it answers is compare
 import os
 import re
 import sys
-from dataclasses import dataclass, field
 
 sys.dont_write_bytecode = True
 sys.path.insert(0, os.path.dirname(os.path.abspath(__file__)))
+from configs import CONFIG_PLACES, Configs, number_of
+from differences import Difference, Judgement
 from logs import NAMES, OWN, Malformed, is_number, read, variables_of
 from oracle import Oracle, Trouble
 from pixels import pixels_of
-from shadow import BINDINGS, CONFIGS, CREATING, NAMED, Pixels, Shadow
+from shadow import BINDINGS, CREATING, NAMED, Pixels, Shadow
 
-# By a call the place of its config.
-CONFIG_PLACES = {"eglGetConfigAttrib": 1, "eglCreateWindowSurface": 1, "eglCreatePbufferSurface": 1, "eglCreateContext": 1}
 CONFIG_LISTS = ("eglGetConfigs", "eglChooseConfig")
 CONFIG_QUERIES = ("eglGetConfigAttrib", "eglQuerySurface", "eglQueryContext")
 # What is the implementation's own.
@@ -25,7 +24,6 @@ OWN_ATTRIBUTES = ("EGL_NATIVE_VISUAL_ID", "EGL_NATIVE_VISUAL_TYPE", "EGL_MAX_PBU
 NAME_PLACES = {"glBindTexture": 1, "glBindBuffer": 1, "glBindRenderbufferOES": 1, "glBindFramebufferOES": 1, "glIsTexture": 0, "glIsBuffer": 0, "glIsRenderbufferOES": 0, "glIsFramebufferOES": 0, "glDeleteTextures": 0, "glDeleteBuffers": 0, "glDeleteRenderbuffersOES": 0, "glDeleteFramebuffersOES": 0, "glFramebufferTexture2DOES": 3, "glFramebufferRenderbufferOES": 3, "eglCreateImage": 3}
 # By a kind of names the calls that rest on its binding alone; those of textures and framebuffers change what is drawn, so all calls of OpenGL ES do.
 RESTING = {"renderbuffer": ("glRenderbufferStorageOES", "glGetRenderbufferParameterivOES", "glEGLImageTargetRenderbufferStorageOES", "glGetIntegerv"), "buffer": ("glBufferData", "glBufferSubData", "glGetBufferParameteriv", "glGetIntegerv")}
-WORDS = {**dict.fromkeys(("EGL_FALSE", "GL_FALSE", "EGL_DEFAULT_DISPLAY", "EGL_NO_DISPLAY", "EGL_NO_CONTEXT", "EGL_NO_SURFACE", "EGL_NO_SYNC", "EGL_NO_IMAGE"), 0), "EGL_TRUE": 1, "GL_TRUE": 1, "EGL_DONT_CARE": -1, "EGL_FOREVER": -1}
 # The waits of a fence that has not been signalled, and of one that has.
 UNSIGNALLED, SIGNALLED = ("EGL_TIMEOUT_EXPIRED", "EGL_UNSIGNALED"), ("EGL_CONDITION_SATISFIED", "EGL_SIGNALED")
 
@@ -36,48 +34,6 @@ OF_CURRENT = ("eglGetCurrentContext", "eglGetCurrentSurface", "eglGetCurrentDisp
 
 class Again(Exception):
     """A call is left out or put in: the program has to play all again."""
-
-
-@dataclass
-class Difference:
-    line: int
-    kind: str
-    expected: str
-    found: str
-    # What stands in its line behind the kind.
-    text: str
-    name: str
-    is_zero: bool = False
-
-    def spelled(self):
-        return f"difference {self.line} {self.kind} {self.text}"
-
-
-@dataclass
-class Judgement:
-    lines: int = 0
-    agreed: int = 0
-    own: int = 0
-    differences: list = field(default_factory=list)
-    after: list = field(default_factory=list)
-    unjudged: list = field(default_factory=list)
-    cut: str = None
-
-    def text(self):
-        said = [(difference.line, difference.spelled()) for difference in self.differences]
-        said += [(line, f"after {line} {cause}") for line, cause in self.after] + [(line, f"unjudged {line} {why}") for line, why in self.unjudged]
-        head = f"judged {self.lines} agreed {self.agreed} differences {len(self.differences)} after {len(self.after)} unjudged {len(self.unjudged)} own {self.own} {'cut' if self.cut else 'whole'}"
-        return "\n".join([head, *(line for _, line in sorted(said)), *([self.cut] if self.cut else []), "end"]) + "\n"
-
-    def status(self):
-        return 9 if self.differences else 0
-
-
-def number_of(word):
-    """The number that a word of a trace stands for, or the word where it is a name's."""
-    if re.fullmatch(r"-?[0-9]+", word):
-        return int(word)
-    return int(word, 16) if word.startswith("0x") else WORDS.get(word, word)
 
 
 def is_same(ours, theirs):
@@ -91,24 +47,11 @@ class Judge:
         self.unplayed = {}
         # By a line the fences that are served before it: a thread, a display and a sync.
         self.served = {}
-        self.by_variable = {line.variable: line for line in log.lines if line.variable}
-        self.ours = self.mapped_configs()
+        self.configs = Configs(log)
         for line in log.lines:
             if line.answer is not None and line.number not in self.unplayed and self.has_other_config(line):
                 self.unplayed[line.number] = "config", line.number
                 self.lose(line, line.number)
-
-    def mapped_configs(self):
-        """By a config of the driver's that of ours which has its sizes."""
-        if not self.log.configs:
-            return {config: config for config in CONFIGS}
-        free, found = {}, {}
-        for config, sizes in CONFIGS.items():
-            free.setdefault(sizes, config)
-        for theirs, sizes in self.log.configs.items():
-            if sizes in free:
-                found[theirs] = free.pop(sizes)
-        return found
 
     def judged(self):
         while True:
@@ -129,42 +72,12 @@ class Judge:
         said = re.match(r"malformed ([0-9]+) ([A-Za-z]+)", trouble.said)
         return Malformed(self.lines_of[int(said[1])], said[2]) if said else trouble
 
-    def config(self, word):
-        """Our config for a word of the log, or None."""
-        listed = re.fullmatch(r"\$([a-z0-9_]+)\.([0-9]+)", word)
-        if listed:
-            answer = self.by_variable[listed[1]].answer
-            items = answer.list if answer else []
-            word = items[int(listed[2])] if int(listed[2]) < len(items) else "0"
-        theirs = number_of(word)
-        return self.ours.get(theirs, None if self.log.configs or listed else theirs)
-
     def has_other_config(self, line):
         """Whether a config stands there that is none of ours."""
-        place, words = CONFIG_PLACES.get(line.name), self.words(line)
+        place, words = CONFIG_PLACES.get(line.name), self.configs.words(line)
         if line.name == "eglChooseConfig":
             return len(words) == 2 and "None" in words[1].strip("[]").split(",")
         return place is not None and words[place:place + 1] == ["None"]
-
-    def words(self, line):
-        """The words of a call as the program plays it."""
-        words = list(line.words)
-        place = CONFIG_PLACES.get(line.name)
-        if place is not None and place < len(words):
-            words[place] = str(self.config(words[place]))
-        if line.name == "eglChooseConfig" and len(words) == 2:
-            words[1] = self.chosen(words[1])
-        if line.name == "eglClientWaitSync" and len(words) == 4 and words[3].startswith(("-", "EGL_FOREVER")):
-            words[3] = "0"
-        return words
-
-    def chosen(self, listed):
-        """An attribute list with our config for that which it asks for."""
-        items = listed[1:-1].split(",")
-        for k in range(0, len(items) - 1, 2):
-            if items[k] == "EGL_CONFIG_ID" and items[k + 1] not in ("-1", "EGL_DONT_CARE"):
-                items[k + 1] = str(self.config(items[k + 1]))
-        return f"[{','.join(items)}]"
 
     def trace(self):
         """The trace of what is played, whose threads take turns as the log's do."""
@@ -188,7 +101,7 @@ class Judge:
             for thread, display, sync in self.served.get(line.number, []):
                 add(thread, f"eglWaitSync {display} {sync} 0", line.number)
             call = "readFront" if line.name == "front" else line.name
-            add(line.thread, " ".join([*([f"${line.variable}", "="] if line.variable else []), call, *self.words(line)]), line.number)
+            add(line.thread, " ".join([*([f"${line.variable}", "="] if line.variable else []), call, *self.configs.words(line)]), line.number)
             self.played[line.number] = len(text)
         return "\n".join(text) + "\n"
 
@@ -285,7 +198,7 @@ class Pass:
         outcome, value, listed, read = self.answers[self.judge.played[line.number]]
         if line.variable:
             self.values[line.variable], self.listed[line.variable] = value, listed
-        args = [self.argument(word) for word in self.judge.words(line)]
+        args = [self.argument(word) for word in self.judge.configs.words(line)]
         if outcome == "ok" and line.answer.outcome == "ok":
             self.serve(line, args, value)
             self.both_done(line, args, value, listed, read)
@@ -448,9 +361,9 @@ class Pass:
         context.group.theirs.update({(kind, int(name)): number for name, number in zip(listed, numbers)})
 
     def compare_configs(self, line, listed):
-        theirs, by_ours = line.answer.list, {ours: theirs for theirs, ours in self.judge.ours.items()}
+        theirs, by_ours = line.answer.list, {ours: theirs for theirs, ours in self.judge.configs.ours.items()}
         wanted = [str(by_ours[int(config)]) for config in listed if int(config) in by_ours]
-        found = [config for config in theirs if is_number(config) and int(config) in self.judge.ours]
+        found = [config for config in theirs if is_number(config) and int(config) in self.judge.configs.ours]
         if wanted != found:
             self.differ(line, "list", f"[{','.join(wanted)}]", f"[{','.join(found)}]")
 
@@ -472,7 +385,7 @@ class Pass:
         if name in ("eglGetCurrentContext", "eglGetCurrentSurface"):
             return shadow.theirs.get(int(value), "-")
         if name in CONFIG_QUERIES and args[2] == "EGL_CONFIG_ID":
-            return next((str(theirs) for theirs, ours in self.judge.ours.items() if ours == int(value)), "-")
+            return next((str(theirs) for theirs, ours in self.judge.configs.ours.items() if ours == int(value)), "-")
         kinds = [BINDINGS.get(args[0])] if name == "glGetIntegerv" else []
         if name == "glGetFramebufferAttachmentParameterivOES" and args[2] == "GL_FRAMEBUFFER_ATTACHMENT_OBJECT_NAME_OES":
             kinds = shadow.attached_kinds(line.thread, args[1], number_of(value))

@@ -4,6 +4,8 @@ import re
 import subprocess
 
 HERE = os.path.dirname(os.path.dirname(os.path.abspath(__file__)))
+# By the names of the launchers what they build.
+BUILT = {name: os.path.join(HERE, "crates", crate, "out", crate) for name, crate in {"egl_cli": "egl_main", "egl_explain": "egl_explain_main", "egl_judge": "egl_judge_main"}.items()}
 
 
 class Trouble(Exception):
@@ -14,14 +16,24 @@ class Trouble(Exception):
         self.status, self.said = status, said
 
 
-def programs(path=None):
-    """The program that plays, and the one that explains: those that are built, or else the launchers."""
-    built = [os.path.join(HERE, "crates", name, "out", name) for name in ("egl_main", "egl_explain_main")]
+def beside(path, built, names):
+    """Programs of these names in the folder of the egl_cli at a path, where it is another than the one that is built; else those that are built, or the launchers."""
     path = path or os.environ.get("EGL_CLI")
-    if path:
+    if path and path != BUILT["egl_cli"]:
         folder, name = os.path.split(path)
-        return built if path == built[0] else [path, os.path.join(folder, name.replace("egl_cli", "egl_explain"))]
-    return built if all(map(os.path.exists, built)) else [os.path.join(HERE, "egl_cli"), os.path.join(HERE, "egl_explain")]
+        return [os.path.join(folder, name.replace("egl_cli", other)) for other in names]
+    return built if path or all(map(os.path.exists, built)) else [os.path.join(HERE, other) for other in names]
+
+
+def programs(path=None):
+    """The program that plays, and the one that explains."""
+    names = ["egl_cli", "egl_explain"]
+    return beside(path, [BUILT[name] for name in names], names)
+
+
+def judging(path=None):
+    """The program that judges."""
+    return beside(path, [BUILT["egl_judge"]], ["egl_judge"])[0]
 
 
 class Oracle:

@@ -13,6 +13,7 @@ from c_program import c_program
 from judge import Difference, judge
 from logs import Malformed, read
 from oracle import Oracle
+from proved import Proved
 from waivers import Waiver, cure_of, waive
 
 INNER = ("census", "readFront", "readBuffer")
@@ -32,7 +33,7 @@ CASES = [
     ("another error of those that hold is kept", "1 eglMakeCurrent $d 0 $s 0 => EGL_BAD_MATCH\n1 eglSwapBuffers 9 $d => EGL_BAD_SURFACE\n1 eglGetError => ok EGL_BAD_SURFACE\n", ""),
     ("a context takes the first of the errors that are noted, be it another than ours", "0 glTexImage2D GL_TEXTURE_2D 0 GL_RGB 3 2 0 GL_RGBA GL_UNSIGNED_BYTE - => GL_INVALID_OPERATION\n0 glEnable GL_BLEND => GL_INVALID_ENUM\n0 glGetError => ok GL_INVALID_OPERATION\n0 glGetError => ok GL_NO_ERROR\n", ""),
     ("the driver refuses what we do, and the state is as before", "0 glClearColorx 65536 0 0 65536 => GL_INVALID_VALUE\n0 glClear GL_COLOR_BUFFER_BIT => ok 0\n0 glReadPixels 0 0 1 1 GL_RGBA GL_UNSIGNED_BYTE => ok 0 [] 00000000\n0 glGetError => ok GL_INVALID_VALUE\n", "difference 9 outcome ok GL_INVALID_VALUE"),
-    ("what a lost variable is used for isn't judged, and after an eglMakeCurrent nothing of the context", "0 $e = eglCreateContext $d 12 0 [EGL_CONTEXT_CLIENT_VERSION,2] => ok 79\n0 eglQueryContext $d $e EGL_CONFIG_ID => ok 12\n0 eglMakeCurrent $d $s $s $e => ok 1\n0 glEnable GL_DITHER => ok 0\n0 eglMakeCurrent $d $s $s $c => ok 1\n0 glEnable GL_DITHER => ok 0\n", "difference 9 outcome EGL_BAD_CONFIG,EGL_BAD_MATCH ok\nafter 10 9\nafter 11 9\nafter 12 9"),
+    ("what a lost variable is used for isn't judged, and after an eglMakeCurrent nothing of the context", "0 $e = eglCreateContext $d 12 0 [EGL_CONTEXT_CLIENT_VERSION,2] => ok 79\n0 eglQueryContext $d $e EGL_CONFIG_ID => ok 12\n0 eglMakeCurrent $d $s $s $e => ok 1\n0 glEnable GL_DITHER => ok 0\n0 eglMakeCurrent $d $s $s $c => ok 1\n0 glEnable GL_DITHER => ok 0\n", "difference 9 outcome EGL_BAD_CONFIG ok\nafter 10 9\nafter 11 9\nafter 12 9"),
     ("a handle that another has", "0 $e = eglCreatePbufferSurface $d 12 [] => ok 77\n0 eglDestroySurface $d $e => ok 1\n", "difference 9 value - 77\nafter 10 9"),
     ("a handle that another had", "0 eglMakeCurrent $d 0 0 0 => ok 1\n0 eglDestroySurface $d $s => ok 1\n0 $e = eglCreatePbufferSurface $d 12 [] => ok 77\n", ""),
     ("handles by the map", "0 eglGetCurrentContext => ok 78\n0 eglGetCurrentSurface EGL_DRAW => ok 78\n0 eglGetCurrentDisplay => ok 1390\n", "difference 10 value 77 78"),
@@ -49,7 +50,18 @@ CASES = [
     ("a step of a framebuffer's format", "0 glBindRenderbufferOES GL_RENDERBUFFER_OES 1 => ok 0\n0 glRenderbufferStorageOES GL_RENDERBUFFER_OES GL_RGBA4_OES 1 1 => ok 0\n0 glBindFramebufferOES GL_FRAMEBUFFER_OES 1 => ok 0\n0 glFramebufferRenderbufferOES GL_FRAMEBUFFER_OES GL_COLOR_ATTACHMENT0_OES GL_RENDERBUFFER_OES 1 => ok 0\n0 glReadPixels 0 0 1 1 GL_RGBA GL_UNSIGNED_BYTE => ok 0 [] 11001122\n", "difference 13 pixels 1 1 2 0 0 0 0 0 0 00000000 11001122", 1),
     ("a log that a crash cut", "0 glFlush\ncrash SIGSEGV\n", "cut 9 glFlush SIGSEGV"),
     ("what threads tell one another", "0 post 1\n1 await 1\n", ""),
+    ("another error than those that hold", "0 glEnable GL_BLEND => GL_INVALID_VALUE\n0 glGetError => ok GL_INVALID_VALUE\n", "difference 9 outcome GL_INVALID_ENUM GL_INVALID_VALUE\ndifference 10 value GL_INVALID_ENUM GL_INVALID_VALUE"),
+    ("other configs", "0 eglGetConfigs $d => ok 1 [7,9]\n", "difference 9 list [12] []"),
 ]
+# What the proved judge tells otherwise: nothing stands for names that can't be, what rests on a binding is played, an error that came is the thread's, a list stands as it came, and a config that stands twice has the reason of a head.
+APART = {
+    "another error than those that hold": "difference 9 outcome GL_INVALID_ENUM GL_INVALID_VALUE",
+    "other configs": "difference 9 list [12] [7,9]",
+    "what rests on the binding of another name isn't judged": "unjudged 10 name",
+    "nor what is drawn with another texture": "unjudged 10 name\ndifference 13 pixels 1 1 254 0 0 0 0 0 0 ffffffff 01020304",
+    "names that aren't apart": "difference 9 list [-,-] [1,1]\nafter 10 9",
+    "a config twice": "malformed 3 Window",
+}
 DUMP = """
 // process.name = "x"
 5 @1 eglGetDisplay(display_id = NULL) = 0x7f00
@@ -126,8 +138,8 @@ def log_of(trace, recording):
 
 
 class Tests:
-    def __init__(self, oracle):
-        self.oracle, self.failed, self.count = oracle, 0, 0
+    def __init__(self, oracle, proved):
+        self.oracle, self.proved, self.failed, self.count = oracle, proved, 0, 0
 
     def check(self, name, found, wanted):
         self.count += 1
@@ -154,8 +166,9 @@ class Tests:
 
     def own_run(self, name, log):
         try:
-            found = judge(log, 0, self.oracle)
+            found, proved = judge(log, 0, self.oracle), self.proved.judged(log)
             self.check(name, (found.text().split("\n")[1:], found.agreed + found.own), (["end", ""], found.lines))
+            self.check(f"{name}, proved", (proved.notes(), proved.agreed, proved.own), ([], proved.lines, found.own))
         except Malformed as malformed:
             # A variable in front of its line is no log's.
             self.check(name, malformed.reason, "Variable")
@@ -163,9 +176,18 @@ class Tests:
     def relations(self):
         for name, lines, wanted, *delta in CASES:
             self.judged(name, PRE + lines, wanted, *delta)
+            self.both(name, PRE + lines, wanted, *delta)
         for name, log, wanted in DEFECTS:
             self.judged(name, log, wanted)
+            self.both(name, log, wanted)
 
+    def both(self, name, log, wanted, delta=0):
+        """The proved judge tells the same, but for what docs/DRIVERS.md says."""
+        try:
+            notes = "\n".join(self.proved.judged(log, delta).notes())
+        except Malformed as malformed:
+            notes = str(malformed)
+        self.check(f"{name}, proved", notes, APART.get(name, wanted))
 
     def shrinks(self):
         """A driver that reads wrong pixels behind a glScissor: of a long trace the lines stay that show it."""
@@ -179,7 +201,7 @@ class Tests:
 
         noise = ["0 glIsTexture 5", "1 post 1", "0 await 1", "0 $t = glGenTextures 1", "0 glBindTexture GL_TEXTURE_2D $t.0", "0 glGetError"]
         start = ["egl-trace 1 2", "0 $d = eglGetDisplay 0", "0 eglInitialize $d", "0 $s = eglCreatePbufferSurface $d 4 [EGL_WIDTH,2,EGL_HEIGHT,2]", "0 $c = eglCreateContext $d 4 0 []", "0 eglMakeCurrent $d $s $s $c"]
-        shrinking = shrink.Shrinking(Wrong(), self.oracle, 0, None)
+        shrinking = shrink.Shrinking(Wrong(), self.oracle, self.proved, 0, None)
         lines = [*start, *noise, "0 glScissor 0 0 1 1", *noise[-1:] * 9, "0 glReadPixels 0 0 1 1 GL_RGBA GL_UNSIGNED_BYTE", *noise[-1:] * 9]
         shrinking.wanted, at, log = shrinking.fault(lines)
         small = shrinking.one_thread(shrinking.fewer(shrinking.front(lines, at, log)))
@@ -197,8 +219,10 @@ class Tests:
         ]:
             log = PRE + lines + "0 glReadPixels 0 0 1 1 GL_RGBA GL_UNSIGNED_BYTE => ok 0 [] 01020304\n"
             self.check(name, [difference.is_zero for difference in judge(log, 0, self.oracle).differences], wanted)
+            self.check(f"{name}, proved", [difference.is_zero for difference in self.proved.judged(log).differences], wanted)
         log = PRE + "0 glClear GL_COLOR_BUFFER_BIT => ok 0\n0 glReadPixels 2 0 1 1 GL_RGBA GL_UNSIGNED_BYTE => ok 0 [] 01020304\n"
         self.check("pixels outside", [difference.is_zero for difference in judge(log, 0, self.oracle).differences], [True])
+        self.check("pixels outside, proved", [difference.is_zero for difference in self.proved.judged(log).differences], [True])
 
     def waived(self):
         waivers = [Waiver("", "gl*", "pixels", "1", "*", None), Waiver("", "glEnable", "GL_INVALID_ENUM", "ok", "some_*", None), Waiver("", "eglGetError", "*", "*", "*", "glFlush")]
@@ -235,7 +259,7 @@ def script(name):
 
 def main():
     path = sys.argv[sys.argv.index("--program") + 1] if "--program" in sys.argv else None
-    tests = Tests(Oracle(path))
+    tests = Tests(Oracle(path), Proved(path))
     for part in (tests.relations, tests.unwritten, tests.shrinks, tests.waived, tests.converted, tests.drawn):
         part()
     tests.own_runs()
