@@ -68,7 +68,7 @@ def examples_of(text):
 def examples():
     for path in sorted(glob.glob(os.path.join(DATA, "*.txt"))):
         name = os.path.basename(path).removesuffix(".txt")
-        if name.startswith("explained_") or name in ("long_run", "pictures", "scenes", "refused", "each_form"):
+        if name.startswith(("explained_", "json_")) or name in ("long_run", "pictures", "scenes", "refused", "each_form"):
             continue
         with open(path, encoding="utf-8") as file:
             for number, (heading, trace) in enumerate(examples_of(file.read()), 1):

@@ -9,7 +9,7 @@ import sys
 DATA = os.path.join(os.path.dirname(os.path.abspath(__file__)), "..", "..", "crates", "play_rows", "data")
 ESCAPES = {"r": "\r", "t": "\t", "0": "\0"}
 # Files that are played in other ways, and those of other commands.
-OTHERS = ("explained_*", "long_run", "pictures", "scenes", "refused", "each_form", "races", "compose")
+OTHERS = ("explained_*", "json_*", "long_run", "pictures", "scenes", "refused", "each_form", "races", "compose")
 
 
 def unescaped(line):
