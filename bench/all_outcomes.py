@@ -1,7 +1,7 @@
 #!/usr/bin/env python3
 """Every outcome of a short trace, by a model apart: `all_outcomes.py [PROGRAM] < TRACE`, or `all_outcomes.py random COUNT SEED PROGRAM [OUTCOMES]`.
 
-All orders of the threads' lines are played, each from a copy of the model (thread_model.py); no order is left out for being like another. An outcome is what each line answers, and at the end the census and what windows show; handles are told by the line that made them, so orders that differ in numbers alone have one outcome. A thread whose wait blocks isn't chosen before its fence is signalled. The outcomes stand in the order in which they are met, where the lowest thread is tried first, so the first one is that of `serial`.
+All orders of the threads' lines are played, each from a copy of the model (thread_model.py); no order is left out for being like another. An outcome is what each line answers, and at the end the census and what windows show; handles are told by the line that made them, so orders that differ in numbers alone have one outcome. A thread whose wait blocks isn't chosen before its fence is signalled. The first outcome is that of `serial`; the others rise by the first line that they answer otherwise, and those that first differ at one line stand in the order in which they are met, where the lowest thread is tried first. Behind the trace may stand a recording: then it is told which outcome it has, which is that of the order whose recording it is but for the numbers of handles, and the status is 9 where it is none's.
 
 A PROGRAM is asked whether the recording of the order of each outcome holds (`check`), but for stalls; the status is 1 where one doesn't. Of random traces each is tried so, but for those with more than 2,000 orders; and where OUTCOMES is a program that lists outcomes, what it writes is compared with what is written here, but for the number of orders.
 """
@@ -159,6 +159,19 @@ class TooMany(Exception):
     pass
 
 
+def told(trace, entries):
+    """A recording's entries with handles told by the lines that made them."""
+    calls, made, rows = {line.number: line.call for line in trace.lines}, {}, []
+    for words in map(str.split, entries):
+        if calls.get(int(words[1])) in MAKING and words[2] == "ok":
+            made.setdefault(words[3], f"@{words[1]}")
+    for words in map(str.split, entries):
+        if calls.get(int(words[1])) in HANDLES and words[2] == "ok":
+            words[3] = made.get(words[3], words[3])
+        rows.append(words)
+    return rows
+
+
 @dataclass
 class Outcomes:
     trace: Trace
@@ -166,6 +179,9 @@ class Outcomes:
     found: dict = field(default_factory=dict)
     histories: int = 0
     most: int = MOST_HISTORIES
+    # The entries and the other lines of a recording, and the outcome of the history that it is of.
+    recorded: tuple = None
+    recorded_outcome: tuple = None
 
     def search(self, history):
         while True:
@@ -182,9 +198,17 @@ class Outcomes:
         if self.histories > self.most:
             raise TooMany
         self.found.setdefault(history.outcome(), history)
+        if self.recorded and not history.is_stalled() and self.recorded == (told(self.trace, history.entries), history.rest()):
+            self.recorded_outcome = history.outcome()
+
+    def ordered(self):
+        """The outcomes, each with the history that met it first."""
+        found = list(self.found.items())
+        first = found[0][0][0]
+        return found[:1] + sorted(found[1:], key=lambda item: next((place for place, answer in enumerate(item[0][0]) if answer != first[place]), len(first)))
 
     def text(self):
-        numbers, found = [line.number for line in self.trace.lines], list(self.found.items())
+        numbers, found = [line.number for line in self.trace.lines], self.ordered()
         differing = [place for place in range(len(numbers)) if len({answers[place] for (answers, _), _ in found}) > 1]
         rows = [f"outcomes {len(found)} of {self.histories} histories", ""]
         for number, ((answers, rest), history) in enumerate(found, 1):
@@ -194,11 +218,18 @@ class Outcomes:
         rows += ["", "each line"]
         for place, number in enumerate(numbers):
             rows.append(f"  {number} {' | '.join(dict.fromkeys(answers[place] for (answers, _), _ in found))}")
+        if self.recorded:
+            rows += ["", f"the recording has outcome {[outcome for outcome, _ in found].index(self.recorded_outcome) + 1}" if self.recorded_outcome else "the recording has none of them"]
         return "\n".join(rows) + "\n"
 
 
 def outcomes_of(text, most=MOST_HISTORIES):
-    found = Outcomes(read(text), most=most)
+    trace, is_recorded, recording = f"\n{text}".partition("\nrecording\n")
+    found = Outcomes(read(trace[1:]), most=most)
+    if is_recorded:
+        lines = recording.rstrip("\n").split("\n")
+        entries = [line for line in lines if line[:1].isdigit() and " " in line]
+        found.recorded = told(found.trace, entries), tuple(lines[len(entries):])
     found.search(History(found.trace))
     return found
 
@@ -257,6 +288,8 @@ def main():
         print("too many histories")
         return 8
     print(found.text(), end="")
+    if found.recorded:
+        return 0 if found.recorded_outcome else 9
     return 0 if not sys.argv[1:] or all_hold(sys.argv[1], trace, found) else 1
 
 

@@ -1,17 +1,13 @@
 -- What each line can answer.
-use Rattle.std.specs.Prelude.{ℕ, ◌+◌, nat_lt, Bool, List, [], ◌∷◌, ◌++◌, if◌then◌else◌, fold, length, slice_index_or}
+use Rattle.std.specs.Prelude.{ℕ, ◌+◌, nat_lt, Bool, List, [], ◌∷◌, ◌++◌, if◌then◌else◌, fold, length}
 use Rattle.trace_reader.specs.declared.traces.Line.{Line}
-use Rattle.trace_outcomes.specs.Outcomes.{OutcomeValue, is_among}
+use Rattle.trace_outcomes.specs.Outcomes.{OutcomeValue, answer_at, is_among}
 
 -- one text more, unless it is among them
 abbrev pub with_text : List (List ℕ) → List ℕ → List (List ℕ)
 with_text texts x = if is_among texts x then texts else texts ++ x ∷ []
 
--- what the line at a place answers in an outcome
-abbrev pub answer_at : OutcomeValue → ℕ → List ℕ
-answer_at o place = slice_index_or o.answers place []
-
--- all that it answers, in the order of the outcomes
+-- all that the line at a place answers, in the order of the outcomes
 abbrev pub answers_at : List OutcomeValue → ℕ → List (List ℕ)
 answers_at found place = fold (λ texts o. with_text texts (answer_at o place)) [] found
 

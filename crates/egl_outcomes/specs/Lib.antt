@@ -1,3 +1,4 @@
 pub mod Columns
 pub mod Texts
 pub mod Answers
+pub mod Runs

@@ -2,8 +2,8 @@
 use Rattle.std.specs.Prelude.{ℕ, ◌+◌, Bool, List, [], ◌∷◌, ◌++◌, if◌then◌else◌, codes, decimal, length}
 use Rattle.std.specs.List.{flat_map}
 use Rattle.trace_reader.specs.declared.traces.Line.{Line}
-use Rattle.trace_outcomes.specs.Outcomes.{OutcomeValue}
-use Rattle.egl_outcomes.specs.Columns.{ColumnValue, answer_at, are_several, columns, rests_of}
+use Rattle.trace_outcomes.specs.Outcomes.{OutcomeValue, answer_at}
+use Rattle.egl_outcomes.specs.Columns.{ColumnValue, are_several, columns, rests_of}
 
 -- ---- An outcome.
 -- LINE ANSWER

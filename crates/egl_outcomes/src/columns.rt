@@ -1,7 +1,7 @@
 //! What each line can answer.
 ghost use Rattle.std.specs.Prelude.{◌≡◌, IfOk, OnOk};
 ghost use Rattle.trace_outcomes.specs.Outcomes.{is_among};
-ghost use Rattle.egl_outcomes.specs.Columns.{with_text, answer_at, answers_at, are_several, rests_of, column_at, columns};
+ghost use Rattle.egl_outcomes.specs.Columns.{with_text, answers_at, are_several, rests_of, column_at, columns};
 
 use egl_calls::{NoMemory, Text};
 use std::alloc::Global;
@@ -94,22 +94,12 @@ fn add(alloc: Global, texts: &mut Vec<Text>, text: &[u8]) -> Result<(), NoMemory
     Ok(())
 }
 
-/// What the line at a place answers in an outcome.
-pub fn answer_at(outcome: &Outcome, place: usize) -> &[u8]
-    ensures { result.now ≡ answer_at outcome.now place }
-{
-    match outcome.answers().get(place) {
-        Some(answer) => answer.as_slice(),
-        None => b"",
-    }
-}
-
 fn answers_at(alloc: Global, outcomes: &[Outcome], place: usize) -> Result<Vec<Text>, NoMemory>
     ensures { IfOk result (λ v. v.items ≡ answers_at outcomes.now place) }
 {
     let mut texts = Vec::new(alloc);
     'each: for outcome in outcomes {
-        add(alloc, &mut texts, answer_at(outcome, place))?;
+        add(alloc, &mut texts, outcome.answer(place))?;
     }
     Ok(texts)
 }

@@ -10,5 +10,5 @@ mod columns;
 mod process;
 mod texts;
 
-pub use answering::{Answer, answer_bytes};
-pub use process::run;
+pub use answering::answer_bytes;
+pub use process::{answer, run};

@@ -3,7 +3,7 @@ ghost use Rattle.std.specs.Prelude.{◌≡◌, ◌++◌, codes, decimal, IfOk, O
 ghost use Rattle.std.specs.List.{flat_map};
 ghost use Rattle.egl_outcomes.specs.Texts.{line_text, differing_line, differing_lines, order_text, head_text, rest_lines, outcome_text, outcome_texts, parted, column_text, heading_end, histories_text, count_text, outcomes_text};
 
-use crate::columns::{Column, answer_at, are_several, columns, rests_of};
+use crate::columns::{Column, are_several, columns, rests_of};
 use egl_calls::{Bytes, NoMemory, Text};
 use journal_text::texts::{put_decimal, put_text};
 use std::alloc::Global;
@@ -31,7 +31,7 @@ fn put_differing(
     ensures { OnOk result (out.new ≡ out.old ++ differing_line outcome.now place column.now) }
 {
     if column.differs() {
-        put_line(out, column.number(), answer_at(outcome, place))
+        put_line(out, column.number(), outcome.answer(place))
     } else {
         Ok(())
     }

@@ -1,5 +1,5 @@
 //! Every outcome of a trace: how many are listed, and what is said of them.
-use egl_flow::Status;
+use egl_flow::{MOST_INPUT, Status};
 use egl_outcomes::answer_bytes;
 use std::process::Abort;
 use trace_outcomes::list_outcomes;
@@ -41,7 +41,38 @@ each line
   5 none
 ";
 
+/// The surface's handle is 3 in a run here, and 77 in this recording.
+static RECORDED: &str = "\
+egl-trace 1 1
+0 eglInitialize 1
+0 $s = eglCreatePbufferSurface 1 4 [EGL_WIDTH,4,EGL_HEIGHT,2]
+0 eglQuerySurface 1 $s EGL_WIDTH
+recording
+0 2 ok 1 [] -
+0 3 ok 77 [] -
+0 4 ok 4 [] -
+census 0 0 0 0 0 0 1 1 0 0 32
+end
+";
+
+static RECORDED_TEXT: &str = "\
+outcomes 1 of 1 histories
+
+outcome 1
+  order 2 3 4
+
+each line
+  2 ok 1 [] -
+  3 ok @3 [] -
+  4 ok 4 [] -
+
+the recording has outcome 1
+";
+
 fn expect_answer<R: AllocGlobal + Abort>(rt: &R, trace: &str, status: Status, text: &str) {
+    if trace.len() as u64 > MOST_INPUT {
+        panic!(rt; "the input is too long");
+    }
     let Ok(answer) = answer_bytes(rt.alloc(), trace.as_bytes()) else {
         panic!(rt; "no memory");
     };
@@ -63,6 +94,7 @@ fn orders_that_answer_the_same_have_one_outcome(rt: HostRuntime) {
 #[test]
 fn what_is_said_of_a_trace(rt: HostRuntime) {
     expect_answer(&rt, STALLED, Status::Ok, STALLED_TEXT);
+    expect_answer(&rt, RECORDED, Status::Ok, RECORDED_TEXT);
     expect_answer(
         &rt,
         "egl-trace 1 9\n",

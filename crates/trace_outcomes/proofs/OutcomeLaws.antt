@@ -1,5 +1,5 @@
 -- The outcomes of histories, each once.
-use Rattle.std.proofs.Common.{◌≡◌, ◌⊎◌, ℕ, ◌+◌, Bool, true, false, ◌||◌, List, [], ◌∷◌, ◌++◌, refl, sym, ap, ◌∙◌, subst, inl, inr}
+use Rattle.std.proofs.Common.{◌≡◌, ◌⊎◌, ℕ, Bool, true, false, ◌||◌, List, [], ◌∷◌, ◌++◌, refl, sym, ap, ◌∙◌, subst, inl, inr}
 use Rattle.std.proofs.lemmas.List.{map-append}
 use Rattle.std.proofs.lemmas.Slice.Eq.{bytes_eq-Decides}
 use Rattle.std.specs.Prelude.{if◌then◌else◌, map}
@@ -8,9 +8,10 @@ use Rattle.egl_calls.specs.declared.entries.Entry.{Entry}
 use Rattle.trace_reader.specs.Order.{IsTrace}
 use Rattle.trace_reader.specs.Traces.{TraceValue}
 use Rattle.trace_outcomes.specs.Histories.{histories}
-use Rattle.trace_outcomes.specs.Outcomes.{OutcomeValue, outcome_of, key_of, is_among, with_outcome, with_all, outcomes}
-use Rattle.trace_outcomes.specs.Plays.{IsAmong, IsHistory, HasOutcome, IsListed, AreDistinct}
+use Rattle.trace_outcomes.specs.Outcomes.{OutcomeValue, outcome_of, key_of, is_among, with_outcome, with_all, met, outcomes}
+use Rattle.trace_outcomes.specs.Plays.{IsAmong, IsHistory, HasOutcome, IsListed, AreDistinct, RiseByDifference}
 use Rattle.trace_outcomes.proofs.AmongLaws.{among_front, among_back, among_either}
+use Rattle.trace_outcomes.proofs.OrderLaws.{ordered_among, among_ordered, ordered_distinct, ordered_rise}
 use Rattle.trace_outcomes.proofs.PlayLaws.{each_plays, each_is_among}
 
 -- ---- Whether a key is among others.
@@ -128,16 +129,33 @@ has_outcome : (t : TraceValue) → IsTrace t → (o : OutcomeValue) → IsAmong 
 has_outcome t is o (inl g) = absurd g
 has_outcome t is o (inr i) = record { journal = i.journal; history = each_plays t is i.journal i.among; outcome = i.outcome }
 
+among_met : (t : TraceValue) (o : OutcomeValue) → IsTrace t → IsAmong o (met t) → HasOutcome t o
+unfolding met
+among_met t o is h = has_outcome t is o (all_come t o (histories t) [] h)
+
+keyed_met : (t : TraceValue) (journal : List Entry) → IsTrace t → IsHistory t journal → Keyed (key_of (outcome_of t journal)) (met t)
+unfolding met
+keyed_met t journal is h = all_there t journal (histories t) [] (each_is_among t is journal h)
+
+distinct_met : (t : TraceValue) → AreDistinct (map key_of (met t))
+unfolding met
+distinct_met t = all_distinct t (histories t) [] tt
+
+-- and in their order
 pub sound : (t : TraceValue) (o : OutcomeValue) → IsTrace t → IsAmong o (outcomes t) → HasOutcome t o
 unfolding outcomes
-sound t o is h = has_outcome t is o (all_come t o (histories t) [] h)
+sound t o is h = among_met t o is (ordered_among o (met t) h)
 
 pub complete : (t : TraceValue) (journal : List Entry) → IsTrace t → IsHistory t journal → IsListed t journal (outcomes t)
 unfolding outcomes
 complete t journal is h =
-    let k = all_there t journal (histories t) [] (each_is_among t is journal h) in
-    record { outcome = k.outcome; among = k.among; same = k.same }
+    let k = keyed_met t journal is h in
+    record { outcome = k.outcome; among = among_ordered k.outcome (met t) k.among; same = k.same }
 
 pub once : (t : TraceValue) → AreDistinct (map key_of (outcomes t))
 unfolding outcomes
-once t = all_distinct t (histories t) [] tt
+once t = ordered_distinct (met t) (distinct_met t)
+
+pub rise : (t : TraceValue) → RiseByDifference (outcomes t)
+unfolding outcomes
+rise t = ordered_rise (met t)

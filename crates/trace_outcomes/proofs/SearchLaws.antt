@@ -16,7 +16,7 @@ use Rattle.trace_model.proofs.OutcomeLaws.{able_has_line}
 use Rattle.trace_session.specs.Answers.{number_due}
 use Rattle.trace_check.proofs.HoldsLaws.{Plays, no_plays}
 use Rattle.trace_outcomes.specs.Histories.{able_among, able_threads, after, branches, histories_behind, histories}
-use Rattle.trace_outcomes.specs.Outcomes.{OutcomeValue, outcome_of, with_outcome, with_all, outcomes}
+use Rattle.trace_outcomes.specs.Outcomes.{OutcomeValue, in_order, met, outcome_of, outcomes, with_all, with_outcome}
 use Rattle.trace_outcomes.specs.Plays.{IsAmong}
 use Rattle.trace_outcomes.specs.Schedules.{IsFirst, follow, histories_by, histories_by_all, left}
 use Rattle.trace_outcomes.proofs.TurnLaws.{plays_after}
@@ -193,8 +193,8 @@ begins t none pending schedule n e is =
     ∙ ap (λ (xs : List (List ℕ)). left t (xs ++ schedule ∷ [])) n
     ∙ ap (λ (x : List ℕ). histories_behind t (follow t [] x)) e
 
-pub begins_listed : (t : TraceValue) (found : List OutcomeValue) (pending : List (List ℕ)) → found ≡ [] → left t pending ≡ histories t → with_all t found (left t pending) ≡ outcomes t
-unfolding outcomes
+pub begins_listed : (t : TraceValue) (found : List OutcomeValue) (pending : List (List ℕ)) → found ≡ [] → left t pending ≡ histories t → with_all t found (left t pending) ≡ met t
+unfolding met
 begins_listed t found pending f h = ap (λ (os : List OutcomeValue). with_all t os (left t pending)) f ∙ ap (with_all t []) h
 
 -- at last none is
@@ -202,8 +202,13 @@ no_items : (xs : List (List ℕ)) → length xs ≡ 0 → xs ≡ []
 no_items [] h = refl
 no_items (x ∷ xs) h = absurd (omega (arith, h))
 
-pub ends_listed : (t : TraceValue) (found : List OutcomeValue) (pending : List (List ℕ)) → length pending ≡ 0 → with_all t found (left t pending) ≡ outcomes t → found ≡ outcomes t
+pub ends_listed : (t : TraceValue) (found : List OutcomeValue) (pending : List (List ℕ)) → length pending ≡ 0 → with_all t found (left t pending) ≡ met t → found ≡ met t
 ends_listed t found pending z h = sym (ap (λ (xs : List (List ℕ)). with_all t found (left t xs)) (no_items pending z)) ∙ h
+
+-- and those that were met are put in their order
+pub ordered : (t : TraceValue) (found all : List OutcomeValue) → found ≡ met t → all ≡ in_order found → all ≡ outcomes t
+unfolding outcomes
+ordered t found all f o = o ∙ ap in_order f
 
 pub ends_count : (t : TraceValue) (n m : ℕ) (pending : List (List ℕ)) → length pending ≡ 0 → n + length (left t pending) ≡ m → n ≡ m
 ends_count t n m pending z h =

@@ -3,3 +3,4 @@ pub mod Outcomes
 pub mod Schedules
 pub mod Listings
 pub mod Plays
+pub mod Recordings

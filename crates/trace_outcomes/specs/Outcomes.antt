@@ -1,5 +1,5 @@
 -- What a history answers.
-use Rattle.std.specs.Prelude.{ℕ, Bool, true, false, ◌&&◌, ℤ, List, [], ◌∷◌, ◌++◌, if◌then◌else◌, codes, decimal, map, find, Option, None, Some}
+use Rattle.std.specs.Prelude.{ℕ, zero, suc, ◌+◌, Bool, true, false, not, ◌&&◌, ℤ, List, [], ◌∷◌, ◌++◌, if◌then◌else◌, codes, decimal, map, filter, find, length, slice_index_or, Option, None, Some}
 use Rattle.std.specs.List.{flat_map, list_any}
 use Rattle.std.specs.Ordering.{int_eq}
 use Rattle.std.specs.Str.{bytes_eq}
@@ -108,5 +108,28 @@ abbrev pub with_all : TraceValue → List OutcomeValue → List (List Entry) →
 with_all t found [] = found
 with_all t found (journal ∷ journals) = with_all t (with_outcome found (outcome_of t journal)) journals
 
+-- in the order in which they are met
+unfoldable pub met : TraceValue → List OutcomeValue
+met t = with_all t [] (histories t)
+
+-- ---- Outcomes by how early they differ.
+-- what the line at a place answers
+abbrev pub answer_at : OutcomeValue → ℕ → List ℕ
+answer_at o place = slice_index_or o.answers place []
+
+-- it answers as in another outcome
+abbrev pub agrees_at : OutcomeValue → ℕ → OutcomeValue → Bool
+agrees_at first place o = bytes_eq (answer_at o place) (answer_at first place)
+
+-- by so many lines from a place on: those that differ from the first outcome there, in front of those that agree
+abbrev pub rising : OutcomeValue → ℕ → ℕ → List OutcomeValue → List OutcomeValue
+rising first place zero others = others
+rising first place (suc more) others = filter (λ o. not (agrees_at first place o)) others ++ rising first (place + 1) more (filter (agrees_at first place) others)
+
+-- the first one, and the others rising by how early they differ from it
+abbrev pub in_order : List OutcomeValue → List OutcomeValue
+in_order [] = []
+in_order (first ∷ others) = first ∷ rising first 0 (length first.answers) others
+
 unfoldable pub outcomes : TraceValue → List OutcomeValue
-outcomes t = with_all t [] (histories t)
+outcomes t = in_order (met t)

@@ -18,7 +18,7 @@ use std::alloc::Global;
 use trace_reader::{Line, Trace};
 use trace_session::Session;
 
-fn makes_handle(kind: Kind) -> bool
+pub fn makes_handle(kind: Kind) -> bool
     ensures { result ≡ makes_handle kind }
 {
     match kind {
@@ -27,7 +27,7 @@ fn makes_handle(kind: Kind) -> bool
     }
 }
 
-fn answers_handle(kind: Kind) -> bool
+pub fn answers_handle(kind: Kind) -> bool
     ensures { result ≡ answers_handle kind }
 {
     match kind {

@@ -1,8 +1,9 @@
 //! Histories, played one after another. Each begins with a driver of its own, since there is no copy of a driver.
-ghost use Rattle.std.specs.Prelude.{◌≡◌, ◌≤◌, ◌<◌, ◌∷◌, ◌++◌, [], List, IfOk, OnOk};
+ghost use Rattle.std.specs.Prelude.{◌≡◌, ◌≤◌, ◌<◌, ◌∷◌, ◌++◌, [], List, is_some, IfOk, OnOk};
 ghost use Rattle.egl_calls.specs.declared.entries.Entry.{Entry as AnEntry};
 ghost use Rattle.trace_reader.specs.Order.{IsTrace};
 ghost use Rattle.trace_check.proofs.HoldsLaws.{Plays};
+ghost use Rattle.trace_check.specs.Verdicts.{entry_due};
 ghost use Rattle.trace_session.specs.Chains.{AreChains};
 ghost use Rattle.trace_session.specs.Runs.{StandBehind};
 ghost use Rattle.trace_outcomes.specs.Histories.{after, histories_behind};
@@ -13,8 +14,9 @@ use crate::outcomes::Outcome;
 use driver_core::Driver;
 use egl_calls::{Journal, List, NoMemory};
 use std::alloc::Global;
+use trace_check::play_due;
 use trace_reader::Trace;
-use trace_session::{Chains, Session, driver_of, play_turn};
+use trace_session::{Chains, Session, driver_of};
 
 /// The threads of a history in the order of its entries.
 pub type Schedule = List<u32>;
@@ -29,28 +31,29 @@ pub fn push_schedule(pending: &mut Vec<Schedule>, schedule: Schedule) -> Result<
     }
 }
 
-/// Plays the entry that a thread has next, where the thread can go on.
-fn play_due(
+/// Plays the entry that a thread has next, where the thread can go on, and keeps it. It tells whether the thread could.
+pub fn go_on(
     alloc: Global,
     driver: &mut Driver,
     session: &mut Session,
     journal: &mut Journal,
     thread: u32,
-) -> Result<(), NoMemory>
+) -> Result<bool, NoMemory>
     requires made { session.old.trace.threads ≤ driver.old.made }
     requires behind { StandBehind journal.old.entries driver.old.state session.old }
     ensures journal { OnOk result (journal.new.entries ≡ after session.old.trace journal.old.entries thread) }
     ensures behind { OnOk result (StandBehind journal.new.entries driver.new.state session.new) }
+    ensures could { IfOk result (λ could. could ≡ is_some (entry_due session.old.trace journal.old.entries thread)) }
     ensures trace { session.new.trace ≡ session.old.trace }
     ensures made { driver.new.made ≡ driver.old.made }
 {
-    let Some(mark) = session.due(driver, thread) else {
-        return Ok(());
+    let due = play_due(alloc, driver, session, thread)?;
+    let Some(entry) = due else {
+        return Ok(false);
     };
-    let entry = play_turn(alloc, driver, session, thread, mark)?;
     journal.reserve(1)?;
     journal.push(entry);
-    Ok(())
+    Ok(true)
 }
 
 /// Plays the turns of a schedule.
@@ -69,7 +72,7 @@ fn replay(
     ensures made { OnOk result (driver.new.made ≡ driver.old.made) }
 {
     'each: for thread in schedule {
-        play_due(alloc, driver, session, journal, *thread)?;
+        go_on(alloc, driver, session, journal, *thread)?;
     }
     Ok(())
 }
@@ -147,7 +150,7 @@ fn descend(
 {
     'each: while let Some(thread) = session.next_thread(driver) {
         push_others(alloc, driver, session, thread + 1, schedule, pending)?;
-        play_due(alloc, driver, session, journal, thread)?;
+        go_on(alloc, driver, session, journal, thread)?;
         schedule.push(thread)?;
     }
     Ok(())

@@ -10,7 +10,11 @@ mod found;
 mod histories;
 pub mod laws;
 mod listing;
+mod ordering;
 mod outcomes;
+mod recordings;
+mod told_entries;
 
 pub use listing::{Listing, MOST_HISTORIES, list_outcomes};
 pub use outcomes::Outcome;
+pub use recordings::{recorded_outcome, recorded_place};

@@ -1,10 +1,11 @@
 //! All outcomes of a trace.
 ghost use Rattle.std.specs.Prelude.{IfOk};
 ghost use Rattle.trace_session.specs.Chains.{AreChains};
-ghost use Rattle.trace_outcomes.specs.Listings.{IsListing};
+ghost use Rattle.trace_outcomes.specs.Listings.{IsSearch, AreListed, IsListing};
 
 use crate::found::Found;
 use crate::histories::{Schedule, play_first, push_schedule};
+use crate::ordering::in_order;
 use crate::outcomes::Outcome;
 use egl_calls::NoMemory;
 use std::alloc::Global;
@@ -21,10 +22,10 @@ pub struct Listing {
     pub histories: u64,
 }
 
-/// Plays history after history.
+/// Plays history after history. The outcomes stand in the order in which they are met.
 fn search(alloc: Global, trace: &Trace, chains: &Chains) -> Result<Option<Listing>, NoMemory>
     requires { AreChains trace.now chains.now }
-    ensures { IfOk result (IsListing trace.now) }
+    ensures { IfOk result (IsSearch trace.now) }
 {
     let mut pending = Vec::new(alloc);
     let first = Schedule::new(alloc);
@@ -45,10 +46,20 @@ fn search(alloc: Global, trace: &Trace, chains: &Chains) -> Result<Option<Listin
     }))
 }
 
-/// The outcomes of all histories of a trace, each once, in the order in which the histories are played: at each turn a lower thread first. There is no listing where there are more histories than are played.
+/// The outcomes of all histories of a trace, each once: the first is that of the history in which the lowest thread that can go on always does, and the others rise by the first line that they answer otherwise. There is no listing where there are more histories than are played.
 pub fn list_outcomes(alloc: Global, trace: &Trace) -> Result<Option<Listing>, NoMemory>
     ensures { IfOk result (IsListing trace.now) }
 {
     let chains = Chains::new(alloc, trace)?;
-    search(alloc, trace, &chains)
+    let Some(found) = search(alloc, trace, &chains)? else {
+        return Ok(None);
+    };
+    let Listing {
+        outcomes,
+        histories,
+    } = found;
+    Ok(Some(Listing {
+        outcomes: in_order(alloc, outcomes)?,
+        histories,
+    }))
 }

@@ -1,7 +1,7 @@
 //! Outcomes.
 ghost use Rattle.std.specs.Prelude.{◌≡◌, ◌++◌, ◌∷◌, codes, IfOk, OnOk};
 ghost use Rattle.std.specs.List.{flat_map};
-ghost use Rattle.trace_outcomes.specs.Outcomes.{key_of};
+ghost use Rattle.trace_outcomes.specs.Outcomes.{answer_at, key_of};
 
 use egl_calls::{Bytes, List, NoMemory, Text};
 use std::alloc::Global;
@@ -53,6 +53,16 @@ impl Outcome {
         ensures { result.now ≡ self.now.answers }
     {
         self.answers.as_slice()
+    }
+
+    /// What the line at a place answers, and nothing past the last.
+    pub fn answer(&self, place: usize) -> &[u8]
+        ensures { result.now ≡ answer_at self.now place }
+    {
+        match self.answers().get(place) {
+            Some(answer) => answer.as_slice(),
+            None => b"",
+        }
     }
 
     /// The lines of a recording behind its entries, without the last line feed.

@@ -1,6 +1,7 @@
 use Rattle.std.proofs.Common.{◌≡◌, drop}
 use Rattle.std.specs.Prelude.{fold}
-use Rattle.egl_outcomes.specs.Columns.{with_text, answer_at, answers_at}
+use Rattle.trace_outcomes.specs.Outcomes.{answer_at}
+use Rattle.egl_outcomes.specs.Columns.{with_text, answers_at}
 use Rattle.egl_outcomes.proofs.columns.answers_at.Given as goal
 
 abbrev pub invariant-each : goal.invariant-each

@@ -14,15 +14,15 @@ each-preserved c =
     let v = c.each.invariant in
     let found = c.next_thread.ensures.learnt journal v.behind.knows in
     let others = c.in_ok-push_others.ensures journal v.behind v.at in
-    let next = c.in_ok-play_due.ensures.journal in
+    let next = c.in_ok-go_on.ensures.journal in
     record {
-      trace = c.play_due.ensures.trace ∙ v.trace;
-      made = rw (c.play_due.ensures.trace, c.play_due.ensures.made) v.made;
-      behind = c.in_ok-play_due.ensures.behind;
-      is_trace = rw c.play_due.ensures.trace v.is_trace;
-      plays = rw (c.play_due.ensures.trace, next) (plays_after t v.is_trace journal c.in-Some.thread v.plays);
-      at = rw (c.play_due.ensures.trace, c.in_ok-push.ensures.ok) (next ∙ sym (follow_more t _ c.each.schedule c.in-Some.thread ∙ ap (λ js. after t js c.in-Some.thread) (sym v.at)));
-      histories = rw c.play_due.ensures.trace (one_on t v.is_trace journal c.each.driver.state v.behind.state v.plays _ found c.in-Some.thread c.in-Some.is _ next c.each.pending.items c.push_others.new.pending.items others) ∙ v.histories;
+      trace = c.go_on.ensures.trace ∙ v.trace;
+      made = rw (c.go_on.ensures.trace, c.go_on.ensures.made) v.made;
+      behind = c.in_ok-go_on.ensures.behind;
+      is_trace = rw c.go_on.ensures.trace v.is_trace;
+      plays = rw (c.go_on.ensures.trace, next) (plays_after t v.is_trace journal c.in-Some.thread v.plays);
+      at = rw (c.go_on.ensures.trace, c.in_ok-push.ensures.ok) (next ∙ sym (follow_more t _ c.each.schedule c.in-Some.thread ∙ ap (λ js. after t js c.in-Some.thread) (sym v.at)));
+      histories = rw c.go_on.ensures.trace (one_on t v.is_trace journal c.each.driver.state v.behind.state v.plays _ found c.in-Some.thread c.in-Some.is _ next c.each.pending.items c.push_others.new.pending.items others) ∙ v.histories;
     }
 
 pub each-smaller : goal.each-smaller
@@ -31,7 +31,7 @@ each-smaller c =
     let journal = c.each.journal.entries in
     let v = c.each.invariant in
     let found = c.next_thread.ensures.learnt journal v.behind.knows in
-    rw (c.play_due.ensures.trace, c.in_ok-play_due.ensures.journal) (fewer t v.is_trace journal c.in-Some.thread v.plays (after_found t v.is_trace journal c.each.driver.state v.behind.state v.plays _ found c.in-Some.thread c.in-Some.is))
+    rw (c.go_on.ensures.trace, c.in_ok-go_on.ensures.journal) (fewer t v.is_trace journal c.in-Some.thread v.plays (after_found t v.is_trace journal c.each.driver.state v.behind.state v.plays _ found c.in-Some.thread c.in-Some.is))
 
 pub returns-clause-histories : goal.returns-clause-histories
 returns-clause-histories c =
