@@ -2,13 +2,13 @@
 use Rattle.std.proofs.Common.{◌≡◌, ℕ, ◌+◌, ◌≤◌, ◌<◌, arith, List, [], ◌∷◌, ℤ, pos, Bool, true, false, not, ◌||◌, ◌&&◌, None, Some, is_some, refl, sym, ap, ◌∙◌, ◌⊎◌, inl, inr, bit_or}
 use Rattle.std.specs.Prelude.{int_lt, nat_lt, ◌≤ℤ◌, ◌+ℤ◌, ◌==◌}
 use Rattle.std.proofs.lemmas.Int.{ints}
-use Rattle.std.proofs.lemmas.Bool.{not-false, or_parts, or_from, or_cases, and_parts, and_from}
+use Rattle.std.proofs.lemmas.Bool.{not-false, or_parts, or_from, or_cases, and_parts, and_from, not_from_true}
 use Rattle.std.proofs.lemmas.Bool.Decides.{Decides-eqb}
 use Rattle.egl_calls.specs.Calls.{CallValue}
 use Rattle.egl_calls.specs.declared.kinds.Kind.{Kind}
 use Rattle.egl_calls.specs.declared.kinds.Kind.TheVariants.{Gl, Own}
 use Rattle.egl_calls.specs.declared.kinds.GlKind.{GlKind}
-use Rattle.egl_calls.specs.declared.kinds.GlKind.TheVariants.{GetError, Clear, ReadPixels, TexImage2d, TexSubImage2d, CopyTexImage2d, CopyTexSubImage2d, BufferData, BufferSubData, RenderbufferStorage}
+use Rattle.egl_calls.specs.declared.kinds.GlKind.TheVariants.{Clear, ReadPixels, TexImage2d, TexSubImage2d, CopyTexImage2d, CopyTexSubImage2d, BufferData, BufferSubData, RenderbufferStorage}
 use Rattle.egl_calls.specs.declared.kinds.OwnKind.TheVariants.{ReadBuffer}
 use Rattle.egl_calls.specs.declared.errors.GlError.{GlError}
 use Rattle.egl_calls.specs.declared.errors.GlError.TheVariants.{OutOfMemory}
@@ -20,7 +20,7 @@ use Rattle.call_table.specs.Rows.{gl_rules, own_rules}
 use Rattle.egl_calls.specs.Arguments.{number, signed}
 use Rattle.pixel_rows.specs.Rects.{IsInSide}
 use Rattle.call_rules.specs.GlRules.{buffer_bits, is_read_format, is_read_type, is_read_pair, read_format, read_type, gl_rows, gl_rows_by, gl_refusal, no_gl_facts, ruled}
-use Rattle.call_rules.specs.TextureRules.{is_image_format, is_image_type, is_no_level_side, is_no_part}
+use Rattle.call_rules.specs.TextureRules.{is_image_format, is_image_type, is_no_level_side, is_no_part, is_outside_side}
 use Rattle.texture_objects.specs.Forms.{form_of}
 use Rattle.call_rules.specs.GlAllowed.{but_last, ClearAllowed, CopyAllowed, CopyAsked, CopyPartAllowed, ImageAllowed, ImageAsked, IsSide, PartAllowed, ReadAllowed, BufferPartAllowed, DataAsked, StorageAllowed, StorageAsked}
 use Rattle.call_rules.specs.RenderbufferRules.{is_no_side}
@@ -44,9 +44,6 @@ rows_off c f k h n = all_off (gl_rows k c f) (sym (of_kind c f k h) ∙ n)
 pub refused_not : (c : CallValue) (f : GlFacts) (k : GlKind) → c.kind ≡ Gl k → AllOff (gl_rows k c f) → gl_refusal c f ≡ None
 refused_not c f k h a = of_kind c f k h ∙ none_on (gl_rows k c f) a
 
-off : (b : Bool) → b ≡ true → not b ≡ false
-off b h = ap not h
-
 pub clear_allowed : (c : CallValue) (f : GlFacts) → c.kind ≡ Gl Clear → gl_refusal c f ≡ None → ClearAllowed c f
 clear_allowed c f h n =
     let a = rows_off c f Clear h n in
@@ -63,8 +60,8 @@ clear_allowed c f h n =
 
 pub clear_passes : (c : CallValue) (f : GlFacts) → c.kind ≡ Gl Clear → ClearAllowed c f → gl_refusal c f ≡ None
 clear_passes c f h a = refused_not c f Clear h (
-  off _ (and_from _ _ (ap not (is_not_below (signed c 0) (pos 0) a.mask)) ((Decides-eqb (bit_or (unsigned (signed c 0)) buffer_bits) buffer_bits).1 a.bits)),
-  (off _ a.complete, tt),
+  not_from_true _ (and_from _ _ (ap not (is_not_below (signed c 0) (pos 0) a.mask)) ((Decides-eqb (bit_or (unsigned (signed c 0)) buffer_bits) buffer_bits).1 a.bits)),
+  (not_from_true _ a.complete, tt),
 )
 
 side : (z : ℤ) → is_no_side z ≡ false → IsSide z
@@ -102,10 +99,10 @@ pub read_passes : (c : CallValue) (f : GlFacts) → c.kind ≡ Gl ReadPixels →
 read_passes c f h a = refused_not c f ReadPixels h (
   or_from _ _ (side_off _ a.width) (side_off _ a.height),
   (
-    off _ (pair_known (read_format c) (read_type c) a.pair),
+    not_from_true _ (pair_known (read_format c) (read_type c) a.pair),
     (
       unless (is_read_pair (read_format c) (read_type c)) (is_read_format (read_format c) && is_read_type (read_type c)) (pair_read (read_format c) (read_type c) a.pair),
-      (off _ a.complete, tt),
+      (not_from_true _ a.complete, tt),
     ),
   ),
 )
@@ -156,16 +153,18 @@ part_inside side first size h =
     let low = not_below first (pos 0) p.0 in let some = not_below size (pos 0) p.1 in
     record { first = low; some = some; last = ends_inside side first size low some (within side (unsigned first + unsigned size) o.1) }
 
+no_part : (is_stored : Bool) (side : ℕ) (first size : ℤ) → is_stored ≡ true → is_outside_side is_stored side first size ≡ false → is_no_part side first size ≡ false
+no_part is_stored side first size stored h = given_last (is_no_part side first size) is_stored stored (or_parts (int_lt size (pos 0)) (is_no_part side first size && is_stored) h).1
+
 pub part_allowed : (c : CallValue) (f : GlFacts) → c.kind ≡ Gl TexSubImage2d → gl_refusal c f ≡ None → PartAllowed c f
 part_allowed c f h n =
     let a = rows_off c f TexSubImage2d h n in
     let stored = not-false f.is_stored a.1.1.1.0 in
-    let outside = is_no_part f.stored_width (signed c 2) (signed c 4) || is_no_part f.stored_height (signed c 3) (signed c 5) in
-    let sides = or_parts (is_no_part f.stored_width (signed c 2) (signed c 4)) (is_no_part f.stored_height (signed c 3) (signed c 5)) (given_last outside f.is_stored stored a.1.1.1.1.0) in
+    let sides = or_parts (is_outside_side f.is_stored f.stored_width (signed c 2) (signed c 4)) (is_outside_side f.is_stored f.stored_height (signed c 3) (signed c 5)) a.1.1.1.1.0 in
     record {
       level = a.1.1.0;
       stored = stored;
-      inside = record { columns = part_inside f.stored_width (signed c 2) (signed c 4) sides.0; rows = part_inside f.stored_height (signed c 3) (signed c 5) sides.1 };
+      inside = record { columns = part_inside f.stored_width (signed c 2) (signed c 4) (no_part f.is_stored f.stored_width (signed c 2) (signed c 4) stored sides.0); rows = part_inside f.stored_height (signed c 3) (signed c 5) (no_part f.is_stored f.stored_height (signed c 3) (signed c 5) stored sides.1) };
       form = known_pair c a.1.0 a.1.1.1.1.1.1.0;
     }
 
@@ -196,13 +195,12 @@ pub copy_part_allowed : (c : CallValue) (f : GlFacts) → c.kind ≡ Gl CopyTexS
 copy_part_allowed c f h n =
     let a = rows_off c f CopyTexSubImage2d h n in
     let stored = not-false f.is_stored a.1.1.0 in
-    let outside = is_no_part f.stored_width (signed c 2) (signed c 6) || is_no_part f.stored_height (signed c 3) (signed c 7) in
-    let sides = or_parts (is_no_part f.stored_width (signed c 2) (signed c 6)) (is_no_part f.stored_height (signed c 3) (signed c 7)) (given_last outside f.is_stored stored a.1.1.1.0) in
+    let sides = or_parts (is_outside_side f.is_stored f.stored_width (signed c 2) (signed c 6)) (is_outside_side f.is_stored f.stored_height (signed c 3) (signed c 7)) a.1.1.1.0 in
     record {
       level = a.1.0;
       stored = stored;
-      columns = part_inside f.stored_width (signed c 2) (signed c 6) sides.0;
-      rows = part_inside f.stored_height (signed c 3) (signed c 7) sides.1;
+      columns = part_inside f.stored_width (signed c 2) (signed c 6) (no_part f.is_stored f.stored_width (signed c 2) (signed c 6) stored sides.0);
+      rows = part_inside f.stored_height (signed c 3) (signed c 7) (no_part f.is_stored f.stored_height (signed c 3) (signed c 7) stored sides.1);
       complete = not-false _ a.1.1.1.1.0;
     }
 
@@ -265,5 +263,5 @@ first_refused c f k e h n = of_kind c f k h ∙ first_is e (gl_rows k c f) n
 
 -- ---- The rows of a call are those of the table; one kind stands apart, so that the others are tried one by one.
 pub told_rows : (k : GlKind) (c : CallValue) (f : GlFacts) → gl_rows k c f ≡ ruled (gl_rules k) c f
-told_rows GetError c f = refl
+told_rows Clear c f = refl
 told_rows k c f = refl

@@ -19,7 +19,7 @@ use Rattle.framebuffer_objects.specs.InternalFormats.{is_internal}
 use Rattle.framebuffer_objects.specs.Attachments.{is_attachment}
 use Rattle.call_rules.specs.AttachmentRules.{attaches, is_attachment_parameter}
 use Rattle.call_rules.specs.CopyRules.{has_alpha}
-use Rattle.call_rules.specs.TextureRules.{is_image_format, is_image_type, is_no_count, is_no_level, is_no_level_side, is_no_part}
+use Rattle.call_rules.specs.TextureRules.{is_image_format, is_image_type, is_no_count, is_no_level, is_no_level_side, is_outside_side}
 use Rattle.call_rules.specs.BufferRules.{is_buffer_parameter, is_buffer_target, is_usage}
 use Rattle.call_rules.specs.RenderbufferRules.{is_no_side, is_renderbuffer_parameter}
 use Rattle.texture_objects.specs.Forms.{form_of}
@@ -128,13 +128,13 @@ gl_holds SomeBorder c f = not (is_zero c BORDER)
 gl_holds OtherFormat c f = not (number c INTERNAL_FORMAT == number c IMAGE_FORMAT)
 -- section 3.7.2: a part of a level
 gl_holds NoStorage c f = not f.is_stored
-gl_holds OutsideLevel c f = (is_no_part f.stored_width (signed c X_OFFSET) (signed c PART_WIDTH) || is_no_part f.stored_height (signed c Y_OFFSET) (signed c PART_HEIGHT)) && f.is_stored
+gl_holds OutsideLevel c f = is_outside_side f.is_stored f.stored_width (signed c X_OFFSET) (signed c PART_WIDTH) || is_outside_side f.is_stored f.stored_height (signed c Y_OFFSET) (signed c PART_HEIGHT)
 gl_holds OtherLevelFormat c f = not (number c IMAGE_FORMAT == f.stored_base) && f.is_stored
 -- and pixels that are copied: no alpha comes from pixels that have none
 gl_holds WrongCopiedSides c f = is_no_level_side (number c LEVEL) (signed c COPIED_WIDTH) || is_no_level_side (number c LEVEL) (signed c COPIED_HEIGHT)
 gl_holds SomeCopiedBorder c f = not (is_zero c COPIED_BORDER)
 gl_holds NoInternalAlpha c f = has_alpha (number c INTERNAL_FORMAT) && (not f.has_read_alpha && f.is_framebuffer_complete)
-gl_holds CopiedOutsideLevel c f = (is_no_part f.stored_width (signed c X_OFFSET) (signed c COPIED_PART_WIDTH) || is_no_part f.stored_height (signed c Y_OFFSET) (signed c COPIED_PART_HEIGHT)) && f.is_stored
+gl_holds CopiedOutsideLevel c f = is_outside_side f.is_stored f.stored_width (signed c X_OFFSET) (signed c COPIED_PART_WIDTH) || is_outside_side f.is_stored f.stored_height (signed c Y_OFFSET) (signed c COPIED_PART_HEIGHT)
 gl_holds NoLevelAlpha c f = has_alpha f.stored_base && (not f.has_read_alpha && f.is_framebuffer_complete)
 -- sections 2.9 and 6.1.12
 gl_holds NoUsage c f = not (is_usage (number c BUFFER_USAGE))

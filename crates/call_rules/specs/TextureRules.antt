@@ -1,5 +1,5 @@
 -- What the conditions of the calls on names and on textures ask (OpenGL ES 1.1, sections 3.7.1, 3.7.2 and 3.7.11).
-use Rattle.std.specs.Prelude.{ℕ, ◌+◌, ◌/◌, ◌^◌, ℤ, pos, Bool, not, ◌||◌, ◌==◌, if◌then◌else◌, int_lt, nat_lt}
+use Rattle.std.specs.Prelude.{ℕ, ◌+◌, ◌/◌, ◌^◌, ℤ, pos, Bool, not, ◌&&◌, ◌||◌, ◌==◌, if◌then◌else◌, int_lt, nat_lt}
 use Rattle.egl_calls.specs.Ranges.{unsigned}
 use Rattle.egl_names.specs.declared.codes.TheConstants.{GL_ALPHA, GL_LUMINANCE, GL_LUMINANCE_ALPHA, GL_RGB, GL_RGBA, GL_UNSIGNED_BYTE, GL_UNSIGNED_SHORT_4_4_4_4, GL_UNSIGNED_SHORT_5_5_5_1, GL_UNSIGNED_SHORT_5_6_5}
 
@@ -37,3 +37,7 @@ is_no_level_side level side = int_lt side (pos 0) || nat_lt (longest_side level)
 -- a part of a side: where it begins and how long it is
 abbrev pub is_no_part : ℕ → ℤ → ℤ → Bool
 is_no_part side first size = int_lt first (pos 0) || int_lt size (pos 0) || nat_lt side (unsigned first + unsigned size)
+
+-- it is no part of a level's either, where the level is there; none has a negative side, wherever it were to lie
+abbrev pub is_outside_side : Bool → ℕ → ℤ → ℤ → Bool
+is_outside_side is_stored side first size = int_lt size (pos 0) || (is_no_part side first size && is_stored)

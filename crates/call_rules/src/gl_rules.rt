@@ -1,7 +1,7 @@
 //! When each call of OpenGL ES is refused.
 ghost use Rattle.std.specs.Prelude.{◌≡◌, ◌<◌, ◌||◌, ◌&&◌, not};
 ghost use Rattle.egl_calls.specs.Arguments.{number, signed};
-ghost use Rattle.call_rules.specs.TextureRules.{is_image_format, is_image_type, is_no_level_side, is_no_part};
+ghost use Rattle.call_rules.specs.TextureRules.{is_image_format, is_image_type, is_no_level_side, is_outside_side};
 ghost use Rattle.call_rules.specs.GlRules.{gl_refusal, gl_judged, gl_holds, no_gl_facts, draws_nothing, is_clear_mask, is_read_format, is_read_type, is_read_pair, read_format, read_type};
 
 use crate::attachment_rules::{attaches, is_attachment_parameter};
@@ -11,7 +11,7 @@ use crate::egl_rules::exceeds;
 use crate::gl_facts::GlFacts;
 use crate::renderbuffer_rules::{is_no_side, is_renderbuffer_parameter};
 use crate::texture_rules::{
-    is_image_format, is_image_type, is_no_count, is_no_level, is_no_level_side, is_no_part,
+    is_image_format, is_image_type, is_no_count, is_no_level, is_no_level_side, is_outside_side,
 };
 use call_table::{GlCondition, gl_rules, own_rules};
 use context_state::{context_gl_call, context_meets};
@@ -99,16 +99,26 @@ fn has_no_level_side(call: &Call, width: usize, height: usize) -> bool
 /// Whether a part doesn't lie within a level's sides; its own stand at two places.
 pub fn is_outside(
     call: &Call,
+    is_stored: bool,
     stored_width: u64,
     stored_height: u64,
     width: usize,
     height: usize,
 ) -> bool
     requires { (width < 8) × (height < 8) }
-    ensures { result ≡ (is_no_part stored_width (signed call.now X_OFFSET) (signed call.now width) || is_no_part stored_height (signed call.now Y_OFFSET) (signed call.now height)) }
+    ensures { result ≡ (is_outside_side is_stored stored_width (signed call.now X_OFFSET) (signed call.now width) || is_outside_side is_stored stored_height (signed call.now Y_OFFSET) (signed call.now height)) }
 {
-    is_no_part(stored_width, signed(call, X_OFFSET), signed(call, width))
-        || is_no_part(stored_height, signed(call, Y_OFFSET), signed(call, height))
+    is_outside_side(
+        is_stored,
+        stored_width,
+        signed(call, X_OFFSET),
+        signed(call, width),
+    ) || is_outside_side(
+        is_stored,
+        stored_height,
+        signed(call, Y_OFFSET),
+        signed(call, height),
+    )
 }
 
 /// A call, and the facts about the state in which it is made.
@@ -176,11 +186,12 @@ impl<'a> Judge<GlCondition> for GlCase<'a> {
             GlCondition::OutsideLevel => {
                 is_outside(
                     call,
+                    facts.is_stored,
                     facts.stored_width,
                     facts.stored_height,
                     PART_WIDTH,
                     PART_HEIGHT,
-                ) && facts.is_stored
+                )
             }
             GlCondition::OtherLevelFormat => {
                 number(call, IMAGE_FORMAT) != facts.stored_base && facts.is_stored
@@ -193,11 +204,12 @@ impl<'a> Judge<GlCondition> for GlCase<'a> {
             GlCondition::CopiedOutsideLevel => {
                 is_outside(
                     call,
+                    facts.is_stored,
                     facts.stored_width,
                     facts.stored_height,
                     COPIED_PART_WIDTH,
                     COPIED_PART_HEIGHT,
-                ) && facts.is_stored
+                )
             }
             GlCondition::NoLevelAlpha => has_alpha(facts.stored_base) && lacks_alpha(facts),
             GlCondition::NoUsage => !is_usage(number(call, BUFFER_USAGE)),

@@ -1,8 +1,9 @@
 //! What the conditions of the calls on names and on textures ask (OpenGL ES 1.1, sections 3.7.1, 3.7.2 and 3.7.11).
 ghost use Rattle.std.specs.Prelude.{◌≡◌};
-ghost use Rattle.call_rules.specs.TextureRules.{is_image_format, is_image_type, is_no_count, is_no_level, is_no_level_side, is_no_part, is_power, longest_side};
+ghost use Rattle.call_rules.specs.TextureRules.{is_image_format, is_image_type, is_no_count, is_no_level, is_no_level_side, is_no_part, is_outside_side, is_power, longest_side};
 
 use crate::egl_rules::exceeds;
+use egl_calls::limits::LONGEST_TEXTURE_SIDE;
 use egl_calls::unsigned;
 use egl_names::codes::{
     GL_ALPHA, GL_LUMINANCE, GL_LUMINANCE_ALPHA, GL_RGB, GL_RGBA, GL_UNSIGNED_BYTE,
@@ -14,9 +15,6 @@ const MOST_NAMES: i64 = 256;
 
 /// The last level of a texture.
 const LAST_LEVEL: u64 = 10;
-
-/// The longest side of level 0, in pixels.
-const LONGEST_SIDE: u64 = 1_024;
 
 pub(crate) fn is_no_count(n: i64) -> bool
     ensures { result ≡ is_no_count n }
@@ -55,7 +53,7 @@ fn longest_side(level: u64) -> u64
     if level > LAST_LEVEL {
         0
     } else {
-        LONGEST_SIDE >> level
+        LONGEST_TEXTURE_SIDE >> level
     }
 }
 
@@ -82,8 +80,15 @@ pub(crate) fn is_no_level_side(level: u64, side: i64) -> bool
     side < 0 || unsigned(side) > longest_side(level) || !is_power(unsigned(side))
 }
 
-pub(crate) fn is_no_part(side: u64, first: i64, size: i64) -> bool
+fn is_no_part(side: u64, first: i64, size: i64) -> bool
     ensures { result ≡ is_no_part side first size }
 {
     first < 0 || size < 0 || exceeds(side, unsigned(first), unsigned(size))
+}
+
+/// Whether it is no part of a level's either, where the level is there; none has a negative side.
+pub(crate) fn is_outside_side(is_stored: bool, side: u64, first: i64, size: i64) -> bool
+    ensures { result ≡ is_outside_side is_stored side first size }
+{
+    size < 0 || is_no_part(side, first, size) && is_stored
 }

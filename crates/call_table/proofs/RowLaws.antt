@@ -5,7 +5,7 @@ use Rattle.egl_calls.specs.declared.kinds.EglKind.TheVariants.{GetError as EglGe
 use Rattle.egl_calls.specs.declared.kinds.GlKind.{GlKind}
 use Rattle.egl_calls.specs.declared.kinds.GlKind.TheVariants.{GetError as GlGetError}
 use Rattle.egl_calls.specs.declared.kinds.OwnKind.{OwnKind}
-use Rattle.egl_calls.specs.declared.kinds.OwnKind.TheVariants.{Post}
+use Rattle.egl_calls.specs.declared.kinds.OwnKind.TheVariants.{Halt}
 use Rattle.call_table.specs.Rows.{egl_kind, gl_kind, named_kind, own_kind}
 
 -- one kind stands apart, so that the others are tried one by one
@@ -18,5 +18,5 @@ gl_own GlGetError = refl
 gl_own k = refl
 
 pub own_own : (k : OwnKind) → own_kind k ≡ named_kind k
-own_own Post = refl
+own_own Halt = refl
 own_own k = refl

@@ -54,6 +54,62 @@ pub enum EglCondition {
     NoImage,
 }
 
+/// The error of a condition: each has one, whichever call it refuses.
+macro_rules! egl_error {
+    (NoDisplay) => { EglError::BadDisplay };
+    (NotInitialized) => { EglError::NotInitialized };
+    (WrongConfigList) => { EglError::BadAttribute };
+    (WrongWindowList) => { EglError::BadAttribute };
+    (WrongPbufferList) => { EglError::BadAttribute };
+    (WrongContextList) => { EglError::BadAttribute };
+    (WrongImageList) => { EglError::BadParameter };
+    (NoConfig) => { EglError::BadConfig };
+    (NoConfigAttribute) => { EglError::BadAttribute };
+    (NoSurfaceAttribute) => { EglError::BadAttribute };
+    (NoContextAttribute) => { EglError::BadAttribute };
+    (NoSyncAttribute) => { EglError::BadAttribute };
+    (NoWindowBit) => { EglError::BadMatch };
+    (NoWindow) => { EglError::BadNativeWindow };
+    (WindowUsed) => { EglError::BadAlloc };
+    (NoWindowVideo) => { EglError::BadAlloc };
+    (NoPbufferVideo) => { EglError::BadAlloc };
+    (NoHandle) => { EglError::BadAlloc };
+    (NegativeSide) => { EglError::BadParameter };
+    (LongSide) => { EglError::BadAlloc };
+    (NoSurface) => { EglError::BadSurface };
+    (NoSwapAttribute) => { EglError::BadAttribute };
+    (NoSwapBehavior) => { EglError::BadParameter };
+    (NoApi) => { EglError::BadParameter };
+    (NoShare) => { EglError::BadContext };
+    (ShareElsewhere) => { EglError::BadMatch };
+    (LaterVersion) => { EglError::BadConfig };
+    (NoVersion) => { EglError::BadMatch };
+    (NoContext) => { EglError::BadContext };
+    (WrongSurface) => { EglError::BadSurface };
+    (WrongContext) => { EglError::BadContext };
+    (WithoutContext) => { EglError::BadMatch };
+    (OneSurface) => { EglError::BadMatch };
+    (NotCompatible) => { EglError::BadMatch };
+    (ContextElsewhere) => { EglError::BadAccess };
+    (SurfaceElsewhere) => { EglError::BadAccess };
+    (NoReaddraw) => { EglError::BadParameter };
+    (NotDrawnTo) => { EglError::BadSurface };
+    (NoFence) => { EglError::BadAttribute };
+    (SomeList) => { EglError::BadAttribute };
+    (NoContextHere) => { EglError::BadMatch };
+    (NoSync) => { EglError::BadParameter };
+    (SomeFlags) => { EglError::BadParameter };
+    (NotCurrent) => { EglError::BadMatch };
+    (NoImageSource) => { EglError::BadParameter };
+    (NoPixels) => { EglError::BadParameter };
+    (NotComplete) => { EglError::BadParameter };
+    (NoLevel) => { EglError::BadMatch };
+    (Sibling) => { EglError::BadAccess };
+    (NoImage) => { EglError::BadParameter };
+}
+
+pub(crate) use egl_error;
+
 impl EglCondition {
     /// What holds, in words.
     pub fn words(self) -> &'static str {
@@ -119,7 +175,9 @@ impl EglCondition {
             EglCondition::NoPixels => "the name has no texture or renderbuffer with pixels",
             EglCondition::NotComplete => "the texture has levels above 0, and isn't complete",
             EglCondition::NoLevel => "the level has no pixels",
-            EglCondition::Sibling => "the pixels are an EGL image's already",
+            EglCondition::Sibling => {
+                "an EGL image, or what was made of one, has the pixels already"
+            }
             EglCondition::NoImage => "the image is none of the display's, or was destroyed",
         }
     }

@@ -3,7 +3,7 @@ ghost use Rattle.std.specs.Prelude.{◌≡◌};
 ghost use Rattle.call_table.specs.Rows.{egl_answers, egl_role, egl_rules};
 
 use crate::answers::AnswerSort;
-use crate::egl_conditions::EglCondition;
+use crate::egl_conditions::{EglCondition, egl_error};
 use crate::forms::Form;
 use crate::roles::Role;
 use display_table::HandleKind;
@@ -20,15 +20,21 @@ pub type EglRow = (
     AnswerSort,
 );
 
+/// The conditions that refuse a call, with their errors. `Display` stands for the two that each call on an initialised display has first.
+macro_rules! refusals {
+    (Display $(, $condition:ident)*) => { refusals!(NoDisplay, NotInitialized $(, $condition)*) };
+    ($($condition:ident),*) => { &[$((EglCondition::$condition, egl_error!($condition))),*] };
+}
+
 /// A call: its kind and its name, its arguments, its role, what it answers, and what refuses it.
 macro_rules! calls {
-    ($($kind:ident $name:literal [$($word:literal: $form:ident),*] $role:ident $(($handle:ident))? -> $answers:ident $(($made:ident))? => [$($condition:ident: $error:ident),* $(,)?];)*) => {
+    ($($kind:ident $name:literal [$($word:literal: $form:ident),*] $role:ident $(($handle:ident))? -> $answers:ident $(($made:ident))? => [$($condition:ident),* $(,)?];)*) => {
         [$((
             $name,
             EglKind::$kind,
             &[$(Form::$form),*],
             &[$($word),*],
-            &[$((EglCondition::$condition, EglError::$error)),*],
+            refusals!($($condition),*),
             Role::$role $((HandleKind::$handle))?,
             AnswerSort::$answers $((HandleKind::$made))?,
         )),*]
@@ -40,184 +46,156 @@ pub static EGL_CALLS: [EglRow; 31] = calls![
     // Section 3.1
     GetError "eglGetError" [] OwnState -> Same => [];
     // Section 3.2
-    GetDisplay "eglGetDisplay" ["identifier": Number] OwnState -> Displays => [];
-    Initialize "eglInitialize" ["display": NumberOrVariable] Plain -> Same => [
-        NoDisplay: BadDisplay,
-    ];
-    Terminate "eglTerminate" ["display": NumberOrVariable] Releases -> Same => [
-        NoDisplay: BadDisplay,
-    ];
+    GetDisplay "eglGetDisplay" ["display_id": Number] OwnState -> Displays => [];
+    Initialize "eglInitialize" ["dpy": NumberOrVariable] Plain -> Same => [NoDisplay];
+    Terminate "eglTerminate" ["dpy": NumberOrVariable] Releases -> Same => [NoDisplay];
     // Section 3.4
-    GetConfigs "eglGetConfigs" ["display": NumberOrVariable] Plain -> ConfigLists => [
-        NoDisplay: BadDisplay,
-        NotInitialized: NotInitialized,
-    ];
+    GetConfigs "eglGetConfigs" ["dpy": NumberOrVariable] Plain -> ConfigLists => [Display];
     // Section 3.4.1
-    ChooseConfig "eglChooseConfig" ["display": NumberOrVariable, "attributes": AttributeList] Plain -> ConfigLists => [
-        NoDisplay: BadDisplay,
-        NotInitialized: NotInitialized,
-        WrongConfigList: BadAttribute,
+    ChooseConfig "eglChooseConfig" ["dpy": NumberOrVariable, "attrib_list": AttributeList] Plain -> ConfigLists => [
+        Display,
+        WrongConfigList,
     ];
     // Section 3.4.3
-    GetConfigAttrib "eglGetConfigAttrib" ["display": NumberOrVariable, "config": Number, "attribute": Number] Plain -> ConfigAttributes => [
-        NoDisplay: BadDisplay,
-        NotInitialized: NotInitialized,
-        NoConfig: BadConfig,
-        NoConfigAttribute: BadAttribute,
+    GetConfigAttrib "eglGetConfigAttrib" ["dpy": NumberOrVariable, "config": Config, "attribute": Number] Plain -> ConfigAttributes => [
+        Display,
+        NoConfig,
+        NoConfigAttribute,
     ];
     // Section 3.5.1
-    CreateWindowSurface "eglCreateWindowSurface" ["display": NumberOrVariable, "config": Number, "window": Number, "attributes": AttributeList] Creates(Surface) -> Makes(Surface) => [
-        NoDisplay: BadDisplay,
-        NotInitialized: NotInitialized,
-        NoConfig: BadConfig,
-        WrongWindowList: BadAttribute,
-        NoWindowBit: BadMatch,
-        NoWindow: BadNativeWindow,
-        WindowUsed: BadAlloc,
-        NoWindowVideo: BadAlloc,
-        NoHandle: BadAlloc,
+    CreateWindowSurface "eglCreateWindowSurface" ["dpy": NumberOrVariable, "config": Config, "win": Number, "attrib_list": AttributeList] Creates(Surface) -> Makes(Surface) => [
+        Display,
+        NoConfig,
+        WrongWindowList,
+        NoWindowBit,
+        NoWindow,
+        WindowUsed,
+        NoWindowVideo,
+        NoHandle,
     ];
     // Section 3.5.2
-    CreatePbufferSurface "eglCreatePbufferSurface" ["display": NumberOrVariable, "config": Number, "attributes": AttributeList] Creates(Surface) -> Makes(Surface) => [
-        NoDisplay: BadDisplay,
-        NotInitialized: NotInitialized,
-        NoConfig: BadConfig,
-        WrongPbufferList: BadAttribute,
-        NegativeSide: BadParameter,
-        LongSide: BadAlloc,
-        NoPbufferVideo: BadAlloc,
-        NoHandle: BadAlloc,
+    CreatePbufferSurface "eglCreatePbufferSurface" ["dpy": NumberOrVariable, "config": Config, "attrib_list": AttributeList] Creates(Surface) -> Makes(Surface) => [
+        Display,
+        NoConfig,
+        WrongPbufferList,
+        NegativeSide,
+        LongSide,
+        NoPbufferVideo,
+        NoHandle,
     ];
     // Section 3.5.5
-    DestroySurface "eglDestroySurface" ["display": NumberOrVariable, "surface": NumberOrVariable] Destroys(Surface) -> Same => [
-        NoDisplay: BadDisplay,
-        NotInitialized: NotInitialized,
-        NoSurface: BadSurface,
+    DestroySurface "eglDestroySurface" ["dpy": NumberOrVariable, "surface": NumberOrVariable] Destroys(Surface) -> Same => [
+        Display,
+        NoSurface,
     ];
     // Section 3.5.6
-    QuerySurface "eglQuerySurface" ["display": NumberOrVariable, "surface": NumberOrVariable, "attribute": Number] Plain -> Attributes => [
-        NoDisplay: BadDisplay,
-        NotInitialized: NotInitialized,
-        NoSurface: BadSurface,
-        NoSurfaceAttribute: BadAttribute,
+    QuerySurface "eglQuerySurface" ["dpy": NumberOrVariable, "surface": NumberOrVariable, "attribute": Number] Plain -> Attributes => [
+        Display,
+        NoSurface,
+        NoSurfaceAttribute,
     ];
-    SurfaceAttrib "eglSurfaceAttrib" ["display": NumberOrVariable, "surface": NumberOrVariable, "attribute": Number, "value": Number] Plain -> Same => [
-        NoDisplay: BadDisplay,
-        NotInitialized: NotInitialized,
-        NoSurface: BadSurface,
-        NoSwapAttribute: BadAttribute,
-        NoSwapBehavior: BadParameter,
+    SurfaceAttrib "eglSurfaceAttrib" ["dpy": NumberOrVariable, "surface": NumberOrVariable, "attribute": Number, "value": Number] Plain -> Same => [
+        Display,
+        NoSurface,
+        NoSwapAttribute,
+        NoSwapBehavior,
     ];
     // Section 3.7
-    BindApi "eglBindAPI" ["api": Number] OwnState -> Same => [
-        NoApi: BadParameter,
-    ];
+    BindApi "eglBindAPI" ["api": Number] OwnState -> Same => [NoApi];
     QueryApi "eglQueryAPI" [] OwnState -> Same => [];
     // Section 3.7.1
-    CreateContext "eglCreateContext" ["display": NumberOrVariable, "config": Number, "share": NumberOrVariable, "attributes": AttributeList] Creates(Context) -> Makes(Context) => [
-        NoDisplay: BadDisplay,
-        NotInitialized: NotInitialized,
-        NoConfig: BadConfig,
-        WrongContextList: BadAttribute,
-        NoShare: BadContext,
-        ShareElsewhere: BadMatch,
-        LaterVersion: BadConfig,
-        NoVersion: BadMatch,
-        NoHandle: BadAlloc,
+    CreateContext "eglCreateContext" ["dpy": NumberOrVariable, "config": Config, "share_context": NumberOrVariable, "attrib_list": AttributeList] Creates(Context) -> Makes(Context) => [
+        Display,
+        NoConfig,
+        WrongContextList,
+        NoShare,
+        ShareElsewhere,
+        LaterVersion,
+        NoVersion,
+        NoHandle,
     ];
     // Section 3.7.2
-    DestroyContext "eglDestroyContext" ["display": NumberOrVariable, "context": NumberOrVariable] Destroys(Context) -> Same => [
-        NoDisplay: BadDisplay,
-        NotInitialized: NotInitialized,
-        NoContext: BadContext,
+    DestroyContext "eglDestroyContext" ["dpy": NumberOrVariable, "ctx": NumberOrVariable] Destroys(Context) -> Same => [
+        Display,
+        NoContext,
     ];
     // Section 3.7.3
-    MakeCurrent "eglMakeCurrent" ["display": NumberOrVariable, "draw": NumberOrVariable, "read": NumberOrVariable, "context": NumberOrVariable] MakesCurrent -> Same => [
-        NoDisplay: BadDisplay,
-        NotInitialized: NotInitialized,
-        WrongSurface: BadSurface,
-        WrongContext: BadContext,
-        WithoutContext: BadMatch,
-        OneSurface: BadMatch,
-        NotCompatible: BadMatch,
-        ContextElsewhere: BadAccess,
-        SurfaceElsewhere: BadAccess,
+    MakeCurrent "eglMakeCurrent" ["dpy": NumberOrVariable, "draw": NumberOrVariable, "read": NumberOrVariable, "ctx": NumberOrVariable] MakesCurrent -> Same => [
+        Display,
+        WrongSurface,
+        WrongContext,
+        WithoutContext,
+        OneSurface,
+        NotCompatible,
+        ContextElsewhere,
+        SurfaceElsewhere,
     ];
     // Section 3.7.4
     GetCurrentContext "eglGetCurrentContext" [] OwnState -> Currents(Context) => [];
-    GetCurrentSurface "eglGetCurrentSurface" ["which": Number] OwnState -> Currents(Surface) => [
-        NoReaddraw: BadParameter,
+    GetCurrentSurface "eglGetCurrentSurface" ["readdraw": Number] OwnState -> Currents(Surface) => [
+        NoReaddraw,
     ];
     GetCurrentDisplay "eglGetCurrentDisplay" [] OwnState -> Displays => [];
-    QueryContext "eglQueryContext" ["display": NumberOrVariable, "context": NumberOrVariable, "attribute": Number] Plain -> Attributes => [
-        NoDisplay: BadDisplay,
-        NotInitialized: NotInitialized,
-        NoContext: BadContext,
-        NoContextAttribute: BadAttribute,
+    QueryContext "eglQueryContext" ["dpy": NumberOrVariable, "ctx": NumberOrVariable, "attribute": Number] Plain -> Attributes => [
+        Display,
+        NoContext,
+        NoContextAttribute,
     ];
     // Section 3.10.1
-    SwapBuffers "eglSwapBuffers" ["display": NumberOrVariable, "surface": NumberOrVariable] Plain -> Same => [
-        NoDisplay: BadDisplay,
-        NotInitialized: NotInitialized,
-        NoSurface: BadSurface,
-        NotDrawnTo: BadSurface,
+    SwapBuffers "eglSwapBuffers" ["dpy": NumberOrVariable, "surface": NumberOrVariable] Plain -> Same => [
+        Display,
+        NoSurface,
+        NotDrawnTo,
     ];
     // Section 3.8
     WaitClient "eglWaitClient" [] Flushes -> Same => [];
     // Section 3.12
     ReleaseThread "eglReleaseThread" [] Releases -> Same => [];
     // Section 3.8.1
-    CreateSync "eglCreateSync" ["display": NumberOrVariable, "type": Number, "attributes": AttributeList] Creates(Sync) -> Makes(Sync) => [
-        NoDisplay: BadDisplay,
-        NotInitialized: NotInitialized,
-        NoFence: BadAttribute,
-        SomeList: BadAttribute,
-        NoContextHere: BadMatch,
-        NoHandle: BadAlloc,
+    CreateSync "eglCreateSync" ["dpy": NumberOrVariable, "type": Number, "attrib_list": AttributeList] Creates(Sync) -> Makes(Sync) => [
+        Display,
+        NoFence,
+        SomeList,
+        NoContextHere,
+        NoHandle,
     ];
-    DestroySync "eglDestroySync" ["display": NumberOrVariable, "sync": NumberOrVariable] Destroys(Sync) -> Same => [
-        NoDisplay: BadDisplay,
-        NotInitialized: NotInitialized,
-        NoSync: BadParameter,
+    DestroySync "eglDestroySync" ["dpy": NumberOrVariable, "sync": NumberOrVariable] Destroys(Sync) -> Same => [
+        Display,
+        NoSync,
     ];
     // Section 3.8.1.1
-    ClientWaitSync "eglClientWaitSync" ["display": NumberOrVariable, "sync": NumberOrVariable, "flags": Number, "timeout": Timeout] ClientWaits -> Same => [
-        NoDisplay: BadDisplay,
-        NotInitialized: NotInitialized,
-        NoSync: BadParameter,
+    ClientWaitSync "eglClientWaitSync" ["dpy": NumberOrVariable, "sync": NumberOrVariable, "flags": Number, "timeout": Timeout] ClientWaits -> Same => [
+        Display,
+        NoSync,
     ];
     // Section 3.8.1.2
-    WaitSync "eglWaitSync" ["display": NumberOrVariable, "sync": NumberOrVariable, "flags": Number] ServerWaits -> Same => [
-        NoDisplay: BadDisplay,
-        NotInitialized: NotInitialized,
-        NoSync: BadParameter,
-        SomeFlags: BadParameter,
-        NotCurrent: BadMatch,
+    WaitSync "eglWaitSync" ["dpy": NumberOrVariable, "sync": NumberOrVariable, "flags": Number] ServerWaits -> Same => [
+        Display,
+        NoSync,
+        SomeFlags,
+        NotCurrent,
     ];
     // Section 3.8.1.3
-    GetSyncAttrib "eglGetSyncAttrib" ["display": NumberOrVariable, "sync": NumberOrVariable, "attribute": Number] Plain -> Same => [
-        NoDisplay: BadDisplay,
-        NotInitialized: NotInitialized,
-        NoSync: BadParameter,
-        NoSyncAttribute: BadAttribute,
+    GetSyncAttrib "eglGetSyncAttrib" ["dpy": NumberOrVariable, "sync": NumberOrVariable, "attribute": Number] Plain -> Same => [
+        Display,
+        NoSync,
+        NoSyncAttribute,
     ];
     // Section 3.9
-    CreateImage "eglCreateImage" ["display": NumberOrVariable, "context": NumberOrVariable, "target": Number, "buffer": NumberOrVariable, "attributes": AttributeList] Creates(Image) -> Makes(Image) => [
-        NoDisplay: BadDisplay,
-        NotInitialized: NotInitialized,
-        NoContext: BadContext,
-        NoImageSource: BadParameter,
-        WrongImageList: BadParameter,
-        NoPixels: BadParameter,
-        NotComplete: BadParameter,
-        NoLevel: BadMatch,
-        Sibling: BadAccess,
-        NoHandle: BadAlloc,
+    CreateImage "eglCreateImage" ["dpy": NumberOrVariable, "ctx": NumberOrVariable, "target": Number, "buffer": NumberOrVariable, "attrib_list": AttributeList] Creates(Image) -> Makes(Image) => [
+        Display,
+        NoContext,
+        NoImageSource,
+        WrongImageList,
+        NoPixels,
+        NotComplete,
+        NoLevel,
+        Sibling,
+        NoHandle,
     ];
-    DestroyImage "eglDestroyImage" ["display": NumberOrVariable, "image": NumberOrVariable] Destroys(Image) -> Same => [
-        NoDisplay: BadDisplay,
-        NotInitialized: NotInitialized,
-        NoImage: BadParameter,
+    DestroyImage "eglDestroyImage" ["dpy": NumberOrVariable, "image": NumberOrVariable] Destroys(Image) -> Same => [
+        Display,
+        NoImage,
     ];
 ];
 

@@ -4,6 +4,8 @@
 pub enum Form {
     /// A number.
     Number,
+    /// The number of a config.
+    Config,
     /// A number or a variable.
     NumberOrVariable,
     /// The number of a post: from 0 to 2,147,483,647.

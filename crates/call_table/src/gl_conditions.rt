@@ -67,6 +67,75 @@ pub enum GlCondition {
     NotRenderable,
 }
 
+/// The error of a condition: each has one, whichever call it refuses.
+macro_rules! gl_error {
+    (NoEnabledCapability) => { GlError::InvalidEnum };
+    (NoCapability) => { GlError::InvalidEnum };
+    (NegativeBox) => { GlError::InvalidValue };
+    (NoEnvironment) => { GlError::InvalidEnum };
+    (NoStore) => { GlError::InvalidEnum };
+    (NoAlignment) => { GlError::InvalidValue };
+    (NoContextParameter) => { GlError::InvalidEnum };
+    (NoIndex) => { GlError::InvalidValue };
+    (NoBufferBit) => { GlError::InvalidValue };
+    (NotComplete) => { GlError::InvalidFramebufferOperation };
+    (WrongReadSides) => { GlError::InvalidValue };
+    (NoReadKind) => { GlError::InvalidEnum };
+    (NoReadPair) => { GlError::InvalidOperation };
+    (DrawsNothing) => { GlError::InvalidValue };
+    (WrongCount) => { GlError::InvalidValue };
+    (NoTextureTarget) => { GlError::InvalidEnum };
+    (NegativeName) => { GlError::InvalidValue };
+    (NoBufferTarget) => { GlError::InvalidEnum };
+    (NoRenderbufferTarget) => { GlError::InvalidEnum };
+    (NoFramebufferTarget) => { GlError::InvalidEnum };
+    (NoTextureParameter) => { GlError::InvalidEnum };
+    (NoCropParameter) => { GlError::InvalidEnum };
+    (WrongCropLength) => { GlError::InvalidValue };
+    (NoImageKind) => { GlError::InvalidEnum };
+    (NoInternalFormat) => { GlError::InvalidValue };
+    (NoLevel) => { GlError::InvalidValue };
+    (WrongLevelSides) => { GlError::InvalidValue };
+    (SomeBorder) => { GlError::InvalidValue };
+    (OtherFormat) => { GlError::InvalidOperation };
+    (NoImagePair) => { GlError::InvalidOperation };
+    (NoImageVideo) => { GlError::OutOfMemory };
+    (NoCopiedVideo) => { GlError::OutOfMemory };
+    (NoDataVideo) => { GlError::OutOfMemory };
+    (NoStorageVideo) => { GlError::OutOfMemory };
+    (NoStorage) => { GlError::InvalidOperation };
+    (OutsideLevel) => { GlError::InvalidValue };
+    (OtherLevelFormat) => { GlError::InvalidOperation };
+    (WrongCopiedSides) => { GlError::InvalidValue };
+    (SomeCopiedBorder) => { GlError::InvalidValue };
+    (NoInternalAlpha) => { GlError::InvalidOperation };
+    (CopiedOutsideLevel) => { GlError::InvalidValue };
+    (NoLevelAlpha) => { GlError::InvalidOperation };
+    (NoUsage) => { GlError::InvalidEnum };
+    (NegativeSize) => { GlError::InvalidValue };
+    (NoBufferBound) => { GlError::InvalidOperation };
+    (NoRenderbufferBound) => { GlError::InvalidOperation };
+    (NoFramebufferBound) => { GlError::InvalidOperation };
+    (NegativePart) => { GlError::InvalidValue };
+    (PartBehindEnd) => { GlError::InvalidValue };
+    (NoBufferParameter) => { GlError::InvalidEnum };
+    (NoRenderbufferFormat) => { GlError::InvalidEnum };
+    (WrongStorageSides) => { GlError::InvalidValue };
+    (NoRenderbufferParameter) => { GlError::InvalidEnum };
+    (NoAttachment) => { GlError::InvalidEnum };
+    (NoAttachedTarget) => { GlError::InvalidEnum };
+    (NoTextureNamed) => { GlError::InvalidOperation };
+    (NoRenderbufferNamed) => { GlError::InvalidOperation };
+    (SomeAttachedLevel) => { GlError::InvalidValue };
+    (NoAttachedRenderbufferTarget) => { GlError::InvalidEnum };
+    (NoAttachmentParameter) => { GlError::InvalidEnum };
+    (NothingAttached) => { GlError::InvalidEnum };
+    (NoImage) => { GlError::InvalidValue };
+    (NotRenderable) => { GlError::InvalidOperation };
+}
+
+pub(crate) use gl_error;
+
 impl GlCondition {
     /// What holds, in words.
     pub fn words(self) -> &'static str {

@@ -4,7 +4,7 @@ ghost use Rattle.call_table.specs.Rows.{gl_answers, gl_role, gl_rules};
 
 use crate::answers::AnswerSort;
 use crate::forms::Form;
-use crate::gl_conditions::GlCondition;
+use crate::gl_conditions::{GlCondition, gl_error};
 use crate::roles::Role;
 use egl_calls::{GlError, GlKind};
 use share_group::NameKind;
@@ -22,13 +22,13 @@ pub type GlRow = (
 
 /// A call: its kind and its name, its arguments, its role, what it answers, and what refuses it.
 macro_rules! calls {
-    ($($kind:ident $name:literal [$($word:literal: $form:ident),*] $role:ident $(($names:ident))? -> $answers:ident $(($named:ident))? => [$($condition:ident: $error:ident),* $(,)?];)*) => {
+    ($($kind:ident $name:literal [$($word:literal: $form:ident),*] $role:ident $(($names:ident))? -> $answers:ident $(($named:ident))? => [$($condition:ident),* $(,)?];)*) => {
         [$((
             $name,
             GlKind::$kind,
             &[$(Form::$form),*],
             &[$($word),*],
-            &[$((GlCondition::$condition, GlError::$error)),*],
+            &[$((GlCondition::$condition, gl_error!($condition))),*],
             Role::$role $((NameKind::$names))?,
             AnswerSort::$answers $((NameKind::$named))?,
         )),*]
@@ -43,231 +43,224 @@ pub static GL_CALLS: [GlRow; 52] = calls![
     Flush "glFlush" [] Flushes -> Same => [];
     Finish "glFinish" [] Flushes -> Same => [];
     // Section 6.2
-    Enable "glEnable" ["name": Number] OwnState -> Same => [
-        NoEnabledCapability: InvalidEnum,
-    ];
-    Disable "glDisable" ["name": Number] OwnState -> Same => [
-        NoCapability: InvalidEnum,
-    ];
+    Enable "glEnable" ["cap": Number] OwnState -> Same => [NoEnabledCapability];
+    Disable "glDisable" ["cap": Number] OwnState -> Same => [NoCapability];
     // Section 4.1.2
-    Scissor "glScissor" ["left": Number, "bottom": Number, "width": Number, "height": Number] OwnState -> Same => [
-        NegativeBox: InvalidValue,
+    Scissor "glScissor" ["x": Number, "y": Number, "width": Number, "height": Number] OwnState -> Same => [
+        NegativeBox,
     ];
     // Section 2.10.1
-    Viewport "glViewport" ["left": Number, "bottom": Number, "width": Number, "height": Number] OwnState -> Same => [
-        NegativeBox: InvalidValue,
+    Viewport "glViewport" ["x": Number, "y": Number, "width": Number, "height": Number] OwnState -> Same => [
+        NegativeBox,
     ];
     // Section 4.2.3
     ClearColorx "glClearColorx" ["red": Number, "green": Number, "blue": Number, "alpha": Number] OwnState -> Same => [];
     // Section 2.7
     Color4x "glColor4x" ["red": Number, "green": Number, "blue": Number, "alpha": Number] OwnState -> Same => [];
     // Section 4.2.3
-    ClearDepthx "glClearDepthx" ["number": Number] OwnState -> Same => [];
-    ClearStencil "glClearStencil" ["number": Number] OwnState -> Same => [];
+    ClearDepthx "glClearDepthx" ["depth": Number] OwnState -> Same => [];
+    ClearStencil "glClearStencil" ["s": Number] OwnState -> Same => [];
     // Section 4.2.2
     ColorMask "glColorMask" ["red": Number, "green": Number, "blue": Number, "alpha": Number] OwnState -> Same => [];
     // Section 3.7.12
-    TexEnvx "glTexEnvx" ["target": Number, "name": Number, "value": Number] OwnState -> Same => [
-        NoEnvironment: InvalidEnum,
+    TexEnvx "glTexEnvx" ["target": Number, "pname": Number, "param": Number] OwnState -> Same => [
+        NoEnvironment,
     ];
     // Sections 3.6.1 and 4.3.1
-    PixelStorei "glPixelStorei" ["name": Number, "alignment": Number] OwnState -> Same => [
-        NoStore: InvalidEnum,
-        NoAlignment: InvalidValue,
+    PixelStorei "glPixelStorei" ["pname": Number, "param": Number] OwnState -> Same => [
+        NoStore,
+        NoAlignment,
     ];
     // Section 6.2
-    GetIntegerv "glGetIntegerv" ["name": Number, "index": Number] OwnState -> Bindings => [
-        NoContextParameter: InvalidEnum,
-        NoIndex: InvalidValue,
+    GetIntegerv "glGetIntegerv" ["pname": Number, "index": Number] OwnState -> Bindings => [
+        NoContextParameter,
+        NoIndex,
     ];
     // Section 4.2.3
-    Clear "glClear" ["mask": Number] Clears -> Same => [
-        NoBufferBit: InvalidValue,
-        NotComplete: InvalidFramebufferOperation,
-    ];
+    Clear "glClear" ["mask": Number] Clears -> Same => [NoBufferBit, NotComplete];
     // Section 4.3.1
     ReadPixels "glReadPixels" ["x": Number, "y": Number, "width": Number, "height": Number, "format": Number, "type": Number] ReadsPixels -> Reads => [
-        WrongReadSides: InvalidValue,
-        NoReadKind: InvalidEnum,
-        NoReadPair: InvalidOperation,
-        NotComplete: InvalidFramebufferOperation,
+        WrongReadSides,
+        NoReadKind,
+        NoReadPair,
+        NotComplete,
     ];
     // OES_draw_texture
     DrawTexi "glDrawTexiOES" ["x": Number, "y": Number, "z": Number, "width": Number, "height": Number] Draws -> Same => [
-        DrawsNothing: InvalidValue,
-        NotComplete: InvalidFramebufferOperation,
+        DrawsNothing,
+        NotComplete,
     ];
     DrawTexx "glDrawTexxOES" ["x": Number, "y": Number, "z": Number, "width": Number, "height": Number] Draws -> Same => [
-        DrawsNothing: InvalidValue,
-        NotComplete: InvalidFramebufferOperation,
+        DrawsNothing,
+        NotComplete,
     ];
     // Section 3.7.11
-    GenTextures "glGenTextures" ["count": Number] Generates(Texture) -> MakesNames(Texture) => [
-        WrongCount: InvalidValue,
+    GenTextures "glGenTextures" ["n": Number] Generates(Texture) -> MakesNames(Texture) => [
+        WrongCount,
     ];
     // Section 2.9
-    GenBuffers "glGenBuffers" ["count": Number] Generates(Buffer) -> MakesNames(Buffer) => [
-        WrongCount: InvalidValue,
+    GenBuffers "glGenBuffers" ["n": Number] Generates(Buffer) -> MakesNames(Buffer) => [
+        WrongCount,
     ];
     // OES_framebuffer_object
-    GenRenderbuffers "glGenRenderbuffersOES" ["count": Number] Generates(Renderbuffer) -> MakesNames(Renderbuffer) => [
-        WrongCount: InvalidValue,
+    GenRenderbuffers "glGenRenderbuffersOES" ["n": Number] Generates(Renderbuffer) -> MakesNames(Renderbuffer) => [
+        WrongCount,
     ];
-    GenFramebuffers "glGenFramebuffersOES" ["count": Number] Generates(Framebuffer) -> MakesNames(Framebuffer) => [
-        WrongCount: InvalidValue,
+    GenFramebuffers "glGenFramebuffersOES" ["n": Number] Generates(Framebuffer) -> MakesNames(Framebuffer) => [
+        WrongCount,
     ];
     // Section 3.7.11
-    DeleteTextures "glDeleteTextures" ["names": NameList] Deletes(Texture) -> FreesNames(Texture) => [];
+    DeleteTextures "glDeleteTextures" ["textures": NameList] Deletes(Texture) -> FreesNames(Texture) => [];
     // Section 2.9
-    DeleteBuffers "glDeleteBuffers" ["names": NameList] Deletes(Buffer) -> FreesNames(Buffer) => [];
+    DeleteBuffers "glDeleteBuffers" ["buffers": NameList] Deletes(Buffer) -> FreesNames(Buffer) => [];
     // OES_framebuffer_object
-    DeleteRenderbuffers "glDeleteRenderbuffersOES" ["names": NameList] Deletes(Renderbuffer) -> FreesNames(Renderbuffer) => [];
-    DeleteFramebuffers "glDeleteFramebuffersOES" ["names": NameList] Deletes(Framebuffer) -> FreesNames(Framebuffer) => [];
+    DeleteRenderbuffers "glDeleteRenderbuffersOES" ["renderbuffers": NameList] Deletes(Renderbuffer) -> FreesNames(Renderbuffer) => [];
+    DeleteFramebuffers "glDeleteFramebuffersOES" ["framebuffers": NameList] Deletes(Framebuffer) -> FreesNames(Framebuffer) => [];
     // Section 3.7.11
-    IsTexture "glIsTexture" ["name": NumberOrVariable] Asks(Texture) -> Same => [];
+    IsTexture "glIsTexture" ["texture": NumberOrVariable] Asks(Texture) -> Same => [];
     // Section 2.9
-    IsBuffer "glIsBuffer" ["name": NumberOrVariable] Asks(Buffer) -> Same => [];
+    IsBuffer "glIsBuffer" ["buffer": NumberOrVariable] Asks(Buffer) -> Same => [];
     // OES_framebuffer_object
-    IsRenderbuffer "glIsRenderbufferOES" ["name": NumberOrVariable] Asks(Renderbuffer) -> Same => [];
-    IsFramebuffer "glIsFramebufferOES" ["name": NumberOrVariable] Asks(Framebuffer) -> Same => [];
+    IsRenderbuffer "glIsRenderbufferOES" ["renderbuffer": NumberOrVariable] Asks(Renderbuffer) -> Same => [];
+    IsFramebuffer "glIsFramebufferOES" ["framebuffer": NumberOrVariable] Asks(Framebuffer) -> Same => [];
     // Section 3.7.11
-    BindTexture "glBindTexture" ["target": Number, "name": NumberOrVariable] Binds(Texture) -> Same => [
-        NoTextureTarget: InvalidEnum,
-        NegativeName: InvalidValue,
+    BindTexture "glBindTexture" ["target": Number, "texture": NumberOrVariable] Binds(Texture) -> Same => [
+        NoTextureTarget,
+        NegativeName,
     ];
     // Section 2.9
-    BindBuffer "glBindBuffer" ["target": Number, "name": NumberOrVariable] Binds(Buffer) -> Same => [
-        NoBufferTarget: InvalidEnum,
-        NegativeName: InvalidValue,
+    BindBuffer "glBindBuffer" ["target": Number, "buffer": NumberOrVariable] Binds(Buffer) -> Same => [
+        NoBufferTarget,
+        NegativeName,
     ];
     // OES_framebuffer_object
-    BindRenderbuffer "glBindRenderbufferOES" ["target": Number, "name": NumberOrVariable] Binds(Renderbuffer) -> Same => [
-        NoRenderbufferTarget: InvalidEnum,
-        NegativeName: InvalidValue,
+    BindRenderbuffer "glBindRenderbufferOES" ["target": Number, "renderbuffer": NumberOrVariable] Binds(Renderbuffer) -> Same => [
+        NoRenderbufferTarget,
+        NegativeName,
     ];
-    BindFramebuffer "glBindFramebufferOES" ["target": Number, "name": NumberOrVariable] Binds(Framebuffer) -> Same => [
-        NoFramebufferTarget: InvalidEnum,
-        NegativeName: InvalidValue,
+    BindFramebuffer "glBindFramebufferOES" ["target": Number, "framebuffer": NumberOrVariable] Binds(Framebuffer) -> Same => [
+        NoFramebufferTarget,
+        NegativeName,
     ];
     // Section 3.7.4
-    TexParameterx "glTexParameterx" ["target": Number, "parameter": Number, "value": Number] Sets(Texture) -> Same => [
-        NoTextureTarget: InvalidEnum,
-        NoTextureParameter: InvalidEnum,
+    TexParameterx "glTexParameterx" ["target": Number, "pname": Number, "param": Number] Sets(Texture) -> Same => [
+        NoTextureTarget,
+        NoTextureParameter,
     ];
     // OES_draw_texture
-    TexParameteriv "glTexParameteriv" ["target": Number, "parameter": Number, "numbers": NumberList] Sets(Texture) -> Same => [
-        NoTextureTarget: InvalidEnum,
-        NoCropParameter: InvalidEnum,
-        WrongCropLength: InvalidValue,
+    TexParameteriv "glTexParameteriv" ["target": Number, "pname": Number, "params": NumberList] Sets(Texture) -> Same => [
+        NoTextureTarget,
+        NoCropParameter,
+        WrongCropLength,
     ];
     // Section 3.7.1
-    TexImage2d "glTexImage2D" ["target": Number, "level": Number, "internalformat": Number, "width": Number, "height": Number, "border": Number, "format": Number, "type": Number, "payload": Payload] Specifies(Texture) -> Same => [
-        NoTextureTarget: InvalidEnum,
-        NoImageKind: InvalidEnum,
-        NoInternalFormat: InvalidValue,
-        NoLevel: InvalidValue,
-        WrongLevelSides: InvalidValue,
-        SomeBorder: InvalidValue,
-        OtherFormat: InvalidOperation,
-        NoImagePair: InvalidOperation,
-        NoImageVideo: OutOfMemory,
+    TexImage2d "glTexImage2D" ["target": Number, "level": Number, "internalformat": Number, "width": Number, "height": Number, "border": Number, "format": Number, "type": Number, "pixels": Payload] Specifies(Texture) -> Same => [
+        NoTextureTarget,
+        NoImageKind,
+        NoInternalFormat,
+        NoLevel,
+        WrongLevelSides,
+        SomeBorder,
+        OtherFormat,
+        NoImagePair,
+        NoImageVideo,
     ];
     // Section 3.7.2
-    TexSubImage2d "glTexSubImage2D" ["target": Number, "level": Number, "x": Number, "y": Number, "width": Number, "height": Number, "format": Number, "type": Number, "payload": Payload] Rewrites -> Same => [
-        NoTextureTarget: InvalidEnum,
-        NoImageKind: InvalidEnum,
-        NoLevel: InvalidValue,
-        NoStorage: InvalidOperation,
-        OutsideLevel: InvalidValue,
-        OtherLevelFormat: InvalidOperation,
-        NoImagePair: InvalidOperation,
+    TexSubImage2d "glTexSubImage2D" ["target": Number, "level": Number, "xoffset": Number, "yoffset": Number, "width": Number, "height": Number, "format": Number, "type": Number, "pixels": Payload] Rewrites -> Same => [
+        NoTextureTarget,
+        NoImageKind,
+        NoLevel,
+        NoStorage,
+        OutsideLevel,
+        OtherLevelFormat,
+        NoImagePair,
     ];
     CopyTexImage2d "glCopyTexImage2D" ["target": Number, "level": Number, "internalformat": Number, "x": Number, "y": Number, "width": Number, "height": Number, "border": Number] Copies -> Same => [
-        NoTextureTarget: InvalidEnum,
-        NoInternalFormat: InvalidValue,
-        NoLevel: InvalidValue,
-        WrongCopiedSides: InvalidValue,
-        SomeCopiedBorder: InvalidValue,
-        NotComplete: InvalidFramebufferOperation,
-        NoInternalAlpha: InvalidOperation,
-        NoCopiedVideo: OutOfMemory,
+        NoTextureTarget,
+        NoInternalFormat,
+        NoLevel,
+        WrongCopiedSides,
+        SomeCopiedBorder,
+        NotComplete,
+        NoInternalAlpha,
+        NoCopiedVideo,
     ];
     CopyTexSubImage2d "glCopyTexSubImage2D" ["target": Number, "level": Number, "xoffset": Number, "yoffset": Number, "x": Number, "y": Number, "width": Number, "height": Number] CopiesPart -> Same => [
-        NoTextureTarget: InvalidEnum,
-        NoLevel: InvalidValue,
-        NoStorage: InvalidOperation,
-        CopiedOutsideLevel: InvalidValue,
-        NotComplete: InvalidFramebufferOperation,
-        NoLevelAlpha: InvalidOperation,
+        NoTextureTarget,
+        NoLevel,
+        NoStorage,
+        CopiedOutsideLevel,
+        NotComplete,
+        NoLevelAlpha,
     ];
     // Section 2.9
-    BufferData "glBufferData" ["target": Number, "size": Number, "usage": Number, "payload": Payload] Specifies(Buffer) -> Same => [
-        NoBufferTarget: InvalidEnum,
-        NoUsage: InvalidEnum,
-        NegativeSize: InvalidValue,
-        NoBufferBound: InvalidOperation,
-        NoDataVideo: OutOfMemory,
+    BufferData "glBufferData" ["target": Number, "size": Number, "usage": Number, "data": Payload] Specifies(Buffer) -> Same => [
+        NoBufferTarget,
+        NoUsage,
+        NegativeSize,
+        NoBufferBound,
+        NoDataVideo,
     ];
-    BufferSubData "glBufferSubData" ["target": Number, "offset": Number, "size": Number, "payload": Payload] Sets(Buffer) -> Same => [
-        NoBufferTarget: InvalidEnum,
-        NegativePart: InvalidValue,
-        NoBufferBound: InvalidOperation,
-        PartBehindEnd: InvalidValue,
+    BufferSubData "glBufferSubData" ["target": Number, "offset": Number, "size": Number, "data": Payload] Sets(Buffer) -> Same => [
+        NoBufferTarget,
+        NegativePart,
+        NoBufferBound,
+        PartBehindEnd,
     ];
     // Section 6.1.12
-    GetBufferParameteriv "glGetBufferParameteriv" ["target": Number, "parameter": Number] Gets(Buffer) -> Same => [
-        NoBufferTarget: InvalidEnum,
-        NoBufferParameter: InvalidEnum,
-        NoBufferBound: InvalidOperation,
+    GetBufferParameteriv "glGetBufferParameteriv" ["target": Number, "pname": Number] Gets(Buffer) -> Same => [
+        NoBufferTarget,
+        NoBufferParameter,
+        NoBufferBound,
     ];
     // OES_framebuffer_object
     RenderbufferStorage "glRenderbufferStorageOES" ["target": Number, "internalformat": Number, "width": Number, "height": Number] Specifies(Renderbuffer) -> Same => [
-        NoRenderbufferTarget: InvalidEnum,
-        NoRenderbufferFormat: InvalidEnum,
-        WrongStorageSides: InvalidValue,
-        NoRenderbufferBound: InvalidOperation,
-        NoStorageVideo: OutOfMemory,
+        NoRenderbufferTarget,
+        NoRenderbufferFormat,
+        WrongStorageSides,
+        NoRenderbufferBound,
+        NoStorageVideo,
     ];
-    GetRenderbufferParameteriv "glGetRenderbufferParameterivOES" ["target": Number, "parameter": Number] Gets(Renderbuffer) -> Same => [
-        NoRenderbufferTarget: InvalidEnum,
-        NoRenderbufferParameter: InvalidEnum,
-        NoRenderbufferBound: InvalidOperation,
+    GetRenderbufferParameteriv "glGetRenderbufferParameterivOES" ["target": Number, "pname": Number] Gets(Renderbuffer) -> Same => [
+        NoRenderbufferTarget,
+        NoRenderbufferParameter,
+        NoRenderbufferBound,
     ];
     FramebufferTexture2d "glFramebufferTexture2DOES" ["target": Number, "attachment": Number, "textarget": Number, "texture": NumberOrVariable, "level": Number] Attaches(Texture) -> Same => [
-        NoFramebufferTarget: InvalidEnum,
-        NoAttachment: InvalidEnum,
-        NoFramebufferBound: InvalidOperation,
-        NoAttachedTarget: InvalidEnum,
-        NoTextureNamed: InvalidOperation,
-        SomeAttachedLevel: InvalidValue,
+        NoFramebufferTarget,
+        NoAttachment,
+        NoFramebufferBound,
+        NoAttachedTarget,
+        NoTextureNamed,
+        SomeAttachedLevel,
     ];
     FramebufferRenderbuffer "glFramebufferRenderbufferOES" ["target": Number, "attachment": Number, "renderbuffertarget": Number, "renderbuffer": NumberOrVariable] Attaches(Renderbuffer) -> Same => [
-        NoFramebufferTarget: InvalidEnum,
-        NoAttachment: InvalidEnum,
-        NoAttachedRenderbufferTarget: InvalidEnum,
-        NoFramebufferBound: InvalidOperation,
-        NoRenderbufferNamed: InvalidOperation,
+        NoFramebufferTarget,
+        NoAttachment,
+        NoAttachedRenderbufferTarget,
+        NoFramebufferBound,
+        NoRenderbufferNamed,
     ];
     CheckFramebufferStatus "glCheckFramebufferStatusOES" ["target": Number] Gets(Framebuffer) -> Same => [
-        NoFramebufferTarget: InvalidEnum,
+        NoFramebufferTarget,
     ];
-    GetFramebufferAttachmentParameteriv "glGetFramebufferAttachmentParameterivOES" ["target": Number, "attachment": Number, "parameter": Number] Gets(Framebuffer) -> Attachments => [
-        NoFramebufferTarget: InvalidEnum,
-        NoAttachment: InvalidEnum,
-        NoFramebufferBound: InvalidOperation,
-        NoAttachmentParameter: InvalidEnum,
-        NothingAttached: InvalidEnum,
+    GetFramebufferAttachmentParameteriv "glGetFramebufferAttachmentParameterivOES" ["target": Number, "attachment": Number, "pname": Number] Gets(Framebuffer) -> Attachments => [
+        NoFramebufferTarget,
+        NoAttachment,
+        NoFramebufferBound,
+        NoAttachmentParameter,
+        NothingAttached,
     ];
     // OES_EGL_image
     ImageTargetTexture2d "glEGLImageTargetTexture2DOES" ["target": Number, "image": NumberOrVariable] TakesImage(Texture) -> Same => [
-        NoTextureTarget: InvalidEnum,
-        NoImage: InvalidValue,
+        NoTextureTarget,
+        NoImage,
     ];
     ImageTargetRenderbufferStorage "glEGLImageTargetRenderbufferStorageOES" ["target": Number, "image": NumberOrVariable] TakesImage(Renderbuffer) -> Same => [
-        NoRenderbufferTarget: InvalidEnum,
-        NoImage: InvalidValue,
-        NoRenderbufferBound: InvalidOperation,
-        NotRenderable: InvalidOperation,
+        NoRenderbufferTarget,
+        NoImage,
+        NoRenderbufferBound,
+        NotRenderable,
     ];
 ];
 

@@ -12,6 +12,7 @@ mod forms;
 mod gl_conditions;
 mod gl_table;
 pub mod laws;
+mod names;
 mod own_table;
 mod roles;
 
@@ -21,5 +22,6 @@ pub use egl_table::{EGL_CALLS, EglRow, egl_answers, egl_role, egl_rules};
 pub use forms::Form;
 pub use gl_conditions::GlCondition;
 pub use gl_table::{GL_CALLS, GlRow, gl_answers, gl_role, gl_rules};
+pub use names::call_name;
 pub use own_table::{OWN_CALLS, OwnRow, own_rules};
 pub use roles::Role;

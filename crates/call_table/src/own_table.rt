@@ -3,7 +3,7 @@ ghost use Rattle.std.specs.Prelude.{◌≡◌};
 ghost use Rattle.call_table.specs.Rows.{own_rules};
 
 use crate::forms::Form;
-use crate::gl_conditions::GlCondition;
+use crate::gl_conditions::{GlCondition, gl_error};
 use egl_calls::{GlError, OwnKind};
 
 /// A call: the word that names it, its kind, the forms of its arguments, a word for each, and the conditions that refuse it with their errors in the order in which they are tried.
@@ -17,13 +17,13 @@ pub type OwnRow = (
 
 /// A call: its kind and its name, its arguments, and what refuses it.
 macro_rules! calls {
-    ($($kind:ident $name:literal [$($word:literal: $form:ident),*] => [$($condition:ident: $error:ident),* $(,)?];)*) => {
+    ($($kind:ident $name:literal [$($word:literal: $form:ident),*] => [$($condition:ident),* $(,)?];)*) => {
         [$((
             $name,
             OwnKind::$kind,
             &[$(Form::$form),*],
             &[$($word),*],
-            &[$((GlCondition::$condition, GlError::$error)),*],
+            &[$((GlCondition::$condition, gl_error!($condition))),*],
         )),*]
     };
 }
@@ -35,10 +35,10 @@ pub static OWN_CALLS: [OwnRow; 5] = calls![
     Census "census" [] => [];
     ReadFront "readFront" ["window": Number] => [];
     ReadBuffer "readBuffer" ["target": Number, "offset": Number, "size": Number] => [
-        NoBufferTarget: InvalidEnum,
-        NegativePart: InvalidValue,
-        NoBufferBound: InvalidOperation,
-        PartBehindEnd: InvalidValue,
+        NoBufferTarget,
+        NegativePart,
+        NoBufferBound,
+        PartBehindEnd,
     ];
 ];
 

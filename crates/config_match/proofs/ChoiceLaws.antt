@@ -1,6 +1,6 @@
 -- What the steps of a choice come to.
-use Rattle.std.proofs.Common.{◌≡◌, ℕ, ◌+◌, ◌<◌, List, ℤ, map, length, refl, sym, ap, ◌∙◌, subst, arith, Result, Some, Bool, true, false, ◌&&◌, [], ◌∷◌, zero, suc, leb, cond, ◌≤◌}
-use Rattle.std.proofs.lemmas.Bool.{false≢true}
+use Rattle.std.proofs.Common.{◌≡◌, ℕ, ◌+◌, ◌<◌, List, ℤ, map, length, refl, sym, ap, ◌∙◌, subst, arith, Result, Some, Bool, true, false, [], ◌∷◌, zero, suc, leb, cond, ◌≤◌}
+use Rattle.std.proofs.lemmas.Bool.{and_parts}
 use borrow.Author.Tests.{leb-true}
 use Rattle.egl_names.specs.declared.codes.TheConstants.{EGL_RED_SIZE, EGL_GREEN_SIZE, EGL_BLUE_SIZE, EGL_ALPHA_SIZE}
 use Rattle.std.specs.Prelude.{filter, IfOk, slice_get, slice_index}
@@ -64,10 +64,6 @@ choice list = record {
   those = moves_rising (map (key list) (filter (matches list) configs));
   rise = rising_is_sorted (map (key list) (filter (matches list) configs));
 }
-
-and_parts : (a b : Bool) → (a && b) ≡ true → (a ≡ true) × (b ≡ true)
-and_parts true b h = (refl, h)
-and_parts false b h = absurd (false≢true h)
 
 passes_at : (p : Config → Bool) (xs : List Config) (i : ℕ) (c : Config) → list_all p xs ≡ true → slice_get xs i ≡ Some c → p c ≡ true
 passes_at p [] i c h g = absurd (cc)

@@ -3,6 +3,8 @@ use Rattle.std.proofs.Common.{◌≡◌, ℕ, zero, suc, ◌+◌, Bool, true, fa
 use Rattle.std.specs.Prelude.{int_lt, All}
 use Rattle.std.specs.Int.{w64}
 use Rattle.std.proofs.lemmas.Int.{ints, to_z-of_z}
+use Rattle.std.proofs.lemmas.Bool.{and_right}
+use Rattle.egl_calls.proofs.Truths.{neither_first, neither_second}
 use Rattle.egl_calls.specs.declared.kinds.Kind.{Kind}
 use Rattle.egl_calls.specs.declared.kinds.Kind.TheVariants.{Egl, Gl, Own}
 use Rattle.egl_calls.specs.Ranges.{IsNumber, IsArgument, AreArguments, is_client_wait}
@@ -14,16 +16,12 @@ no_wait (Egl e) h = absurd (cc)
 no_wait (Gl g) h = refl
 no_wait (Own o) h = refl
 
-and_false : (a b : Bool) → b ≡ false → (a && b) ≡ false
-and_false true b h = h
-and_false false b h = refl
-
 lower : (b : Bool) (z : ℤ) → b ≡ false → z ≤ℤ pos (cond b 9223372036854775807 4294967295) → z ≤ℤ pos 4294967295
 lower true z h l = absurd (cc)
 lower false z h l = l
 
 is_number : (k : Kind) (p : ℕ) (z : ℤ) → is_context_call k ≡ true → IsArgument k p z → IsNumber z
-is_number k p z l a = record { low = a.low; high = lower ((p == 3) && is_client_wait k) z (and_false _ _ (no_wait k l)) a.high }
+is_number k p z l a = record { low = a.low; high = lower ((p == 3) && is_client_wait k) z (and_right _ _ (no_wait k l)) a.high }
 
 -- also past the list's end, where 0 stands
 pub small_number : (k : Kind) (p : ℕ) (zs : List ℤ) (i : ℕ) → is_context_call k ≡ true → AreArguments k p zs → IsNumber (get_or zs i (pos 0))
@@ -34,14 +32,6 @@ small_number k p (z ∷ zs) (suc i) l a = small_number k (p + 1) zs i l a.1
 not_negative : (z : ℤ) → int_lt z (pos 0) ≡ false → pos 0 ≤ℤ z
 not_negative (pos n) h = omega (arith, ints)
 not_negative (negsuc n) h = absurd (cc)
-
-first_false : (a b : Bool) → (a || b) ≡ false → a ≡ false
-first_false true b h = h
-first_false false b h = refl
-
-second_false : (a b : Bool) → (a || b) ≡ false → b ≡ false
-second_false true b h = absurd (cc)
-second_false false b h = h
 
 -- a number that is kept and read again is the number
 same : (z : ℤ) → IsNumber z → to_z w64 (of_z w64 z) ≡ z
@@ -60,8 +50,8 @@ each_of_four x y w h a b c d (suc (suc (suc (suc k)))) e l = absurd (omega arith
 box_in_range : (x y w h : ℤ) → IsNumber x → IsNumber y → IsNumber w → IsNumber h → (int_lt w (pos 0) || int_lt h (pos 0)) ≡ false → IsBox (x ∷ y ∷ w ∷ h ∷ [])
 box_in_range x y w h a b c d e = record {
   numbers = each_of_four x y w h a b c d;
-  wide = not_negative w (first_false _ _ e);
-  high = not_negative h (second_false _ _ e);
+  wide = not_negative w (neither_first _ _ e);
+  high = not_negative h (neither_second _ _ e);
 }
 
 pub kept_box : (k : Kind) (zs : List ℤ) → is_context_call k ≡ true → AreArguments k 0 zs → (int_lt (get_or zs 2 (pos 0)) (pos 0) || int_lt (get_or zs 3 (pos 0)) (pos 0)) ≡ false →

@@ -1,5 +1,5 @@
 -- The handles of two displays.
-use Rattle.std.proofs.Common.{◌≡◌, ◌≢◌, ℕ, ◌+◌, ◌≤◌, Bool, true, false, not, ◌&&◌, ◌==◌, if◌then◌else◌, List, [], ◌∷◌, ◌++◌, Option, None, Some, refl, sym, ◌∙◌, ap, arith, IfSome, IsSome, subst}
+use Rattle.std.proofs.Common.{◌≡◌, ◌≢◌, ℕ, ◌+◌, ◌≤◌, Bool, true, false, not, ◌==◌, if◌then◌else◌, List, [], ◌∷◌, ◌++◌, Option, None, Some, refl, sym, ◌∙◌, ap, arith, IfSome, IsSome, subst}
 use Rattle.std.specs.List.{filter, find}
 use Rattle.std.specs.Map.{keys_of}
 use Rattle.std.specs.Option.{option_to_list, option_or}
@@ -11,6 +11,7 @@ use Rattle.display_table.specs.Tables.{at_number, either, handles_in, listed, ha
 use Rattle.display_table.proofs.PlaceLaws.{none_there, rise-more}
 use Rattle.display_table.specs.declared.TheConstants.{HANDLES_END}
 use Rattle.std.proofs.lemmas.List.{map-append}
+use Rattle.egl_calls.proofs.Truths.{and_true, and_false}
 use Rattle.display_table.proofs.ListedLaws.{listed-same, listed-more, listed-none, filter-listed, listed-last, last_or-push, find-listed, rise-listed, IsNumbered}
 
 -- nothing stands at a number that wasn't given
@@ -42,14 +43,6 @@ same-tables f g f' g' next e d = listed-same _ _ next (λ k l. rw (e k, d k) ref
 
 -- at one place
 
-and-true : (s : Bool) → (s && true) ≡ s
-and-true true = refl
-and-true false = refl
-
-and-false : (s : Bool) → (s && false) ≡ false
-and-false true = refl
-and-false false = refl
-
 -- only the place of its number has a handle that a number names
 other_first : (p : Handle → Bool) (d e next k : ℕ) (a b : Option Handle) → IfSome a (IsHandle d next k) → IfSome b (IsHandle e next k) → ((h : Handle) → h.number ≡ k → p h ≡ false) → find p (option_to_list (either a b)) ≡ None
 other_first p d e next k None None i j miss = refl
@@ -72,10 +65,10 @@ number_here : (n : ℕ) (kind : HandleKind) (h : Handle) → h.number ≡ n → 
 number_here n kind h e = rw (eq-eqb h.number n e) refl
 
 display_here : (d n : ℕ) (kind : HandleKind) (h : Handle) → h.number ≡ n → h.display ≡ d → is_named_on d n kind h ≡ is_same_kind h.kind kind
-display_here d n kind h e q = rw (eq-eqb h.number n e, eq-eqb h.display d q, and-true (is_same_kind h.kind kind)) refl
+display_here d n kind h e q = rw (eq-eqb h.number n e, eq-eqb h.display d q, and_true (is_same_kind h.kind kind)) refl
 
 display_there : (d n : ℕ) (kind : HandleKind) (h : Handle) → h.display ≢ d → is_named_on d n kind h ≡ false
-display_there d n kind h ne = rw (ne_eqb h.display d ne, and-false (is_named n kind h)) refl
+display_there d n kind h ne = rw (ne_eqb h.display d ne, and_false (is_named n kind h)) refl
 
 found_one : (p : Handle → Bool) (s : Bool) (h : Handle) → p h ≡ s → find p (h ∷ []) ≡ (if s then Some h else None)
 found_one p s h e = rw e refl

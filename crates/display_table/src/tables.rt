@@ -43,6 +43,7 @@ pub(crate) fn handle_in(table: &Table, number: u64, kind: HandleKind) -> Option<
     }
 }
 
+/// Adds a handle whose number is above those of all that were added.
 pub(crate) fn add(table: &mut Table, handle: Handle) -> Result<(), HandleError>
     requires { NumbersRise 3 (keys table.old) handle.number }
     ensures added { OnOk result ((n : ℕ) → at_number table.new.entries n ≡ (if n == handle.number then Some handle else at_number table.old.entries n)) }

@@ -17,10 +17,10 @@ use Rattle.egl_model.specs.State.{State, object_at, record_of}
 use Rattle.model_laws.specs.Hidden.{hide}
 use Rattle.model_laws.specs.Shapes.{shapes}
 use Rattle.model_laws.specs.Sound.{IsSound, IsWhole}
-use Rattle.model_laws.proofs.Moves.{frozen_in}
-use Rattle.model_laws.proofs.Places.{frozen_at-shapes, own_at-shapes}
-use Rattle.model_laws.proofs.PutMoves.{surface_link}
-use Rattle.model_laws.proofs.StepPut.{whole-hide}
+use Rattle.model_laws.proofs.Changes.Moves.{frozen_in}
+use Rattle.model_laws.proofs.References.Places.{frozen_at-shapes, own_at-shapes}
+use Rattle.model_laws.proofs.Changes.PutMoves.{surface_link}
+use Rattle.model_laws.proofs.Steps.StepPut.{whole-hide}
 use Rattle.object_table.specs.Memory.{is_own_in}
 use Rattle.driver_facts.specs.Memory.{clears_own, draws_to_own}
 

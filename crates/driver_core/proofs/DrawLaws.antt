@@ -1,7 +1,7 @@
 -- The numbers of draws.
-use Rattle.std.proofs.Common.{◌≡◌, ◌==◌, ℕ, zero, suc, ◌+◌, ℤ, pos, ◌≤ℤ◌, ◌*ℤ◌, Bool, true, false, ◌&&◌, cond, List, [], ◌∷◌, get_or, refl, sym, ap, ◌∙◌, subst, arith, rules, to_z, of_z, None}
+use Rattle.std.proofs.Common.{◌≡◌, ◌==◌, ℕ, zero, suc, ◌+◌, ℤ, pos, ◌≤ℤ◌, ◌*ℤ◌, Bool, true, false, ◌&&◌, cond, List, [], ◌∷◌, get_or, sym, ap, ◌∙◌, subst, arith, rules, to_z, of_z, None}
 use Rattle.std.specs.Prelude.{int_lt}
-use Rattle.std.proofs.lemmas.Bool.{or_parts}
+use Rattle.std.proofs.lemmas.Bool.{or_parts, and_right}
 use Rattle.std.specs.Int.{w64}
 use Rattle.std.proofs.lemmas.Int.{ints, to_z-of_z}
 use Rattle.egl_calls.specs.Calls.{CallValue}
@@ -22,16 +22,12 @@ use Rattle.egl_model.specs.GlFacts.{gl_facts_of}
 use Rattle.egl_model.specs.State.{State}
 use Rattle.driver_core.specs.Draws.{is_draw}
 
-and_false : (a b : Bool) → b ≡ false → (a && b) ≡ false
-and_false true b h = h
-and_false false b h = refl
-
 lower : (b : Bool) (z : ℤ) → b ≡ false → z ≤ℤ pos (cond b 9223372036854775807 4294967295) → z ≤ℤ pos 4294967295
 lower true z h l = absurd (cc)
 lower false z h l = l
 
 is_number : (k : Kind) (p : ℕ) (z : ℤ) → is_client_wait k ≡ false → IsArgument k p z → IsNumber z
-is_number k p z w a = record { low = a.low; high = lower ((p == 3) && is_client_wait k) z (and_false _ _ w) a.high }
+is_number k p z w a = record { low = a.low; high = lower ((p == 3) && is_client_wait k) z (and_right _ _ w) a.high }
 
 number_fits : (k : Kind) (p : ℕ) (zs : List ℤ) (i : ℕ) → is_client_wait k ≡ false → AreArguments k p zs → IsNumber (get_or zs i (pos 0))
 number_fits k p [] i w a = record { low = omega (arith, ints); high = omega (arith, ints) }

@@ -18,7 +18,7 @@ use Rattle.egl_model.specs.Sweep.{sweep}
 use Rattle.model_laws.specs.Frame.{IsReady}
 use Rattle.model_laws.specs.Hidden.{hide}
 use Rattle.model_laws.specs.Late.{drawing, drawn_state, draws_to_surface, is_late, late_rect, late_sampler, late_step, sampled_by, texture_sampler}
-use Rattle.model_laws.proofs.LateDraws.{late_by_refusal, late_outside, own_context}
+use Rattle.model_laws.proofs.Parts.LateDraws.{late_by_refusal, late_outside, own_context}
 use Rattle.driver_core.specs.LateDraws.{IsLeft, drawn_late, sampler_of}
 use Rattle.driver_core.specs.Machine.{Machine, outs}
 use Rattle.driver_core.specs.declared.drawings.Drawing.{Drawing}

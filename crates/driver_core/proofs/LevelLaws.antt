@@ -1,9 +1,9 @@
 -- Levels that a glTexImage2D gives textures.
-use Rattle.std.proofs.Common.{◌≡◌, ℕ, ◌+◌, ◌<◌, ◌≤◌, true, List, [], ◌∷◌, ◌++◌, length, refl, sym, ap, ◌∙◌, subst, inl, inr, arith, Option, None, Some}
+use Rattle.std.proofs.Common.{◌≡◌, ℕ, ◌+◌, ◌<◌, ◌≤◌, List, [], ◌∷◌, ◌++◌, length, refl, ap, ◌∙◌, subst, inl, inr, arith, Option, None, Some}
 use Rattle.std.proofs.lemmas.Bool.{cases_lt, eqb-true, not-false}
 use Rattle.std.proofs.lemmas.List.{set_past}
 use Rattle.std.specs.List.{sum_by}
-use Rattle.model_laws.proofs.Places.{same_at_set}
+use Rattle.model_laws.proofs.References.Places.{same_at_set}
 use Rattle.std.proofs.lemmas.List.Sums.{sum_by-append, sum_by-set}
 use Rattle.std.specs.Prelude.{IfSome, IsSome, is_some}
 use Rattle.std.proofs.Common.{get_or}
@@ -21,7 +21,6 @@ use Rattle.pixel_rows.specs.Rects.{IsInside}
 use Rattle.pixel_rows.specs.declared.rects.Rect.{Rect}
 use Rattle.call_rules.specs.GlAllowed.{PartAllowed}
 use Rattle.call_rules.proofs.GlLaws.{part_allowed, rows_off}
-use Rattle.call_rules.specs.declared.gl_facts.GlFacts.{GlFacts}
 use Rattle.texture_objects.specs.Uploads.{part_rect}
 use Rattle.driver_objects.specs.Objects.{edges_of}
 use Rattle.driver_objects.specs.Storages.{StorageValue}

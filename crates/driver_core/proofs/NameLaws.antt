@@ -2,7 +2,7 @@
 use Rattle.std.proofs.Common.{◌≡◌, ◌==◌, ℕ, zero, suc, ◌+◌, ◌≤◌, ℤ, pos, negsuc, ◌≤ℤ◌, Bool, true, false, ◌&&◌, cond, is_some, List, [], ◌∷◌, get_or, set, refl, sym, ap, ◌∙◌, arith, Option, None, Some, Result, Ok, Err}
 use Rattle.std.specs.Prelude.{OnOk}
 use Rattle.std.specs.Option.{option_map_or}
-use Rattle.std.proofs.lemmas.Bool.{false≢true}
+use Rattle.std.proofs.lemmas.Bool.{false≢true, and_right}
 use Rattle.std.proofs.lemmas.List.{set-get_or}
 use Rattle.driver_objects.specs.declared.objects.Object.{Object}
 use Rattle.driver_objects.specs.declared.objects.Object.TheVariants.{Group}
@@ -13,10 +13,6 @@ use Rattle.std.proofs.lemmas.Int.{ints}
 use Rattle.egl_calls.specs.Ranges.{AreArguments, is_client_wait, unsigned}
 use Rattle.egl_calls.specs.declared.kinds.Kind.{Kind}
 
-and_false : (a b : Bool) → b ≡ false → (a && b) ≡ false
-and_false true b h = h
-and_false false b h = refl
-
 within : (b : Bool) (z : ℤ) → b ≡ false → z ≤ℤ pos (cond b 9223372036854775807 4294967295) → unsigned z ≤ 4294967295
 within true z h l = absurd (cc)
 within false (pos n) h l = omega (arith, ints, l)
@@ -24,7 +20,7 @@ within false (negsuc n) h l = omega arith
 
 pub name_fits : (k : Kind) (p : ℕ) (zs : List ℤ) (i : ℕ) → is_client_wait k ≡ false → AreArguments k p zs → unsigned (get_or zs i (pos 0)) ≤ 4294967295
 name_fits k p [] i w a = omega arith
-name_fits k p (z ∷ zs) zero w a = within ((p == 3) && is_client_wait k) z (and_false _ _ w) a.0.high
+name_fits k p (z ∷ zs) zero w a = within ((p == 3) && is_client_wait k) z (and_right _ _ w) a.0.high
 name_fits k p (z ∷ zs) (suc i) w a = name_fits k (p + 1) zs i w a.1
 
 -- ---- Where there is no group.

@@ -21,7 +21,7 @@ use Rattle.egl_model.specs.GlCalls.{gl_refusal}
 use Rattle.egl_model.specs.Objects.{change_renderbuffer, with_renderbuffer}
 use Rattle.egl_model.specs.Renderbuffers.{with_kind}
 use Rattle.egl_model.specs.State.{State}
-use Rattle.model_laws.proofs.RenderbufferCalls.{storage_passed}
+use Rattle.model_laws.proofs.Calls.RenderbufferCalls.{storage_passed}
 use Rattle.object_table.specs.Tables.{weight_of}
 use Rattle.driver_core.specs.Costs.{IsCheap}
 use Rattle.driver_core.proofs.LevelLaws.{cheap_less, weighs_storage}

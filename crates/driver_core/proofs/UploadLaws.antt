@@ -1,7 +1,7 @@
 -- A call does what it would, given what its thread's part and itself tell that it gives.
 use Rattle.std.proofs.Common.{◌≡◌, ℕ, ◌<◌, pos, Bool, true, false, cond, not, ◌&&◌, ◌||◌, refl, sym, ap, ◌∙◌, List, Option, None, Some, is_some}
 use Rattle.std.specs.Option.{option_and_then, option_map, option_map_or}
-use Rattle.std.proofs.lemmas.Bool.{and_parts, eqb-true}
+use Rattle.std.proofs.lemmas.Bool.{and_parts, eqb-true, or_parts}
 use Rattle.std.proofs.lemmas.Option.{none-some}
 use Rattle.egl_calls.specs.Calls.{CallValue}
 use Rattle.egl_calls.specs.Arguments.{number}
@@ -28,9 +28,9 @@ use Rattle.egl_model.specs.Step.{gl_step, step, step_by}
 use Rattle.egl_model.specs.Textures.{level_of, new_level, specified, target_texture}
 use Rattle.model_laws.specs.Local as local
 use Rattle.model_laws.specs.Local.{has_framebuffer, is_unbound}
-use Rattle.model_laws.proofs.LateDraws.{own_context}
-use Rattle.model_laws.proofs.Locals.{bound-local}
-use Rattle.model_laws.proofs.StepLaws.{step_goes}
+use Rattle.model_laws.proofs.Parts.LateDraws.{own_context}
+use Rattle.model_laws.proofs.Parts.Locals.{bound-local}
+use Rattle.model_laws.proofs.Steps.StepLaws.{step_goes}
 use Rattle.thread_part.specs.Uploads.{are_few, copied_locally, early_facts, given_by, is_upload, new_contents, upload_of, upload_with}
 use Rattle.thread_part.specs.declared.uploads.Upload.{Upload}
 use Rattle.thread_part.specs.declared.uploads.Upload.TheVariants.{Contents, Pixels}
@@ -105,10 +105,6 @@ read_here s t n q h e u =
     ∙ there s.objects (read_storage s t)
     ∙ image_read s.objects (draw_storage s t) (read_storage s t) (are_same (draw_storage s t) (read_storage s t)) refl
 
-or_false : (a b : Bool) → (a || b) ≡ false → (a ≡ false) × (b ≡ false)
-or_false true b h = absurd (let e : true ≡ false = h in cc)
-or_false false b h = (refl, h)
-
 from_image : (i : Option ImageValue) (c : CallValue) (o : Option ℕ) (s : State) (v : StorageValue) → option_map (copied_level c) i ≡ Some v → copied_from i c o s ≡ specified (level_of c) (Some v) o s
 from_image None c o s v h = absurd (none-some v h)
 from_image (Some i) c o s v h = ap (λ x. specified (level_of c) x o s) h
@@ -120,7 +116,7 @@ pixels_by s t n q TexImage2d c v h e g =
     (ap (λ (p : Option PartValue). new_level c (option_map_or (λ p. p.unpack_alignment) p 4)) e ∙ only_pixels (new_level c q.unpack_alignment) v g)
 pixels_by s t n q CopyTexImage2d c v h e g =
     let a = unless (has_framebuffer q || copies_nothing c) (option_map (copied_level c) (local.read_image (part_of s t))) v (only_pixels (copied_locally (part_of s t) q c) v g) in
-    let b = or_false (has_framebuffer q) (copies_nothing c) a.0 in
+    let b = or_parts (has_framebuffer q) (copies_nothing c) a.0 in
     ap (valued (pos 0))
     (ap (λ z. cond z (specified (level_of c) None (target_texture s n) s) (copied_from (read_image s t) c (target_texture s n) s)) b.1
     ∙ from_image (read_image s t) c (target_texture s n) s v (ap (option_map (copied_level c)) (read_here s t n q h e b.0) ∙ a.1))

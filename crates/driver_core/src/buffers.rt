@@ -60,7 +60,7 @@ impl Driver {
     }
 
     /// Does a `readBuffer`: it changes nothing, but a refusal is kept as one of OpenGL ES.
-    #[tactic(auto, using(model_laws::proofs::StepLaws::buffer_refused, model_laws::proofs::StepLaws::buffer_done, model_laws::proofs::StepLaws::buffer_without_context))]
+    #[tactic(auto, using(model_laws::proofs::Steps::StepLaws::buffer_refused, model_laws::proofs::Steps::StepLaws::buffer_done, model_laws::proofs::Steps::StepLaws::buffer_without_context))]
     pub(crate) fn read_buffer<R: Replies>(
         &mut self,
         alloc: Global,

@@ -58,7 +58,7 @@ fn chosen(alloc: Global, call: &Call) -> Result<Numbers, NoMemory>
 
 impl Driver {
     /// Does a call of EGL that no rule refuses and that releases nothing.
-    #[tactic(auto, using(driver_facts::proofs::Allowed::initialize_display, driver_facts::proofs::Allowed::choice_list, driver_facts::proofs::Allowed::window_display, driver_facts::proofs::Allowed::window_numbers, driver_facts::proofs::Allowed::window_range, driver_facts::proofs::Allowed::window_place, driver_facts::proofs::Allowed::pbuffer_display, driver_facts::proofs::Allowed::pbuffer_numbers, driver_facts::proofs::Allowed::pbuffer_range, driver_facts::proofs::Allowed::context_display, driver_facts::proofs::Allowed::context_numbers, driver_facts::proofs::Allowed::context_range, model_laws::proofs::NewSyncLaws::sync_display, model_laws::proofs::NewSyncLaws::sync_current, model_laws::proofs::NewSyncLaws::sync_numbers, driver_facts::proofs::ImageLaws::image_display, driver_facts::proofs::ImageLaws::image_numbers, driver_facts::proofs::ImageLaws::image_source))]
+    #[tactic(auto, using(driver_facts::proofs::Allowed::initialize_display, driver_facts::proofs::Allowed::choice_list, driver_facts::proofs::Allowed::window_display, driver_facts::proofs::Allowed::window_numbers, driver_facts::proofs::Allowed::window_range, driver_facts::proofs::Allowed::window_place, driver_facts::proofs::Allowed::pbuffer_display, driver_facts::proofs::Allowed::pbuffer_numbers, driver_facts::proofs::Allowed::pbuffer_range, driver_facts::proofs::Allowed::context_display, driver_facts::proofs::Allowed::context_numbers, driver_facts::proofs::Allowed::context_range, model_laws::proofs::Waits::NewSyncLaws::sync_display, model_laws::proofs::Waits::NewSyncLaws::sync_current, model_laws::proofs::Waits::NewSyncLaws::sync_numbers, driver_facts::proofs::ImageLaws::image_display, driver_facts::proofs::ImageLaws::image_numbers, driver_facts::proofs::ImageLaws::image_source))]
     fn egl_effect_keeping_holds<R: Replies>(
         &mut self,
         alloc: Global,
@@ -200,7 +200,7 @@ impl Driver {
         }
     }
 
-    #[tactic(auto, using(model_laws::proofs::StepLaws::egl_refused, crate::proofs::StepLaws::egl_done_swept))]
+    #[tactic(auto, using(model_laws::proofs::Steps::StepLaws::egl_refused, crate::proofs::StepLaws::egl_done_swept))]
     fn egl_step<L: Ledger, R: Replies>(
         &mut self,
         alloc: Global,
@@ -459,7 +459,7 @@ impl Driver {
         }
     }
 
-    #[tactic(auto, using(model_laws::proofs::StepLaws::gl_refused, model_laws::proofs::StepLaws::gl_done, model_laws::proofs::StepLaws::gl_without_context))]
+    #[tactic(auto, using(model_laws::proofs::Steps::StepLaws::gl_refused, model_laws::proofs::Steps::StepLaws::gl_done, model_laws::proofs::Steps::StepLaws::gl_without_context))]
     fn gl_step<L: Ledger, R: Replies>(
         &mut self,
         alloc: Global,
@@ -517,7 +517,7 @@ impl Driver {
     }
 
     /// The same of any thread.
-    #[tactic(auto, using(model_laws::proofs::StepLaws::step_waits, model_laws::proofs::StepLaws::step_goes))]
+    #[tactic(auto, using(model_laws::proofs::Steps::StepLaws::step_waits, model_laws::proofs::Steps::StepLaws::step_goes))]
     fn step_in<L: Ledger, R: Replies>(
         &mut self,
         alloc: Global,

@@ -53,7 +53,7 @@ impl Driver {
         }
     }
 
-    #[tactic(auto, using(model_laws::proofs::StepLaws::gl_refused, model_laws::proofs::StepLaws::gl_done, model_laws::proofs::StepLaws::gl_without_context))]
+    #[tactic(auto, using(model_laws::proofs::Steps::StepLaws::gl_refused, model_laws::proofs::Steps::StepLaws::gl_done, model_laws::proofs::Steps::StepLaws::gl_without_context))]
     fn gl_step_with_upload<L: Ledger, R: Replies>(
         &mut self,
         alloc: Global,

@@ -19,7 +19,7 @@ use Rattle.egl_model.specs.GlFacts.{gl_facts_of}
 use Rattle.egl_model.specs.Objects.{storage_in}
 use Rattle.egl_model.specs.State.{State}
 use Rattle.egl_model.specs.Textures.{level_of, level_storage}
-use Rattle.model_laws.proofs.CopyCalls.{copy_passed}
+use Rattle.model_laws.proofs.Calls.CopyCalls.{copy_passed}
 use Rattle.thread_part.proofs.Givens.{copied_below as given_below, copied_high as given_high, copied_wide as given_wide}
 
 -- ---- glCopyTexImage2D.

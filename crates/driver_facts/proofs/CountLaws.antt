@@ -11,7 +11,7 @@ use Rattle.model_laws.specs.Refs.{Holder, Triple, bound_in, by_object, by_thread
 use Rattle.model_laws.specs.Shapes.{slots_in}
 use Rattle.model_laws.specs.Slots.{Slot, ends}
 use Rattle.egl_model.specs.State.{State}
-use Rattle.model_laws.proofs.WholeSweep.{edges_as_ends}
+use Rattle.model_laws.proofs.References.WholeSweep.{edges_as_ends}
 use Rattle.egl_model.specs.Sweep.{bound_object, edges_in, held_by, references, roots}
 use Rattle.object_table.specs.Tables.{references_to}
 use Rattle.ref_store.specs.Counts.{times}

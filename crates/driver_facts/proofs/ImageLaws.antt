@@ -28,7 +28,7 @@ use Rattle.egl_model.specs.Objects.{as_egl_image, as_storage, change_renderbuffe
 use Rattle.egl_model.specs.Renderbuffers.{with_kind}
 use Rattle.egl_model.specs.State.{State}
 use Rattle.egl_model.specs.Textures.{pixels_at}
-use Rattle.model_laws.proofs.Places.{same_at_set}
+use Rattle.model_laws.proofs.References.Places.{same_at_set}
 use Rattle.ref_store.proofs.CountLaws.{times_none, times_other}
 use Rattle.object_table.specs.Tables.{LeadsDown}
 use Rattle.driver_facts.specs.Groups.{IsPixels}

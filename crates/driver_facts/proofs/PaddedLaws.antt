@@ -1,10 +1,11 @@
 -- The padded list of records.
-use Rattle.std.proofs.Common.{◌≡◌, ℕ, ◌<◌, ◌≤◌, length-append, ◌-◌, ◌+◌, ◌||◌, Bool, true, false, List, ◌++◌, length, set, get_or, refl, sym, ap, ◌∙◌, replicate, length-set, zero, suc, arith, [], ◌∷◌, lit<, map}
+use Rattle.std.proofs.Common.{◌≡◌, ℕ, ◌<◌, ◌≤◌, length-append, ◌-◌, ◌+◌, ◌||◌, Bool, false, List, ◌++◌, length, set, get_or, refl, sym, ap, ◌∙◌, replicate, length-set, zero, suc, arith, [], ◌∷◌, lit<, map}
 use Rattle.egl_model.specs.Contexts.{draws_with, is_drawn_with}
 use Rattle.std.proofs.lemmas.List.{append_assoc, set-append_left, get_or_append_left, append-nil}
 use Rattle.std.proofs.lemmas.List.Folds.{list_any-append}
 use Rattle.std.proofs.lemmas.Grind.{flat_map-append}
 use Rattle.std.specs.List.{list_any, flat_map}
+use Rattle.egl_calls.proofs.Truths.{or_false}
 use Rattle.display_table.specs.declared.handles.Handle.{Handle}
 use Rattle.egl_model.specs.declared.records.ThreadRecord.{ThreadRecord}
 use Rattle.egl_model.specs.State.{initial, capacity}
@@ -50,10 +51,6 @@ roots_padded hs rs =
 none_pass : (p : ThreadRecord → Bool) (n : ℕ) → p initial ≡ false → list_any p (replicate n initial) ≡ false
 none_pass p zero e = refl
 none_pass p (suc n) e = ap (λ b. b || list_any p (replicate n initial)) e ∙ none_pass p n e
-
-or_false : (b : Bool) → (b || false) ≡ b
-or_false true = refl
-or_false false = refl
 
 any_padded : (p : ThreadRecord → Bool) (rs : List ThreadRecord) → p initial ≡ false → list_any p (padded rs) ≡ list_any p rs
 unfolding padded

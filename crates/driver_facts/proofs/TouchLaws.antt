@@ -34,7 +34,7 @@ use Rattle.egl_model.specs.State.{State, record_of}
 use Rattle.egl_model.specs.Step.{after_gl_rules, buffer_step_on, egl_step, gl_step, own_step, step_by, wait_step}
 use Rattle.egl_model.specs.Textures.{storage_at}
 use Rattle.egl_model.specs.Waits.{is_signalled, is_wait_end}
-use Rattle.model_laws.proofs.StepLaws.{egl_done, egl_refused, gl_done, gl_refused, gl_without_context, step_goes, step_waits}
+use Rattle.model_laws.proofs.Steps.StepLaws.{egl_done, egl_refused, gl_done, gl_refused, gl_without_context, step_goes, step_waits}
 use Rattle.driver_facts.specs.declared.touches.Touches.{Touches}
 use Rattle.driver_facts.specs.Touches.{buffer_touches_on, egl_touches, gl_touches, gl_touches_on, levels_in, nothing, object, objects_named, own_touches, tells, touches_by, touches_of, where_done}
 

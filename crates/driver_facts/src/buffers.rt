@@ -5,7 +5,6 @@ ghost use Rattle.egl_calls.specs.Ranges.{IsNumber};
 ghost use Rattle.egl_calls.specs.declared.kinds.Kind.TheVariants.{Own as OwnCall};
 ghost use Rattle.egl_calls.specs.declared.kinds.OwnKind.TheVariants.{ReadBuffer};
 ghost use Rattle.egl_model.specs.Buffers.{buffer_of, buffer_parameter, part_read, target_buffer};
-ghost use Rattle.egl_model.specs.GlCalls.{gl_refusal};
 ghost use Rattle.egl_model.specs.OwnCalls.{buffer_refusal};
 ghost use Rattle.driver_facts.specs.Tables.{state_in};
 

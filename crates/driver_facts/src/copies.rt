@@ -9,11 +9,11 @@ ghost use Rattle.egl_model.specs.GlFacts.{has_read_alpha, has_stored_alpha};
 ghost use Rattle.egl_model.specs.Objects.{storage_in};
 ghost use Rattle.driver_facts.specs.Tables.{state_in};
 
-use crate::gl_asked::LONGEST_SIDE;
 use crate::tables::Tables;
 use call_rules::has_alpha;
 use driver_objects::Storage;
 use egl_calls::arguments::number;
+use egl_calls::limits::LONGEST_TEXTURE_SIDE;
 use egl_calls::places::{COPIED_HEIGHT, COPIED_WIDTH};
 use egl_calls::{Call, NoMemory};
 use pixel_formats::bytes_of;
@@ -25,8 +25,8 @@ use thread_part::{copied_format, copied_rect};
 pub(crate) fn copied_bytes(call: &Call) -> u64
     ensures { result ≡ copied_bytes call.now }
 {
-    number(call, COPIED_WIDTH).min(LONGEST_SIDE)
-        * number(call, COPIED_HEIGHT).min(LONGEST_SIDE)
+    number(call, COPIED_WIDTH).min(LONGEST_TEXTURE_SIDE)
+        * number(call, COPIED_HEIGHT).min(LONGEST_TEXTURE_SIDE)
         * bytes_of(copied_format(call)) as u64
 }
 

@@ -2,7 +2,7 @@
 ghost use Rattle.std.specs.Prelude.{◌≡◌, ◌+◌, ◌<◌, ◌||◌, ◌&&◌, false, is_some, length, nat_lt, not};
 ghost use Rattle.std.specs.Option.{option_map_or};
 ghost use Rattle.call_rules.specs.GlRules.{gl_holds, gl_rows_by};
-ghost use Rattle.call_rules.specs.TextureRules.{is_no_part};
+ghost use Rattle.call_rules.specs.TextureRules.{is_outside_side};
 ghost use Rattle.egl_calls.specs.Arguments.{signed};
 ghost use Rattle.egl_calls.specs.Ranges.{is_client_wait};
 ghost use Rattle.egl_model.specs.Arguments.{number};
@@ -22,6 +22,7 @@ use crate::tables::Tables;
 use call_rules::{attaches, exceeds, gl_call_meets, has_alpha, is_outside};
 use call_table::GlCondition;
 use egl_calls::arguments::{number, signed};
+use egl_calls::limits::LONGEST_TEXTURE_SIDE;
 use egl_calls::places::{
     ATTACHED_NAME, ATTACHMENT_PNAME, BUFFER_OFFSET, BUFFER_PART_SIZE, BUFFER_SIZE,
     COPIED_PART_HEIGHT, COPIED_PART_WIDTH, IMAGE_FORMAT, IMAGE_HEIGHT, IMAGE_TYPE, IMAGE_WIDTH,
@@ -34,16 +35,13 @@ use refusal_rows::{Judge, Verdict};
 use share_group::NameKind;
 use texture_objects::{base_code, form_of};
 
-/// The longest side of a texture, in pixels.
-pub(crate) const LONGEST_SIDE: u64 = 1_024;
-
 /// The bytes of the level that a glTexImage2D gives; a longer side is another refusal's.
 fn image_bytes(call: &Call) -> u64
     ensures { result ≡ image_bytes call.now }
 {
     let form = form_of(signed(call, IMAGE_FORMAT), signed(call, IMAGE_TYPE));
-    number(call, IMAGE_WIDTH).min(LONGEST_SIDE)
-        * number(call, IMAGE_HEIGHT).min(LONGEST_SIDE)
+    number(call, IMAGE_WIDTH).min(LONGEST_TEXTURE_SIDE)
+        * number(call, IMAGE_HEIGHT).min(LONGEST_TEXTURE_SIDE)
         * bytes_of(form.unwrap_or(Format::Rgba8888)) as u64
 }
 
@@ -128,10 +126,17 @@ impl<'a> GlAsked<'a> {
     /// Whether a part of the level, whose sides stand at two places, doesn't lie within it.
     fn is_outside(&self, width: usize, height: usize) -> bool
         requires { (width < 8) × (height < 8) }
-        ensures { result ≡ ((is_no_part (option_map_or (λ v. v.width) (stored_level (state_in self.now.tables.now) self.now.context self.now.call.now) 0) (signed self.now.call.now X_OFFSET) (signed self.now.call.now width) || is_no_part (option_map_or (λ v. v.height) (stored_level (state_in self.now.tables.now) self.now.context self.now.call.now) 0) (signed self.now.call.now Y_OFFSET) (signed self.now.call.now height)) && is_some (stored_level (state_in self.now.tables.now) self.now.context self.now.call.now)) }
+        ensures { result ≡ (is_outside_side (is_some (stored_level (state_in self.now.tables.now) self.now.context self.now.call.now)) (option_map_or (λ v. v.width) (stored_level (state_in self.now.tables.now) self.now.context self.now.call.now) 0) (signed self.now.call.now X_OFFSET) (signed self.now.call.now width) || is_outside_side (is_some (stored_level (state_in self.now.tables.now) self.now.context self.now.call.now)) (option_map_or (λ v. v.height) (stored_level (state_in self.now.tables.now) self.now.context self.now.call.now) 0) (signed self.now.call.now Y_OFFSET) (signed self.now.call.now height)) }
     {
         let level = self.level();
-        is_outside(self.call, level.width, level.height, width, height) && level.is_stored
+        is_outside(
+            self.call,
+            level.is_stored,
+            level.width,
+            level.height,
+            width,
+            height,
+        )
     }
 
     /// Whether so many bytes more are too many.

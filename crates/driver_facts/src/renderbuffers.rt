@@ -9,13 +9,11 @@ use crate::tables::Tables;
 use driver_objects::BackedRenderbuffer;
 use egl_calls::Call;
 use egl_calls::arguments::number;
+use egl_calls::limits::LONGEST_SIDE;
 use egl_calls::places::{BOUND_PNAME, STORED_FORMAT, STORED_HEIGHT, STORED_WIDTH};
 use egl_names::codes::GL_RENDERBUFFER_WIDTH_OES;
 use framebuffer_objects::{Renderbuffer, format_of};
 use pixel_formats::bytes_of;
-
-/// The longest side of a renderbuffer, in pixels.
-const LONGEST_SIDE: u64 = 2_048;
 
 /// The bytes of the pixels that a glRenderbufferStorageOES gives; a longer side is another refusal's.
 pub(crate) fn renderbuffer_bytes(call: &Call) -> u64

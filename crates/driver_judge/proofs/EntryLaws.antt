@@ -1,8 +1,8 @@
 -- Entries by keys: what stands for a number behind one more entry, and behind one less.
-use Rattle.std.proofs.Common.{◌≡◌, ℕ, ◌<◌, ◌==◌, ◌&&◌, ℤ, Bool, true, false, cond, List, [], ◌∷◌, length, get_or, refl, sym, ap, subst, ◌∙◌, arith, is_some, position, Decides, IsPermutation, if◌then◌else◌, Option, None, Some}
+use Rattle.std.proofs.Common.{◌≡◌, ℕ, ◌==◌, ◌&&◌, ℤ, Bool, true, false, cond, [], ◌∷◌, get_or, refl, sym, ap, subst, ◌∙◌, is_some, position, Decides, IsPermutation, if◌then◌else◌, Option, None, Some}
 use Rattle.std.specs.Cmp.{IsEquivalence, decided}
 use Rattle.std.specs.List.{AllByRecursion, IsDistinct, swap_remove}
-use Rattle.std.specs.Map.{keys_of, lookup}
+use Rattle.std.specs.Map.{keys_of}
 use Rattle.std.specs.Ordering.{int_eq}
 use Rattle.std.proofs.lemmas.Bool.Decides.{Decides-eqb, Decides-int_eq}
 use Rattle.std.proofs.lemmas.List.{get_or-map, get_or_default}

@@ -1,10 +1,14 @@
 pub mod AnswerLaws
+pub mod CameLaws
+pub mod ChoiceLaws
 pub mod ConfigLaws
 pub mod EntryLaws
 pub mod ErrorLaws
 pub mod FactLaws
 pub mod FrontLaws
+pub mod HandleLaws
 pub mod ListLaws
+pub mod MadeLaws
 pub mod NameLaws
 pub mod OrderLaws
 pub mod OursLaws
@@ -12,6 +16,11 @@ pub mod OutcomeLaws
 pub mod PairLaws
 pub mod PixelLaws
 pub mod PutInLaws
+pub mod RecordLaws
+pub mod RowLaws
 pub mod RunLaws
+pub mod SelfLaws
+pub mod SortLaws
 pub mod StepLaws
 pub mod UsedNameLaws
+pub mod WalkLaws

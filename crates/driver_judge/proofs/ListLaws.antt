@@ -1,5 +1,6 @@
 -- Lists.
-use Rattle.std.proofs.Common.{◌≡◌, ℕ, ◌≤◌, List, [], ◌∷◌, length, drop, set, refl, ap, zero, suc, arith}
+use Rattle.std.proofs.Common.{◌≡◌, ℕ, ◌≤◌, Bool, true, false, List, [], ◌∷◌, length, drop, set, refl, sym, ap, zero, suc, arith, Option, None}
+use Rattle.std.specs.Prelude.{if◌then◌else◌}
 
 -- nothing is written past the end
 pub set_past : {A : Type 0} (xs : List A) (i : ℕ) (v : A) → length xs ≤ i → set xs i v ≡ xs
@@ -13,3 +14,8 @@ drop_past [] zero h = refl
 drop_past [] (suc k) h = refl
 drop_past (x ∷ xs) zero h = absurd (omega arith)
 drop_past (x ∷ xs) (suc k) h = drop_past xs k (omega arith)
+
+-- where there is nothing, no test finds anything
+pub none_by_either : {A : Type 0} (b : Bool) (o : Option A) → o ≡ None → None ≡ (if b then o else None)
+none_by_either true o h = sym h
+none_by_either false o h = refl

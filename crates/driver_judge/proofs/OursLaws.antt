@@ -1,9 +1,8 @@
 -- What answers as ours agrees.
-use Rattle.std.proofs.Common.{◌≡◌, ◌⊎◌, inl, inr, ℕ, ◌+◌, ◌==◌, ◌&&◌, ℤ, pos, Bool, true, false, List, [], ◌∷◌, ◌++◌, fold, length, refl, sym, ap, subst, ◌∙◌, arith}
-use Rattle.std.specs.Prelude.{Option, None, Some, if◌then◌else◌}
-use Rattle.std.specs.List.{filter, list_any}
+use Rattle.std.proofs.Common.{◌≡◌, ◌⊎◌, inl, inr, ℕ, ◌+◌, ◌&&◌, ℤ, Bool, true, List, [], ◌∷◌, ◌++◌, fold, length, refl, sym, ap, subst, ◌∙◌, arith}
+use Rattle.std.specs.Prelude.{None, Some, if◌then◌else◌}
+use Rattle.std.specs.List.{filter}
 use Rattle.std.specs.Option.{option_or}
-use Rattle.std.specs.Ordering.{int_eq}
 use Rattle.std.proofs.lemmas.Bool.Decides.{Decides-eqb, Decides-int_eq}
 use Rattle.std.proofs.lemmas.List.{append-nil}
 use Rattle.driver_facts.specs.Verdicts.{refusals}
@@ -20,21 +19,18 @@ use Rattle.log_reader.specs.declared.outcomes.LogOutcome.{LogOutcome}
 use Rattle.log_reader.specs.declared.outcomes.LogOutcome.TheVariants.{Done, Egl, Gl, Unnamed}
 use Rattle.pixel_formats.specs.declared.formats.Format.{Format}
 use Rattle.trace_reader.specs.declared.traces.Line.{Line}
-use Rattle.driver_judge.specs.Answers.{StandsValue, answer_difference, are_same, as_pixels, basis_of, bytes_beside, each_some, is_first_display, is_theirs, items_beside, list_difference, may_be_display, names_beside, new_value, same_value, their_handle_for, thread_group, value_beside, value_difference}
-use Rattle.driver_judge.specs.Configs.{our_configs, their_configs}
+use Rattle.driver_judge.specs.Answers.{StandsValue, answer_difference, are_same, as_pixels, basis_of, bytes_beside, each_some, is_theirs, items_beside, list_difference, may_be_display, names_beside, new_value, same_value, their_handle_for, value_beside, value_difference}
+use Rattle.driver_judge.specs.Configs.{their_configs}
 use Rattle.driver_judge.specs.Fences.{step_beside}
 use Rattle.driver_judge.specs.Fronts.{front_bytes, shown_format}
 use Rattle.driver_judge.specs.Judgements.{Progress, begun, is_agreed, judge_next, judged, judgement, noted, opened, setting}
-use Rattle.driver_judge.specs.Judging.{Found, KeptValue, Setting, agreed_outcome, agreeing, both_refused, carried_out, fault_of, found, front_by, front_difference, judge_call, judge_front, judge_item, named, number_of, other_outcome, played, refusal_difference, refused_behind, unjudged, unless_at_fault, verdict_by, with_call}
+use Rattle.driver_judge.specs.Judging.{Found, KeptValue, Setting, agreed_outcome, agreeing, both_refused, carried_out, fault_of, found, front_by, front_difference, judge_call, judge_front, judge_item, kept_behind, named, number_of, other_outcome, played, refusal_difference, refused_behind, unjudged, unless_at_fault, verdict_by, with_call}
 use Rattle.driver_judge.specs.Laws.{AgreesInto, AnswerAsOurs, AnswersAsOurs, HandleIsSame, IsJudgedAs, IsOfARow, IsOfOurs, RefusesAsOurs, RepliesAsOurs, ShowsAsOurs, StandsForItself, error_answer, is_agreement, reply_answer}
 use Rattle.driver_judge.specs.Maps.{Both}
 use Rattle.driver_judge.specs.Outcomes.{agrees, errors_of, outcomes, refused_with}
 use Rattle.driver_judge.specs.Pixels.{front_grid, pixel_difference}
-use Rattle.driver_judge.specs.Sorts.{sort_of}
-use Rattle.driver_judge.specs.UsedNames.{uses_renamed}
 use Rattle.driver_judge.specs.declared.bases.Basis.{Basis}
 use Rattle.driver_judge.specs.declared.configs.ConfigPair.{ConfigPair}
-use Rattle.driver_judge.specs.declared.differences.Difference.{Difference}
 use Rattle.driver_judge.specs.declared.differences.Difference.TheVariants.{Items, Length, Outcome, Value}
 use Rattle.driver_judge.specs.declared.judgements.LineVerdict.{LineVerdict}
 use Rattle.driver_judge.specs.declared.judgements.LineVerdict.TheVariants.{After, Agreed, Differs, Own as OwnVerdict, Unjudged}
@@ -116,7 +112,7 @@ outcome_found set x s k c j h =
     ∙ ap (λ o. unless_at_fault set x.line x.answer o s k) j.faultless
     ∙ ap (λ o. with_call set x.line x.answer o s k) j.call
     ∙ ap (λ (b : Bool). if b then unjudged x.line x.answer.outcome (Unjudged Name) s k else played set x.line c x.answer s k) j.names
-    ∙ ap (λ (b : Bool). if b then agreed_outcome set x.line c x.answer x.answer.outcome s k else other_outcome x.line c (Outcome (outcomes s x.line.thread c) x.answer.outcome) x.answer.outcome s k) h
+    ∙ ap (λ (b : Bool). if b then agreed_outcome set x.line c x.answer x.answer.outcome s k else other_outcome x.line c (Outcome (outcomes s x.line.thread c) x.answer.outcome c.kind (refusals s x.line.thread c)) x.answer.outcome s k) h
 
 -- ---- A call that both refused.
 error_found : (l : Line) (e : LogOutcome) (s : State) (k : KeptValue) → AgreesInto (both_refused l (error_answer e) s k) (refused_with s l.thread e)
@@ -161,8 +157,20 @@ carried_agrees set x s k c j none is h =
     subst (λ f. AgreesInto f (step_beside s x.line.thread c x.answer).state) (sym (outcome_found set x s k c j outcome))
     (subst (λ o. AgreesInto (agreed_outcome set x.line c x.answer o s k) (step_beside s x.line.thread c x.answer).state) (sym done) (carried_found set x s k c is h))
 
+-- and what it keeps
+pub carried_leaves : (set : Setting) (x : Called) (s : State) (k : KeptValue) (c : CallValue) → IsJudgedAs set x s k c → errors_of (refusals s x.line.thread c) ≡ [] → x.answer ≡ reply_answer (step_beside s x.line.thread c x.answer).reply → IsOfOurs set x s k c → (judge_call set x s k).after.kept ≡ kept_behind set.configs x.line c (basis_of s k.stands.handles x.line.thread c x.answer.value) (step_beside s x.line.thread c x.answer).reply x.answer None k
+unfolding carried_out basis_of
+carried_leaves set x s k c j rows is h =
+    let a : Basis = basis_of s k.stands.handles x.line.thread c x.answer.value in
+    let r : ReplyValue = (step_beside s x.line.thread c x.answer).reply in
+    let done : x.answer.outcome ≡ Done = ap (λ (a : Answer). a.outcome) is in
+    let outcome : agrees (outcomes s x.line.thread c) x.answer.outcome ≡ true = ap (agrees (outcomes s x.line.thread c)) done ∙ right_agrees s x.line.thread c Done rows in
+    let none : answer_difference set.configs.pairs set.delta k.stands a r x.answer ≡ None = ap (answer_difference set.configs.pairs set.delta k.stands a r) is ∙ answer_same set.configs.pairs set.delta k.stands a r h in
+    ap (λ (f : Found). f.after.kept) (outcome_found set x s k c j outcome ∙ ap (λ o. agreed_outcome set x.line c x.answer o s k) done)
+    ∙ ap (λ d. kept_behind set.configs x.line c a r x.answer d k) none
+
 -- ---- What a window shows.
-shown_agrees : (set : Setting) (x : Shown) (s : State) (k : KeptValue) → ShowsAsOurs x s k → is_agreement (judge_front set x s k).verdict ≡ true
+pub shown_agrees : (set : Setting) (x : Shown) (s : State) (k : KeptValue) → ShowsAsOurs x s k → is_agreement (judge_front set x s k).verdict ≡ true
 unfolding judge_front front_difference
 shown_agrees set x s k h =
     let stored : Format = shown_format x.window k.formats in
@@ -186,14 +194,14 @@ unfolding judge_item
 item_agrees set (Call x) s k h = called_agrees set x s k h
 item_agrees set (Front x) s k h = shown_agrees set x s k h
 
-not_noted : (line : ℕ) (v : LineVerdict) → is_agreement v ≡ true → noted line v ≡ []
+pub not_noted : (line : ℕ) (v : LineVerdict) → is_agreement v ≡ true → noted line v ≡ []
 not_noted line Agreed h = refl
 not_noted line OwnVerdict h = refl
 not_noted line (Differs d) h = cc
 not_noted line (After l) h = cc
 not_noted line (Unjudged why) h = cc
 
-is_one : (v : LineVerdict) → is_agreement v ≡ true → is_agreed v ≡ 1
+pub is_one : (v : LineVerdict) → is_agreement v ≡ true → is_agreed v ≡ 1
 is_one Agreed h = refl
 is_one OwnVerdict h = refl
 is_one (Differs d) h = cc

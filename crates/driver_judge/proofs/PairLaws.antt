@@ -1,8 +1,7 @@
 -- Numbers of theirs stand for one of ours each.
-use Rattle.std.proofs.Common.{◌≡◌, ℕ, ◌==◌, ◌&&◌, not, ℤ, pos, Bool, true, false, List, [], ◌∷◌, length, fold, refl, sym, ap, subst, ◌∙◌, is_some, is_none, if◌then◌else◌, Option, None, Some, unwrap_or}
+use Rattle.std.proofs.Common.{◌≡◌, ℕ, ◌==◌, ◌&&◌, not, ℤ, pos, Bool, true, false, List, [], ◌∷◌, length, refl, sym, ap, ◌∙◌, is_some, is_none, if◌then◌else◌, Option, None, Some, unwrap_or}
 use Rattle.std.specs.List.{IsDistinct}
 use Rattle.std.specs.Ordering.{int_eq}
-use Rattle.std.proofs.lemmas.Bool.Decides.{Decides-eqb}
 use Rattle.display_table.specs.declared.handles.HandleKind.{HandleKind}
 use Rattle.display_table.specs.declared.handles.HandleKind.TheVariants.{Context, Surface, Image, Sync}
 use Rattle.display_table.specs.Handles.{kind_place}
@@ -11,37 +10,22 @@ use Rattle.egl_calls.specs.Calls.{CallValue, ReplyValue}
 use Rattle.egl_calls.specs.Ranges.{unsigned}
 use Rattle.egl_calls.specs.declared.places.TheConstants.{DISPLAY}
 use Rattle.egl_model.specs.State.{State}
-use Rattle.egl_model.specs.Step.{Stepped}
-use Rattle.log_reader.specs.Forms.{needs_no_answer}
 use Rattle.log_reader.specs.Logs.{LogValue}
 use Rattle.log_reader.specs.declared.answers.Answer.{Answer}
-use Rattle.log_reader.specs.declared.items.Called.{Called}
-use Rattle.log_reader.specs.declared.items.Item.{Item}
-use Rattle.log_reader.specs.declared.items.Item.TheVariants.{Call, Front}
-use Rattle.log_reader.specs.declared.items.Shown.{Shown}
-use Rattle.log_reader.specs.declared.outcomes.LogOutcome.{LogOutcome}
-use Rattle.log_reader.specs.declared.outcomes.LogOutcome.TheVariants.{Done, Egl, Gl, Unnamed}
 use Rattle.share_group.specs.declared.names.NameKind.{NameKind}
-use Rattle.trace_reader.specs.declared.traces.Line.{Line}
-use Rattle.driver_judge.specs.Answers.{NewNamesValue, StandsValue, answer_difference, basis_of, is_first_display, listed_behind, may_be_display, names_given, new_name, new_names, noted_behind, nothing_stands, stands_behind, thread_group, with_display, with_given, with_new_handle, with_renamed, without_freed}
-use Rattle.driver_judge.specs.Configs.{ConfigsValue}
+use Rattle.driver_judge.specs.Answers.{NewNamesValue, StandsValue, basis_of, is_first_display, listed_behind, may_be_display, names_given, new_name, new_names, noted_behind, stands_behind, with_display, with_given, with_new_handle, without_freed}
 use Rattle.driver_judge.specs.Fences.{step_beside}
-use Rattle.driver_judge.specs.Judgements.{Progress, begun, judge_next, judged, opened, setting}
-use Rattle.driver_judge.specs.Judging.{Beside, Found, KeptValue, Setting, agreed_outcome, answered_behind, both_refused, carried_out, carried_out_as, carried_out_by, fault_of, formats_behind, is_make_current, judge_call, judge_front, judge_item, left_out, named, only_ours_refused, other_outcome, played, returned, returned_if, set_adrift, sets_current, theirs_refused, unless_at_fault, variable_behind, with_call, with_variable}
+use Rattle.driver_judge.specs.Judgements.{begun, judged, setting}
 use Rattle.driver_judge.specs.Laws.{IsOneToOne}
-use Rattle.driver_judge.specs.Maps.{Both, Entries, Key, found, given_as, given_for, handle_for, handle_of, is_key, may_be_given, name_key, name_place, nothing, our_handle, paired, their_handle, with_entry, with_handle, with_name, without_entry, without_name, without_names, without_pair}
-use Rattle.driver_judge.specs.Outcomes.{agrees, outcomes}
-use Rattle.driver_judge.specs.UsedNames.{uses_renamed}
-use Rattle.driver_judge.specs.Variables.{lost, our_call}
+use Rattle.driver_judge.specs.Maps.{Both, Key, found, given_as, given_for, handle_of, is_key, may_be_given, name_key, nothing, our_handle, paired, their_handle, with_entry, with_handle, without_entry, without_name, without_names, without_pair}
 use Rattle.driver_judge.specs.declared.bases.Basis.{Basis}
-use Rattle.driver_judge.specs.declared.differences.Difference.{Difference}
-use Rattle.driver_judge.specs.declared.differences.Difference.TheVariants.{Outcome}
 use Rattle.driver_judge.specs.declared.sorts.Mapped.{Mapped}
 use Rattle.driver_judge.specs.declared.sorts.Mapped.TheVariants.{Display, Handle}
 use Rattle.driver_judge.specs.declared.sorts.Sort.{Sort}
-use Rattle.driver_judge.specs.declared.sorts.Sort.TheVariants.{Equal, Own, NewHandle, SameHandle, ConfigList, ConfigId, NewNames, FreedNames, SameName, PixelBytes}
+use Rattle.driver_judge.specs.declared.sorts.Sort.TheVariants.{NewHandle, SameHandle, NewNames, FreedNames}
 use Rattle.driver_judge.proofs.EntryLaws.{IsApart, apart_put, apart_taken, found_put, found_put_other, found_taken, found_taken_other, key_self, same_key}
-use Rattle.driver_judge.proofs.FrontLaws.{front_kept}
+use Rattle.driver_judge.proofs.HandleLaws.{handles_stand, one_valid}
+use Rattle.driver_judge.proofs.WalkLaws.{Steady, all_keep}
 
 -- the key of theirs in the place of ours, in one group, or of no display
 abbrev pub theirs_at : Key → ℤ → Key
@@ -221,85 +205,16 @@ answer_back : (m : StandsValue) (a : Basis) (c : CallValue) (ours : ReplyValue) 
 unfolding stands_behind
 answer_back m a c ours theirs h = noted_back a c a.sort ours.value theirs.value (listed_behind m a a.sort ours.list theirs.list) (listed_back m a a.sort ours.list theirs.list h)
 
--- ---- A line.
-abbrev Back : KeptValue → Type 0
-Back k = StandsBack k.stands
-
-abbrev LeavesBack : Found → Type 0
-LeavesBack f = StandsBack f.after.kept.stands
-
-adrift_back : (b : Bool) (t : ℕ) (line : Option ℕ) (k : KeptValue) → Back k → Back (if b then set_adrift t line k else k)
-adrift_back true t line k h = h
-adrift_back false t line k h = h
-
-returned_back : (b : Bool) (l : Line) (k : KeptValue) → Back k → Back (returned_if b l k)
-returned_back true l k h = h
-returned_back false l k h = adrift_back (sets_current l.call.kind) l.thread None k h
-
-carried_back : (set : Setting) (l : Line) (c : CallValue) (a : Basis) (r : Stepped) (theirs : Answer) (d : Option Difference) (k : KeptValue) → Back k → LeavesBack (carried_out_by set l c a r theirs d k)
-carried_back set l c a r theirs d k h =
-    let before : KeptValue = record k { stands = stands_behind k.stands a c r.reply theirs } in
-    let kept : KeptValue = record (with_variable l (variable_behind set.configs l a.sort r.reply theirs (is_some d)) before) { formats = formats_behind c k.formats } in
-    returned_back (is_some d) l kept (answer_back k.stands a c r.reply theirs h)
-
-done_back : (set : Setting) (l : Line) (c : CallValue) (theirs : Answer) (s : State) (k : KeptValue) → Back k → LeavesBack (carried_out set l c theirs s k)
-unfolding carried_out
-done_back set l c theirs s k h =
-    let a : Basis = basis_of s k.stands.handles l.thread c theirs.value in
-    let r : Stepped = step_beside s l.thread c theirs in
-    carried_back set l c a r theirs (answer_difference set.configs.pairs set.delta k.stands a r.reply theirs) k h
-
-refused_back : (l : Line) (theirs : Answer) (s : State) (k : KeptValue) → Back k → LeavesBack (both_refused l theirs s k)
-unfolding both_refused
-refused_back l theirs s k h = h
-
-agreed_back : (set : Setting) (l : Line) (c : CallValue) (theirs : Answer) (o : LogOutcome) (s : State) (k : KeptValue) → Back k → LeavesBack (agreed_outcome set l c theirs o s k)
-agreed_back set l c theirs Done s k h = done_back set l c theirs s k h
-agreed_back set l c theirs (Egl e) s k h = refused_back l theirs s k h
-agreed_back set l c theirs (Gl e) s k h = refused_back l theirs s k h
-agreed_back set l c theirs (Unnamed z) s k h = refused_back l theirs s k h
-
-other_back : (l : Line) (c : CallValue) (d : Difference) (o : LogOutcome) (s : State) (k : KeptValue) → Back k → LeavesBack (other_outcome l c d o s k)
-unfolding only_ours_refused theirs_refused
-other_back l c d Done s k h = adrift_back (is_make_current l.call.kind) l.thread (Some l.number) (with_variable l (lost l.number) k) h
-other_back l c d (Egl e) s k h = h
-other_back l c d (Gl e) s k h = h
-other_back l c d (Unnamed z) s k h = h
-
-either_back : (b : Bool) (f g : Found) → LeavesBack f → LeavesBack g → LeavesBack (if b then f else g)
-either_back true f g h i = h
-either_back false f g h i = i
-
-played_back : (set : Setting) (l : Line) (c : CallValue) (theirs : Answer) (s : State) (k : KeptValue) → Back k → LeavesBack (played set l c theirs s k)
-unfolding played
-played_back set l c theirs s k h = either_back (agrees (outcomes s l.thread c) theirs.outcome) _ _ (agreed_back set l c theirs theirs.outcome s k h) (other_back l c (Outcome (outcomes s l.thread c) theirs.outcome) theirs.outcome s k h)
-
-named_back : (set : Setting) (l : Line) (theirs : Answer) (c : CallValue) (s : State) (k : KeptValue) → Back k → LeavesBack (named set l theirs c s k)
-unfolding named
-named_back set l theirs c s k h = either_back (uses_renamed k.stands.renamed k.stands.names (thread_group s l.thread) l) _ _ h (played_back set l c theirs s k h)
-
-call_back : (set : Setting) (l : Line) (theirs : Answer) (o : Option CallValue) (s : State) (k : KeptValue) → Back k → LeavesBack (with_call set l theirs o s k)
-call_back set l theirs None s k h = h
-call_back set l theirs (Some c) s k h = named_back set l theirs c s k h
-
-line_back : (set : Setting) (l : Line) (theirs : Answer) (fault : Option ℕ) (s : State) (k : KeptValue) → Back k → LeavesBack (unless_at_fault set l theirs fault s k)
-line_back set l theirs (Some line) s k h = adrift_back (is_make_current l.call.kind) l.thread (Some line) (with_variable l (lost line) k) h
-line_back set l theirs None s k h = call_back set l theirs (our_call set.configs.named set.configs.pairs k.variables l) s k h
-
-called_back : (set : Setting) (x : Called) (s : State) (k : KeptValue) → Back k → LeavesBack (judge_call set x s k)
-unfolding judge_call
-called_back set x s k h = either_back (needs_no_answer x.line.call.kind) _ _ h (line_back set x.line x.answer (fault_of k x.line) s k h)
-
-item_back : (set : Setting) (item : Item) (s : State) (k : KeptValue) → Back k → LeavesBack (judge_item set item s k)
-unfolding judge_item
-item_back set (Call x) s k h = called_back set x s k h
-item_back set (Front x) s k h = subst Back (front_kept set x s k) h
-
 -- ---- All lines.
-all_back : (set : Setting) (p : Progress) (items : List Item) → Back p.beside.kept → Back (fold (judge_next set) p items).beside.kept
-unfolding judge_next
-all_back set p [] h = h
-all_back set p (item ∷ items) h = all_back set (judge_next set p item) items (item_back set item p.beside.state p.beside.kept h)
+abbrev Back : State → StandsValue → Type 0
+Back s m = StandsBack m
+
+pairs_steady : Steady Back
+pairs_steady = record {
+  refused = λ s t e m h. h;
+  goes = λ s t c m h. h;
+  done = λ s t c theirs m none h. answer_back m (basis_of s m.handles t c theirs.value) c (step_beside s t c theirs).reply theirs h;
+}
 
 -- numbers of ours for which one number stands are one
 apart_by_back : (test : ℕ → Bool) (m : Both) (k l : Key) (v : ℤ) → LeadsBack test m → theirs_at k v ≡ theirs_at l v → test k.1 ≡ true → test l.1 ≡ true → found k m.theirs ≡ Some v → found l m.theirs ≡ Some v → k.2 ≡ l.2
@@ -308,11 +223,12 @@ apart_by_back test m k l v h same at also f g = same_some k.2 l.2 (sym (h.back k
 pos_same : (a b : ℕ) → pos a ≡ pos b → a ≡ b
 pos_same a b e = ap unsigned e
 
-pub one_to_one : (l : LogValue) (delta : ℕ) → IsOneToOne (judged l delta).beside.kept.stands
+pub one_to_one : (l : LogValue) (delta : ℕ) → IsOneToOne (judged l delta).beside.state (judged l delta).beside.kept.stands
 unfolding judged
 one_to_one l delta =
-    let all = all_back (setting l delta) (begun l) l.items (record { names = nothing_leads any_place; handles = nothing_leads of_display }) in
+    let all = all_keep Back pairs_steady (setting l delta) (begun l) l.items (record { names = nothing_leads any_place; handles = nothing_leads of_display }) in
     record {
       names = λ group kind a b theirs f g. apart_by_back any_place _ (name_key group kind a) (name_key group kind b) theirs all.names refl refl refl f g;
       displays = λ a b theirs f g. pos_same a b (apart_by_back of_display _ (our_handle Display a) (our_handle Display b) theirs all.handles refl refl refl f g);
+      handles = λ g h theirs c d kind display e f. one_valid _ _ g h theirs (handles_stand l delta) c d kind display e f;
     }

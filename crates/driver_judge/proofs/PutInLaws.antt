@@ -1,9 +1,17 @@
 -- Calls that are refused anew may be put in.
-use Rattle.std.proofs.Common.{◌≡◌, ℕ, ◌+◌, List, [], ◌∷◌, ◌++◌, fold, refl, sym, ap, subst, ◌∙◌, arith}
-use Rattle.std.specs.Prelude.{Option, None, Some, true}
-use Rattle.std.proofs.lemmas.List.{append-nil}
+use Rattle.std.proofs.Common.{◌≡◌, ◌≢◌, ℕ, ◌+◌, List, [], ◌∷◌, ◌++◌, fold, refl, sym, ap, subst, ◌∙◌, arith}
+use Rattle.std.specs.Prelude.{None, Some, true}
+use Rattle.std.proofs.lemmas.List.{append-nil, set-get_or}
 use Rattle.egl_calls.specs.Calls.{CallValue}
-use Rattle.egl_model.specs.State.{State}
+use Rattle.context_state.specs.Parts.{PartValue}
+use Rattle.driver_core.specs.Judging.{noted_on}
+use Rattle.egl_calls.specs.declared.errors.EglError.{EglError}
+use Rattle.egl_calls.specs.declared.errors.GlError.{GlError}
+use Rattle.egl_calls.specs.declared.errors.GlError.TheVariants.{NoError}
+use Rattle.egl_model.specs.Currents.{current_context, part_of_context}
+use Rattle.egl_model.specs.State.{State, initial, record_of, set_error}
+use Rattle.egl_model.specs.declared.records.ThreadRecord.{ThreadRecord}
+use Rattle.model_laws.proofs.Steps.RefusalLaws.{note_error-later}
 use Rattle.log_reader.specs.declared.answers.Answer.{Answer}
 use Rattle.log_reader.specs.declared.items.Called.{Called}
 use Rattle.log_reader.specs.declared.items.Item.{Item}
@@ -12,9 +20,9 @@ use Rattle.log_reader.specs.declared.outcomes.LogOutcome.{LogOutcome}
 use Rattle.log_reader.specs.declared.outcomes.LogOutcome.TheVariants.{Done, Egl, Gl, Unnamed}
 use Rattle.trace_reader.specs.declared.traces.Line.{Line}
 use Rattle.driver_judge.specs.Answers.{bytes_beside}
-use Rattle.driver_judge.specs.Judgements.{Progress, TallyValue, is_agreed, is_own, judge_next, noted, with_found, with_verdict}
-use Rattle.driver_judge.specs.Judging.{Beside, Found, KeptValue, Setting, agreed_outcome, assigned, both_refused, found, judge_call, judge_item, nothing_kept, number_of, refusal_difference, refused_behind}
-use Rattle.driver_judge.specs.Laws.{IsOfARow, IsRefusedAnew, OneMoreAgrees, error_answer}
+use Rattle.driver_judge.specs.Judgements.{Progress, TallyValue, is_own, judge_next, noted, with_found, with_verdict}
+use Rattle.driver_judge.specs.Judging.{Beside, KeptValue, Setting, agreed_outcome, assigned, both_refused, found, judge_call, judge_item, nothing_kept, number_of, refusal_difference, refused_behind}
+use Rattle.driver_judge.specs.Laws.{IsNoted, IsOfARow, IsRefusedAnew, OneMoreAgrees, error_answer}
 use Rattle.driver_judge.specs.Outcomes.{agrees, outcomes, refused_with}
 use Rattle.driver_judge.specs.Pixels.{pixel_difference}
 use Rattle.driver_judge.specs.declared.judgements.LineVerdict.TheVariants.{Agreed}
@@ -75,3 +83,16 @@ may_be_put_in set p before after x c e h =
     subst (λ (q : Progress). OneMoreAgrees q (fold (judge_next set) p (before ++ Call x ∷ after))) (sym (in_a_row set p before after))
     (subst (λ (q : Progress). OneMoreAgrees (fold (judge_next set) (fold (judge_next set) p before) after) q) (sym (in_a_row set p before (Call x ∷ after)))
     (put_in_here set (fold (judge_next set) p before) after x c e h))
+
+-- ---- Where an error is noted already.
+egl_noted : (s : State) (t : ℕ) (e : EglError) → (record_of s t).error ≡ e → set_error s t e ≡ s
+egl_noted s t e h = ap (λ x. set_error s t x) (sym h) ∙ ap (λ (ts : List ThreadRecord). record s { threads = ts }) (set-get_or s.threads t initial)
+
+gl_noted : (s : State) (t n : ℕ) (e : GlError) (p : PartValue) → current_context s t ≡ Some n → part_of_context s n ≡ Some p → p.error ≢ NoError → noted_on (current_context s t) e s ≡ s
+gl_noted s t n e p current part some = ap (λ o. noted_on o e s) current ∙ note_error-later s n e p part some
+
+pub is_noted : (s : State) (t : ℕ) (e : LogOutcome) → IsNoted s t e → refused_with s t e ≡ s
+is_noted s t Done h = absurd h
+is_noted s t (Egl e) h = egl_noted s t e h
+is_noted s t (Gl e) h = gl_noted s t h.0 e h.1 h.2 h.3 h.4
+is_noted s t (Unnamed z) h = absurd h

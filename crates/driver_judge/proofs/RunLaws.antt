@@ -2,6 +2,7 @@
 use Rattle.std.proofs.Common.{◌≡◌, ℕ, Bool, true, false, List, [], ◌∷◌, ◌++◌, fold, refl, sym, ap, ◌∙◌}
 use Rattle.std.specs.Prelude.{Option, None, Some, if◌then◌else◌}
 use Rattle.egl_calls.specs.Calls.{CallValue}
+use Rattle.driver_facts.specs.Verdicts.{refusals}
 use Rattle.egl_model.specs.State.{State}
 use Rattle.log_reader.specs.Forms.{needs_no_answer}
 use Rattle.log_reader.specs.Logs.{LogValue}
@@ -34,7 +35,7 @@ use Rattle.driver_judge.proofs.OutcomeLaws.{right}
 true_false : true ≡ false → ⊥
 true_false e = cc
 
-abbrev Agrees : Found → Type 0
+abbrev pub Agrees : Found → Type 0
 Agrees f = is_agreement f.verdict ≡ true
 
 nothing_differs : (sort : Sort) (o : Option Difference) → is_agreement (verdict_by sort o) ≡ true → o ≡ None
@@ -42,7 +43,7 @@ nothing_differs sort None h = refl
 nothing_differs sort (Some d) h = cc
 
 -- a call moves, and its answer is related
-abbrev Moved : Setting → Line → CallValue → Answer → LogOutcome → State → KeptValue → Found → Type 0
+abbrev pub Moved : Setting → Line → CallValue → Answer → LogOutcome → State → KeptValue → Found → Type 0
 Moved set l c a o s k f = Moves s l.thread c a o f.after.state × Relates set s k l.thread c a o
 
 carried_moves : (set : Setting) (l : Line) (c : CallValue) (a : Answer) (s : State) (k : KeptValue) → agrees (outcomes s l.thread c) Done ≡ true → Agrees (carried_out set l c a s k) → Moved set l c a Done s k (carried_out set l c a s k)
@@ -71,13 +72,13 @@ other_differs l c d (Gl x) s k = refl
 other_differs l c d (Unnamed z) s k = refl
 
 abbrev played_as : Setting → Line → CallValue → Answer → State → KeptValue → Bool → Found
-played_as set l c a s k b = if b then agreed_outcome set l c a a.outcome s k else other_outcome l c (Outcome (outcomes s l.thread c) a.outcome) a.outcome s k
+played_as set l c a s k b = if b then agreed_outcome set l c a a.outcome s k else other_outcome l c (Outcome (outcomes s l.thread c) a.outcome c.kind (refusals s l.thread c)) a.outcome s k
 
 played_by : (set : Setting) (l : Line) (c : CallValue) (a : Answer) (s : State) (k : KeptValue) (b : Bool) → agrees (outcomes s l.thread c) a.outcome ≡ b → Agrees (played_as set l c a s k b) → Moved set l c a a.outcome s k (played_as set l c a s k b)
 played_by set l c a s k true r g = agreed_moves set l c a a.outcome s k refl r g
-played_by set l c a s k false r g = absurd (true_false (sym g ∙ other_differs l c (Outcome (outcomes s l.thread c) a.outcome) a.outcome s k))
+played_by set l c a s k false r g = absurd (true_false (sym g ∙ other_differs l c (Outcome (outcomes s l.thread c) a.outcome c.kind (refusals s l.thread c)) a.outcome s k))
 
-played_moves : (set : Setting) (l : Line) (c : CallValue) (a : Answer) (s : State) (k : KeptValue) → Agrees (played set l c a s k) → Moved set l c a a.outcome s k (played set l c a s k)
+pub played_moves : (set : Setting) (l : Line) (c : CallValue) (a : Answer) (s : State) (k : KeptValue) → Agrees (played set l c a s k) → Moved set l c a a.outcome s k (played set l c a s k)
 unfolding played
 played_moves set l c a s k h = played_by set l c a s k (agrees (outcomes s l.thread c) a.outcome) refl h
 
@@ -111,7 +112,7 @@ next_item set (Call x) s k h = next_call set x s k h
 next_item set (Front x) s k h = sym (front_state set x s k)
 
 -- ---- All lines. What is noted stays noted.
-no_note : (line : ℕ) (v : LineVerdict) → noted line v ≡ [] → is_agreement v ≡ true
+pub no_note : (line : ℕ) (v : LineVerdict) → noted line v ≡ [] → is_agreement v ≡ true
 no_note line Agreed h = refl
 no_note line Own h = refl
 no_note line (Differs d) h = cc
@@ -122,11 +123,11 @@ back_first : (xs ys : List Note) → xs ++ ys ≡ [] → xs ≡ []
 back_first [] ys h = refl
 back_first (x ∷ xs) ys h = cc
 
-back_second : (xs ys : List Note) → xs ++ ys ≡ [] → ys ≡ []
+pub back_second : (xs ys : List Note) → xs ++ ys ≡ [] → ys ≡ []
 back_second [] ys h = h
 back_second (x ∷ xs) ys h = cc
 
-notes_next : (set : Setting) (p : Progress) (item : Item) → (judge_next set p item).tally.notes ≡ p.tally.notes ++ noted (number_of item) (judge_item set item p.beside.state p.beside.kept).verdict
+pub notes_next : (set : Setting) (p : Progress) (item : Item) → (judge_next set p item).tally.notes ≡ p.tally.notes ++ noted (number_of item) (judge_item set item p.beside.state p.beside.kept).verdict
 unfolding judge_next
 notes_next set p item = refl
 
@@ -134,7 +135,7 @@ beside_next : (set : Setting) (p : Progress) (item : Item) → (judge_next set p
 unfolding judge_next
 beside_next set p item = refl
 
-no_notes_before : (set : Setting) (p : Progress) (items : List Item) → (fold (judge_next set) p items).tally.notes ≡ [] → p.tally.notes ≡ []
+pub no_notes_before : (set : Setting) (p : Progress) (items : List Item) → (fold (judge_next set) p items).tally.notes ≡ [] → p.tally.notes ≡ []
 no_notes_before set p [] h = h
 no_notes_before set p (item ∷ more) h = back_first p.tally.notes (noted (number_of item) (judge_item set item p.beside.state p.beside.kept).verdict) (sym (notes_next set p item) ∙ no_notes_before set (judge_next set p item) more h)
 

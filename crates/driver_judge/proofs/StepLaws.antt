@@ -33,14 +33,15 @@ use Rattle.driver_judge.specs.Configs.{ConfigsValue, configs_of, our_config, our
 use Rattle.driver_judge.specs.Fences.{step_beside}
 use Rattle.driver_judge.specs.Fronts.{front_bytes, shown_format}
 use Rattle.driver_judge.specs.Judgements.{Progress, TallyValue, begun, is_agreed, is_own, judge_next, judged, judgement, noted, opened, with_verdict}
-use Rattle.driver_judge.specs.Judging.{Beside, Found, KeptValue, Setting, adrift_at, agreed_outcome, agreeing, answered, answered_behind, carried_out, carried_out_as, carried_out_by, fault_of, formats_behind, found, front_by, front_difference, judge_call, judge_front, judge_item, kept_behind, makes, named, number_of, played, set_adrift, sets_current, unless_at_fault, verdict_by, with_call, with_variable}
+use Rattle.driver_judge.specs.Calls.{lists_configs, sets_current}
+use Rattle.driver_judge.specs.Judging.{Beside, Found, KeptValue, Setting, adrift_at, agreed_outcome, agreeing, answered, answered_behind, carried_out, carried_out_as, carried_out_by, fault_of, formats_behind, found, front_by, front_difference, judge_call, judge_front, judge_item, kept_behind, makes, named, number_of, played, set_adrift, unless_at_fault, verdict_by, with_call, with_variable}
 use Rattle.driver_judge.specs.Laws.{Allows, AreAmong, AreFewer, IsMilder, LogAllows, MoreAllowMore}
 use Rattle.driver_judge.specs.Maps.{Both}
 use Rattle.driver_judge.specs.Outcomes.{agrees, outcomes}
 use Rattle.driver_judge.specs.Pixels.{cell, cell_steps, counted, counted_row, front_grid, no_grid, pixel_difference, with_cell}
 use Rattle.driver_judge.specs.Sorts.{answers, sort_by, sort_of}
 use Rattle.driver_judge.specs.UsedNames.{uses_renamed}
-use Rattle.driver_judge.specs.Variables.{VariableValue, in_our_configs, is_choice, is_foreign, lost, named_config, names_config, our_call, stands_for, with_config, with_list}
+use Rattle.driver_judge.specs.Variables.{VariableValue, in_our_configs, is_foreign, lost, named_config, names_config, our_call, stands_for, with_config, with_list}
 use Rattle.driver_judge.specs.declared.bases.Basis.{Basis}
 use Rattle.driver_judge.specs.declared.configs.ConfigPair.{ConfigPair}
 use Rattle.driver_judge.specs.declared.differences.Difference.{Difference}
@@ -245,9 +246,9 @@ kind_of_choice : (pairs : List ConfigPair) (r c : CallValue) (b : Bool) → (if 
 kind_of_choice pairs r c true e = kind_of_list r (our_list pairs r.list) c e
 kind_of_choice pairs r c false e = kind_by r c e
 
-kind_of_named : (pairs : List ConfigPair) (l : Line) (r c : CallValue) (b : Bool) → (if b then with_config r (our_config pairs (named_config r)) else if is_choice l.call.kind then with_list r (our_list pairs r.list) else Some r) ≡ Some c → c.kind ≡ r.kind
+kind_of_named : (pairs : List ConfigPair) (l : Line) (r c : CallValue) (b : Bool) → (if b then with_config r (our_config pairs (named_config r)) else if lists_configs l.call.kind then with_list r (our_list pairs r.list) else Some r) ≡ Some c → c.kind ≡ r.kind
 kind_of_named pairs l r c true e = kind_of_config r (our_config pairs (named_config r)) c e
-kind_of_named pairs l r c false e = kind_of_choice pairs r c (is_choice l.call.kind) e
+kind_of_named pairs l r c false e = kind_of_choice pairs r c (lists_configs l.call.kind) e
 
 kind_in_ours : (named : Bool) (pairs : List ConfigPair) (l : Line) (r c : CallValue) → in_our_configs named pairs l r ≡ Some c → c.kind ≡ r.kind
 kind_in_ours true pairs l r c e = kind_of_named pairs l r c (names_config l) e

@@ -5,14 +5,13 @@ use Rattle.egl_calls.specs.Arguments.{signed}
 use Rattle.egl_calls.specs.Calls.{CallValue, ReplyValue}
 use Rattle.egl_calls.specs.Ranges.{unsigned}
 use Rattle.egl_calls.specs.declared.errors.EglError.TheVariants.{Success}
-use Rattle.egl_calls.specs.declared.kinds.EglKind.{EglKind}
-use Rattle.egl_calls.specs.declared.kinds.EglKind.TheVariants.{CreateSync, GetCurrentContext, GetCurrentDisplay, GetCurrentSurface, MakeCurrent, ReleaseThread, SwapBuffers, WaitClient, WaitSync}
 use Rattle.egl_calls.specs.declared.kinds.Kind.{Kind}
-use Rattle.egl_calls.specs.declared.kinds.Kind.TheVariants.{Egl as EglCall, Gl as GlCall}
+use Rattle.egl_calls.specs.declared.kinds.Kind.TheVariants.{Egl as EglCall}
 use Rattle.egl_calls.specs.declared.places.TheConstants.{CONFIG, WINDOW}
 use Rattle.pixel_formats.specs.declared.formats.Format.{Format}
 use Rattle.pixel_rows.specs.Images.{ImageValue}
 use Rattle.trace_reader.specs.declared.traces.Line.{Line}
+use Rattle.driver_facts.specs.Verdicts.{refusals}
 use Rattle.egl_model.specs.State.{State, set_error}
 use Rattle.egl_model.specs.Step.{Stepped, step}
 use Rattle.egl_model.specs.Windows.{front_of}
@@ -33,6 +32,7 @@ use Rattle.driver_judge.specs.declared.judgements.Unjudged.TheVariants.{Config, 
 use Rattle.driver_judge.specs.declared.sorts.Sort.{Sort}
 use Rattle.driver_judge.specs.declared.sorts.Sort.TheVariants.{Equal, Own as OwnValue, NewHandle, ConfigList, NewNames}
 use Rattle.driver_judge.specs.Answers.{StandsValue, answer_difference, basis_of, bytes_beside, items_beside, stands_behind, thread_group, value_beside}
+use Rattle.driver_judge.specs.Calls.{goes_by_current, is_make_current, sets_current}
 use Rattle.driver_judge.specs.Configs.{ConfigsValue, our_config}
 use Rattle.driver_judge.specs.Fences.{step_beside}
 use Rattle.driver_judge.specs.Fronts.{Formats, front_bytes, shown_format, with_format}
@@ -90,31 +90,6 @@ adrift_at k t = slice_index_or k.adrift t None
 
 abbrev pub set_adrift : ℕ → Option ℕ → KeptValue → KeptValue
 set_adrift t line k = record k { adrift = slice_set k.adrift t line }
-
-abbrev pub is_make_current : Kind → Bool
-is_make_current (EglCall MakeCurrent) = true
-is_make_current kind = false
-
-abbrev pub sets_current : Kind → Bool
-sets_current (EglCall MakeCurrent) = true
-sets_current (EglCall ReleaseThread) = true
-sets_current kind = false
-
--- the calls of EGL that tell what is current, or work on it
-abbrev pub is_of_current : EglKind → Bool
-is_of_current GetCurrentContext = true
-is_of_current GetCurrentSurface = true
-is_of_current GetCurrentDisplay = true
-is_of_current SwapBuffers = true
-is_of_current WaitClient = true
-is_of_current CreateSync = true
-is_of_current WaitSync = true
-is_of_current k = false
-
-abbrev pub goes_by_current : Kind → Bool
-goes_by_current (GlCall k) = true
-goes_by_current (EglCall k) = is_of_current k
-goes_by_current kind = false
 
 -- the line by whose fault one can't be played: a variable that it uses is lost, or it goes by what is current to a thread that may have another context
 unfoldable pub fault_of : KeptValue → Line → Option ℕ
@@ -209,7 +184,7 @@ other_outcome l c d e s k = theirs_refused l e d s k
 unfoldable pub played : Setting → Line → CallValue → Answer → State → KeptValue → Found
 played set l c theirs s k =
     if agrees (outcomes s l.thread c) theirs.outcome then agreed_outcome set l c theirs theirs.outcome s k
-    else other_outcome l c (Outcome (outcomes s l.thread c) theirs.outcome) theirs.outcome s k
+    else other_outcome l c (Outcome (outcomes s l.thread c) theirs.outcome c.kind (refusals s l.thread c)) theirs.outcome s k
 
 -- ---- A call of a log. What threads tell one another no driver answers.
 unfoldable pub named : Setting → Line → Answer → CallValue → State → KeptValue → Found

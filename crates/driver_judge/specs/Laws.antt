@@ -1,10 +1,17 @@
 -- What holds of judgements.
-use Rattle.std.specs.Prelude.{◌≡◌, ◌⊎◌, ℕ, ◌+◌, ◌≤◌, ℤ, pos, Bool, true, false, List, [], ◌∷◌, None, Some}
+use Rattle.std.specs.Prelude.{◌≡◌, ◌≢◌, ◌⊎◌, Contains, ℕ, ◌+◌, ◌≤◌, ℤ, pos, Bool, true, false, List, [], ◌∷◌, is_some, Option, None, Some}
 use Rattle.std.specs.List.{filter, list_any}
 use Rattle.egl_calls.specs.Calls.{CallValue, ReplyValue}
+use Rattle.context_state.specs.Parts.{PartValue}
+use Rattle.display_table.specs.declared.handles.Handle.{Handle}
 use Rattle.driver_facts.specs.Verdicts.{refusals}
-use Rattle.egl_model.specs.State.{State}
+use Rattle.egl_model.specs.Currents.{current_context, part_of_context}
+use Rattle.egl_model.specs.State.{State, record_of}
 use Rattle.egl_calls.specs.Ranges.{unsigned}
+use Rattle.egl_calls.specs.declared.entries.Entry.{Entry}
+use Rattle.egl_calls.specs.declared.errors.GlError.TheVariants.{NoError}
+use Rattle.egl_calls.specs.declared.errors.Outcome.{Outcome}
+use Rattle.egl_calls.specs.declared.errors.Outcome.TheVariants.{Done as CarriedOut, Egl as RefusedEgl, Gl as RefusedGl}
 use Rattle.egl_model.specs.Step.{step}
 use Rattle.egl_model.specs.Windows.{front_of}
 use Rattle.log_reader.specs.Forms.{needs_no_answer}
@@ -14,7 +21,7 @@ use Rattle.log_reader.specs.declared.items.Item.{Item}
 use Rattle.log_reader.specs.declared.items.Item.TheVariants.{Call, Front}
 use Rattle.log_reader.specs.declared.items.Shown.{Shown}
 use Rattle.log_reader.specs.declared.outcomes.LogOutcome.{LogOutcome}
-use Rattle.log_reader.specs.declared.outcomes.LogOutcome.TheVariants.{Done}
+use Rattle.log_reader.specs.declared.outcomes.LogOutcome.TheVariants.{Done, Egl, Gl}
 use Rattle.pixel_rows.specs.Images.{ImageValue}
 use Rattle.trace_reader.specs.declared.traces.Line.{Line}
 use Rattle.driver_judge.specs.declared.bases.Basis.{Basis}
@@ -22,12 +29,12 @@ use Rattle.driver_judge.specs.declared.configs.ConfigPair.{ConfigPair}
 use Rattle.driver_judge.specs.declared.differences.Difference.TheVariants.{Pixels}
 use Rattle.driver_judge.specs.declared.differences.PixelDifference.{PixelDifference}
 use Rattle.driver_judge.specs.declared.judgements.LineVerdict.{LineVerdict}
-use Rattle.driver_judge.specs.declared.judgements.LineVerdict.TheVariants.{Agreed, Differs, Own}
+use Rattle.driver_judge.specs.declared.judgements.LineVerdict.TheVariants.{Agreed, Differs, Own as OwnVerdict}
 use Rattle.driver_judge.specs.declared.judgements.Note.{Note}
 use Rattle.driver_judge.specs.declared.sorts.Mapped.{Mapped}
-use Rattle.driver_judge.specs.declared.sorts.Mapped.TheVariants.{Display}
+use Rattle.driver_judge.specs.declared.sorts.Mapped.TheVariants.{Display, Handle as AHandle}
 use Rattle.driver_judge.specs.declared.sorts.Sort.{Sort}
-use Rattle.driver_judge.specs.declared.sorts.Sort.TheVariants.{ConfigId, ConfigList, NewHandle, NewNames, SameHandle, SameName}
+use Rattle.driver_judge.specs.declared.sorts.Sort.TheVariants.{Own, ConfigId, ConfigList, NewHandle, NewNames, SameHandle, SameName}
 use Rattle.share_group.specs.declared.names.NameKind.{NameKind}
 use Rattle.driver_judge.specs.Answers.{StandsValue, answer_difference, basis_of, is_first_display, is_theirs, may_be_display, name_for, names_given, their_handle_for, thread_group}
 use Rattle.driver_judge.specs.Configs.{our_configs, their_config}
@@ -88,7 +95,7 @@ pub record LogAllows (i j : JudgementValue) : Type 0 where
 -- a line agrees
 abbrev pub is_agreement : LineVerdict → Bool
 is_agreement Agreed = true
-is_agreement Own = true
+is_agreement OwnVerdict = true
 is_agreement verdict = false
 
 -- how a thread's call leads from one state to another: where no row of its table holds it is carried out by the one-thread specification, with the fence that it names served first where theirs is signalled; or it is refused by an error of a row that holds
@@ -123,10 +130,11 @@ IsRun set [] s k = Unit {0}
 IsRun set (item ∷ more) s k = IsNext set item s k (judge_item set item s k).after.state × IsRun set more (judge_item set item s k).after.state (judge_item set item s k).after.kept
 
 -- ---- What stands for what.
--- no name of theirs stands for two of ours in a group and of a kind, and no display of theirs for two of ours
-pub record IsOneToOne (m : StandsValue) : Type 0 where
+-- no name of theirs stands for two of ours in a group and of a kind, no display of theirs for two of ours, and no other handle of theirs for two of ours that are valid, of a kind and of a display
+pub record IsOneToOne (s : State) (m : StandsValue) : Type 0 where
   pub names : (group : ℕ) (kind : NameKind) (a b theirs : ℤ) → given_for m.names group kind a ≡ Some theirs → given_for m.names group kind b ≡ Some theirs → a ≡ b
   pub displays : (a b : ℕ) (theirs : ℤ) → handle_for m.handles Display a ≡ Some theirs → handle_for m.handles Display b ≡ Some theirs → a ≡ b
+  pub handles : (g h : Handle) (theirs : ℤ) → Contains s.handles g → Contains s.handles h → g.kind ≡ h.kind → g.display ≡ h.display → handle_for m.handles (AHandle g.kind) g.number ≡ Some theirs → handle_for m.handles (AHandle h.kind) h.number ≡ Some theirs → g.number ≡ h.number
 
 -- ---- What answers as ours.
 -- a line that is judged as a call: it needs an answer, no line in front of it is at fault, and its configs and names mean in theirs what they mean in ours
@@ -196,6 +204,77 @@ abbrev pub AnswerAsOurs : Setting → List Item → State → KeptValue → Type
 AnswerAsOurs set [] s k = Unit {0}
 AnswerAsOurs set (item ∷ more) s k = AnswersAsOurs set item s k × AnswerAsOurs set more (judge_item set item s k).after.state (judge_item set item s k).after.kept
 
+-- ---- Recordings of ours.
+-- how an entry of a recording came out, as a log says it; what begins a wait, or is held up by one, has no line of its own in a log
+abbrev pub told_outcome : Outcome → Option LogOutcome
+told_outcome CarriedOut = Some Done
+told_outcome (RefusedEgl e) = Some (Egl e)
+told_outcome (RefusedGl e) = Some (Gl e)
+told_outcome o = None
+
+-- a log's answer is an entry's reply
+pub record IsReplyOf (a : Answer) (r : ReplyValue) : Type 0 where
+  pub outcome : told_outcome r.outcome ≡ Some a.outcome
+  pub value : a.value ≡ r.value
+  pub list : a.list ≡ r.list
+  pub bytes : a.bytes ≡ r.bytes
+
+-- both carried a call out
+pub record AreDone (a : Answer) (r : ReplyValue) : Type 0 where
+  pub theirs : a.outcome ≡ Done
+  pub ours : told_outcome r.outcome ≡ Some Done
+
+-- a line of a log has the thread, the call and the reply of an entry: where both carried the call out its handles, names and configs are ours, and it tells no fence signalled that ours has yet to serve
+pub record RecordsEntry (set : Setting) (x : Called) (e : Entry) (s : State) (k : KeptValue) : Type 0 where
+  pub thread : e.thread ≡ x.line.thread
+  pub asks : needs_no_answer x.line.call.kind ≡ false
+  pub call : our_call set.configs.named set.configs.pairs k.variables x.line ≡ Some e.call
+  pub reply : IsReplyOf x.answer e.reply
+  pub ours : AreDone x.answer (step s x.line.thread e.call).reply → IsOfOurs set x s k e.call
+  pub fences : served_beside s e.call x.answer ≡ s
+
+-- a line that needs no answer is of an entry of its thread and kind
+pub record RecordsNothing (x : Called) (e : Entry) : Type 0 where
+  pub thread : e.thread ≡ x.line.thread
+  pub asks : needs_no_answer x.line.call.kind ≡ true
+  pub kind : e.call.kind ≡ x.line.call.kind
+
+abbrev pub RecordsLine : Setting → Called → Entry → State → KeptValue → Type 0
+RecordsLine set x e s k = RecordsNothing x e ⊎ RecordsEntry set x e s k
+
+-- the lines of a log are entries in this way, one by one, and between them it says what our windows show
+abbrev pub RecordsBy : (Setting → Called → Entry → State → KeptValue → Type 0) → Setting → List Item → List Entry → State → KeptValue → Type 0
+RecordsBy way set [] [] s k = Unit {0}
+RecordsBy way set [] (e ∷ es) s k = ⊥
+RecordsBy way set (Call x ∷ more) [] s k = ⊥
+RecordsBy way set (Call x ∷ more) (e ∷ es) s k = way set x e s k × RecordsBy way set more es (judge_item set (Call x) s k).after.state (judge_item set (Call x) s k).after.kept
+RecordsBy way set (Front x ∷ more) es s k = ShowsAsOurs x s k × RecordsBy way set more es (judge_item set (Front x) s k).after.state (judge_item set (Front x) s k).after.kept
+
+-- an error of theirs is that of the first row, which ours answers where one holds; and no call that theirs carried out waits in ours
+abbrev pub IsFirstRow : LogOutcome → Option LogOutcome → Type 0
+IsFirstRow Done ours = is_some ours ≡ true
+IsFirstRow e ours = (ours ≡ Some Done) ⊎ (ours ≡ Some e)
+
+-- where theirs may answer another number than ours, it answers ours
+abbrev pub ChoosesOurs : Sort → Answer → ReplyValue → Type 0
+ChoosesOurs Own a r = a.value ≡ r.value
+ChoosesOurs (NewHandle kind) a r = a.value ≡ r.value
+ChoosesOurs (SameHandle kind) a r = a.value ≡ r.value
+ChoosesOurs ConfigList a r = a.list ≡ r.list
+ChoosesOurs (NewNames kind) a r = a.list ≡ r.list
+ChoosesOurs sort a r = Unit {0}
+
+-- a line of a log that chooses as ours wherever it may choose: errors, numbers, and bytes of pixels
+pub record ChoosesEntry (set : Setting) (x : Called) (e : Entry) (s : State) (k : KeptValue) : Type 0 where
+  pub records : RecordsEntry set x e s k
+  pub error : IsFirstRow x.answer.outcome (told_outcome (step s x.line.thread e.call).reply.outcome)
+  pub numbers : AreDone x.answer (step s x.line.thread e.call).reply → ChoosesOurs (sort_of s x.line.thread e.call) x.answer (step s x.line.thread e.call).reply
+  pub pixels : AreDone x.answer (step s x.line.thread e.call).reply → x.answer.bytes ≡ (step s x.line.thread e.call).reply.bytes
+
+-- of a line without an answer the entry's reply is known
+abbrev pub ChoosesLine : Setting → Called → Entry → State → KeptValue → Type 0
+ChoosesLine set x e s k = (RecordsNothing x e × (e.reply ≡ (step s e.thread e.call).reply)) ⊎ ChoosesEntry set x e s k
+
 -- ---- Lines that are put in.
 -- one line more agrees, and else all is found, and left, as without it
 pub record OneMoreAgrees (p q : Progress) : Type 0 where
@@ -203,6 +282,12 @@ pub record OneMoreAgrees (p q : Progress) : Type 0 where
   pub agreed : q.tally.agreed ≡ p.tally.agreed + 1
   pub own : q.tally.own ≡ p.tally.own
   pub notes : q.tally.notes ≡ p.tally.notes
+
+-- an error is noted already: of EGL it is what the thread's last call left, and of OpenGL ES the thread's context keeps one, this or another
+abbrev pub IsNoted : State → ℕ → LogOutcome → Type 0
+IsNoted s t (Egl e) = (record_of s t).error ≡ e
+IsNoted s t (Gl e) = (n : ℕ) × (p : PartValue) × (current_context s t ≡ Some n) × (part_of_context s n ≡ Some p) × (p.error ≢ NoError)
+IsNoted s t o = ⊥
 
 -- a call that is refused by an error of a row that holds, where that error is noted already, and that assigns no variable
 pub record IsRefusedAnew (set : Setting) (x : Called) (b : Beside) (c : CallValue) (e : LogOutcome) : Type 0 where

@@ -1,3 +1,4 @@
+pub mod Calls
 pub mod Sorts
 pub mod Configs
 pub mod Maps

@@ -1,5 +1,5 @@
 -- The names that a call has as numbers: each stands for itself.
-use Rattle.std.specs.Prelude.{ℕ, ℤ, pos, Bool, true, false, not, ◌||◌, map, slice_index_or, Option, None, Some}
+use Rattle.std.specs.Prelude.{ℕ, ℤ, pos, Bool, true, false, not, ◌&&◌, ◌||◌, map, slice_index_or, Option, None, Some}
 use Rattle.std.specs.List.{list_any}
 use Rattle.std.specs.Option.{option_map_or}
 use Rattle.std.specs.Ordering.{int_eq}
@@ -65,9 +65,9 @@ takes_image k = list_any (λ r. is_image_test r.0) (gl_rules k)
 abbrev pub is_other : Option ℤ → ℤ → Bool
 is_other o z = option_map_or (λ w. not (int_eq w z)) o false
 
--- a number that is a name of ours for which theirs has another number, or one of theirs that was given for another of ours
+-- a number that is a name of ours for which theirs has another number, or one of theirs that was given for another of ours; 0 is none
 abbrev pub is_renamed : Both → ℕ → NameKind → ℤ → Bool
-is_renamed m group kind z = is_other (given_for m group kind z) z || is_other (given_as m group kind z) z
+is_renamed m group kind z = not (int_eq z (pos 0)) && (is_other (given_for m group kind z) z || is_other (given_as m group kind z) z)
 
 abbrev pub is_renamed_in : Both → Option ℕ → NameKind → ℤ → Bool
 is_renamed_in m None kind z = false

@@ -5,15 +5,12 @@ use Rattle.std.specs.Option.{option_or}
 use Rattle.egl_calls.specs.Calls.{CallValue, ReplyValue}
 use Rattle.egl_calls.specs.Ranges.{IsNumber}
 use Rattle.egl_calls.specs.declared.errors.Outcome.TheVariants.{Done}
-use Rattle.egl_calls.specs.declared.kinds.Kind.{Kind}
-use Rattle.egl_calls.specs.declared.kinds.Kind.TheVariants.{Egl}
-use Rattle.egl_calls.specs.declared.kinds.EglKind.TheVariants.{ChooseConfig}
 use Rattle.egl_calls.specs.declared.places.TheConstants.{CONFIG}
 use Rattle.trace_reader.specs.declared.traces.Line.{Line}
 use Rattle.trace_reader.specs.declared.traces.Reference.{Reference}
 use Rattle.trace_model.specs.Resolve.{resolved_by}
-use Rattle.log_reader.specs.Forms.{takes_config}
 use Rattle.driver_judge.specs.declared.configs.ConfigPair.{ConfigPair}
+use Rattle.driver_judge.specs.Calls.{lists_configs, takes_config}
 use Rattle.driver_judge.specs.Configs.{our_config, our_list}
 
 -- what a variable stands for: our value, and for each number of a list our number, where there is one. It is lost where we have no answer that the driver's stands beside: then with the line that is at fault
@@ -78,14 +75,10 @@ abbrev pub with_list : CallValue → Option (List ℤ) → Option CallValue
 with_list c None = None
 with_list c (Some list) = Some (record c { list = list })
 
-abbrev pub is_choice : Kind → Bool
-is_choice (Egl ChooseConfig) = true
-is_choice kind = false
-
 abbrev pub with_our_configs : List ConfigPair → Line → CallValue → Option CallValue
 with_our_configs pairs l c =
     if names_config l then with_config c (our_config pairs (named_config c))
-    else if is_choice l.call.kind then with_list c (our_list pairs c.list)
+    else if lists_configs l.call.kind then with_list c (our_list pairs c.list)
     else Some c
 
 -- the same, where the log names its driver's configs; else theirs are ours

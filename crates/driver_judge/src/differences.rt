@@ -1,5 +1,6 @@
 //! In what an answer differs.
-use egl_calls::{Bytes, List};
+use driver_facts::Refusals;
+use egl_calls::{Bytes, Kind, List};
 use log_reader::LogOutcome;
 
 /// How pixels differ: how many, of how many; the least step by which all would agree; the least rectangle that has them, with its first and last column and row; and the first of them, with our bytes and theirs. Bytes behind the last pixel of a row stand in the column behind it.
@@ -21,10 +22,12 @@ pub struct PixelDifference {
 /// In what an answer differs from each that would have agreed. A number that nothing stands for in the other driver is `None`.
 #[derive(Drop)]
 pub enum Difference {
-    /// How the call came out, beside all that would have agreed.
+    /// How the call came out, beside all that would have agreed, and why: the rows of the table of its kind that hold.
     Outcome {
         expected: List<LogOutcome>,
         found: LogOutcome,
+        kind: Kind,
+        refusals: Refusals,
     },
     Value {
         expected: Option<i128>,

@@ -2,17 +2,18 @@
 ghost use Rattle.std.specs.Prelude.{◌≡◌, ◌<◌, [], ◌∷◌, ◌++◌, All, None, Some, map, option_copied, IfOk, OnOk};
 ghost use Rattle.egl_calls.specs.Ranges.{IsNumber, unsigned};
 ghost use Rattle.egl_model.specs.Windows.{front_of};
-ghost use Rattle.log_reader.specs.Forms.{needs_no_answer};
+ghost use Rattle.driver_judge.specs.Answers.{answer_difference, thread_group};
 ghost use Rattle.driver_judge.specs.Configs.{our_config};
-ghost use Rattle.driver_judge.specs.Judging.{agreed_outcome, agreeing, answered_behind, both_refused, carried_out, error_behind, front_difference, items_of, judge_call, judge_front, judge_item, left_out, makes, named, number_of, only_ours_refused, other_outcome, played, refusal_difference, thread_of, theirs_refused, unjudged, unless_at_fault, variable_behind, verdict_by};
+ghost use Rattle.driver_judge.specs.Judging.{agreed_outcome, agreeing, answered_behind, both_refused, carried_out, error_behind, front_difference, items_of, judge_call, judge_front, judge_item, kept_behind, left_out, makes, named, number_of, only_ours_refused, other_outcome, played, refusal_difference, thread_of, theirs_refused, unjudged, unless_at_fault, variable_behind, verdict_by, with_variable};
 ghost use Rattle.driver_judge.specs.Fronts.{shown_format};
 ghost use Rattle.driver_judge.specs.declared.sorts.Sort.TheVariants.{Equal};
 ghost use Rattle.driver_judge.specs.Judgements.{setting};
 ghost use Rattle.driver_judge.specs.Outcomes.{outcomes, refused_with};
+ghost use Rattle.driver_judge.specs.UsedNames.{uses_renamed};
 ghost use Rattle.driver_judge.specs.Variables.{IsItem};
 
 use crate::answers::{bytes_beside, compare, items_beside, value_beside};
-use crate::bases::basis_of;
+use crate::bases::{Basis, basis_of};
 use crate::configs::ConfigMap;
 use crate::differences::Difference;
 use crate::facts::thread_group;
@@ -23,13 +24,13 @@ use crate::kept::Kept;
 use crate::outcomes::{agrees, outcomes};
 use crate::pixels::{front_grid, no_grid};
 use crate::sorts::Sort;
-use crate::used_names::uses_renamed;
+use crate::used_names::{name_places, uses_renamed_at};
 use crate::variables::{Variable, our_call};
 use driver_core::Driver;
 use egl_calls::arguments::signed;
 use egl_calls::places::{CONFIG, WINDOW};
-use egl_calls::{Call, EglError, Kind, List, NoMemory, OwnKind, Reply};
-use log_reader::{Answer, Called, Item, Log, LogOutcome, Shown};
+use egl_calls::{Call, EglError, Kind, List, NoMemory, Reply};
+use log_reader::{Answer, Called, Item, Log, LogOutcome, Shown, needs_no_answer};
 use pixel_formats::Format;
 use pixel_rows::Image;
 use std::alloc::Global;
@@ -209,6 +210,26 @@ fn variable_behind(
     Ok(Variable::kept(ours.value, items))
 }
 
+/// Keeps what that variable stands for, if the line assigns one.
+fn keep_variable(
+    alloc: Global,
+    configs: &ConfigMap,
+    kept: &mut Kept,
+    line: &Line,
+    sort: Sort,
+    ours: &Reply,
+    theirs: &Answer,
+    differs: bool,
+) -> Result<(), NoMemory>
+    ensures { OnOk result (kept.new ≡ with_variable line.now (variable_behind configs.now line.now sort ours.now theirs.now differs) kept.old) }
+{
+    if line.assigns.is_none() {
+        return Ok(());
+    }
+    let variable = variable_behind(alloc, configs, line, sort, ours, theirs, differs)?;
+    kept.assign(line, variable)
+}
+
 /// Keeps what such a call answered.
 fn keep_answer(
     alloc: Global,
@@ -223,8 +244,7 @@ fn keep_answer(
 ) -> Result<(), NoMemory>
     ensures { OnOk result (kept.new ≡ answered_behind configs.now line.now call.now sort ours.now theirs.now differs kept.old) }
 {
-    let variable = variable_behind(alloc, configs, line, sort, ours, theirs, differs)?;
-    kept.assign(line, variable)?;
+    keep_variable(alloc, configs, kept, line, sort, ours, theirs, differs)?;
     note_format(
         call.kind,
         signed(call, WINDOW),
@@ -235,6 +255,38 @@ fn keep_answer(
         kept.come_back(line);
     }
     Ok(())
+}
+
+/// Compares what both answered, and keeps it.
+fn compare_answers(
+    alloc: Global,
+    setting: &Setting,
+    kept: &mut Kept,
+    line: &Line,
+    call: &Call,
+    basis: Basis,
+    ours: &Reply,
+    theirs: &Answer,
+) -> Result<LineVerdict, NoMemory>
+    ensures verdict { IfOk result (λ v. v ≡ verdict_by basis.sort (answer_difference setting.now.configs.pairs setting.now.delta kept.old.stands basis ours.now theirs.now)) }
+    ensures kept { OnOk result (kept.new ≡ kept_behind setting.now.configs line.now call.now basis ours.now theirs.now (answer_difference setting.now.configs.pairs setting.now.delta kept.old.stands basis ours.now theirs.now) kept.old) }
+{
+    let Setting { configs, delta } = setting;
+    let difference = compare(
+        alloc,
+        configs,
+        *delta,
+        &mut kept.stands,
+        basis,
+        call,
+        ours,
+        theirs,
+    )?;
+    let differs = difference.is_some();
+    keep_answer(
+        alloc, configs, kept, line, call, basis.sort, ours, theirs, differs,
+    )?;
+    Ok(verdict_by(basis.sort, difference))
 }
 
 /// A call that both carried out.
@@ -253,39 +305,11 @@ fn carried_out(
     ensures state { OnOk result (driver.new ≡ record driver.old { state = (carried_out setting.now line.now call.now theirs.now driver.old.state kept.old).after.state }) }
     ensures kept { OnOk result (kept.new ≡ (carried_out setting.now line.now call.now theirs.now driver.old.state kept.old).after.kept) }
 {
-    let basis = basis_of(
-        alloc,
-        driver,
-        kept.stands.handles(),
-        line.thread,
-        call,
-        theirs.value,
-    );
+    let handles = kept.stands.handles();
+    let basis = basis_of(alloc, driver, handles, line.thread, call, theirs.value);
     serve_beside(driver, call, theirs);
     let ours = driver.play(alloc, line.thread, call)?;
-    let difference = compare(
-        alloc,
-        &setting.configs,
-        setting.delta,
-        &mut kept.stands,
-        basis,
-        call,
-        &ours,
-        theirs,
-    )?;
-    let differs = difference.is_some();
-    keep_answer(
-        alloc,
-        &setting.configs,
-        kept,
-        line,
-        call,
-        basis.sort,
-        &ours,
-        theirs,
-        differs,
-    )?;
-    Ok(verdict_by(basis.sort, difference))
+    compare_answers(alloc, setting, kept, line, call, basis, &ours, theirs)
 }
 
 /// Refuses a call by their error.
@@ -455,8 +479,33 @@ fn play(
     if agrees(expected.as_slice(), found) {
         return agreed_outcome(alloc, setting, driver, kept, line, call, theirs);
     }
-    let difference = Difference::Outcome { expected, found };
+    let difference = Difference::Outcome {
+        expected,
+        found,
+        kind: call.kind,
+        refusals: driver.refusals(line.thread, call),
+    };
     other_outcome(alloc, driver, kept, line, call, difference, found)
+}
+
+/// Whether the call of a line has a name as a number that is another's in theirs. Only where it has a name the group is asked for.
+#[tactic(auto, unfolding(crate::specs::UsedNames::uses_renamed))]
+fn uses_renamed(driver: &Driver, kept: &Kept, line: &Line) -> bool
+    ensures { result ≡ uses_renamed kept.now.stands.renamed kept.now.stands.names (thread_group driver.now.state line.now.thread) line.now }
+{
+    match name_places(line.call.kind()) {
+        Some(places) => {
+            let group = thread_group(driver, line.thread);
+            uses_renamed_at(
+                kept.stands.renamed(),
+                kept.stands.names(),
+                group,
+                &line.call,
+                places,
+            )
+        }
+        None => false,
+    }
 }
 
 /// A call in our numbers, which may have a name that is another's in theirs.
@@ -475,8 +524,7 @@ fn judge_named(
     ensures state { OnOk result (driver.new ≡ record driver.old { state = (named setting.now line.now theirs.now call.now driver.old.state kept.old).after.state }) }
     ensures kept { OnOk result (kept.new ≡ (named setting.now line.now theirs.now call.now driver.old.state kept.old).after.kept) }
 {
-    let group = thread_group(driver, line.thread);
-    if uses_renamed(kept.stands.renamed(), kept.stands.names(), group, line) {
+    if uses_renamed(driver, kept, line) {
         return leave_unjudged(alloc, driver, kept, line, theirs.outcome, Unjudged::Name);
     }
     play(alloc, setting, driver, kept, line, call, theirs)
@@ -499,15 +547,6 @@ fn judge_line(
     match our_call(alloc, &setting.configs, kept.variables.as_slice(), line)? {
         Some(call) => judge_named(alloc, setting, driver, kept, line, &call, theirs),
         None => leave_unjudged(alloc, driver, kept, line, theirs.outcome, Unjudged::Config),
-    }
-}
-
-fn needs_no_answer(kind: Kind) -> bool
-    ensures { result ≡ needs_no_answer kind }
-{
-    match kind {
-        Kind::Own(OwnKind::Post) | Kind::Own(OwnKind::Await) => true,
-        _ => false,
     }
 }
 

@@ -1,14 +1,16 @@
 //! What is kept beside our driver.
-ghost use Rattle.std.specs.Prelude.{◌≡◌, [], ◌++◌, ◌∷◌, None, replicate, slice_index_or, slice_set, IfOk, OnOk};
+ghost use Rattle.std.specs.Prelude.{◌≡◌, [], ◌++◌, ◌∷◌, None, replicate, slice_index_or, slice_set, if◌then◌else◌, IfOk, OnOk};
 ghost use Rattle.std.specs.Option.{option_or};
 ghost use Rattle.driver_judge.specs.Answers.{nothing_stands};
 ghost use Rattle.driver_judge.specs.Fronts.{shown_format};
-ghost use Rattle.driver_judge.specs.Judging.{adrift_at, assigned, drifting, fault_of, goes_by_current, is_make_current, is_of_current, returned, set_adrift, sets_current, with_variable};
+ghost use Rattle.driver_judge.specs.Calls.{goes_by_current};
+ghost use Rattle.driver_judge.specs.Judging.{adrift_at, assigned, drifting, fault_of, returned, set_adrift, with_variable};
 
 use crate::answers::Stands;
+use crate::calls::{goes_by_current, is_make_current, sets_current};
 use crate::fronts::{Formats, shown_format};
 use crate::variables::{Variable, lost_in};
-use egl_calls::{EglKind, Kind, NoMemory};
+use egl_calls::{Kind, NoMemory};
 use indexmap::IndexMap;
 use keyed_hash::{HashKey, KeyedState};
 use pixel_formats::Format;
@@ -72,45 +74,15 @@ fn set_line(list: &mut Vec<Option<u64>>, place: usize, line: Option<u64>)
     }
 }
 
-fn is_make_current(kind: Kind) -> bool
-    ensures { result ≡ is_make_current kind }
+/// A line by whose fault a thread may have another context, for a call that goes by what is current.
+#[tactic(auto, using(crate::proofs::ListLaws::none_by_either))]
+fn fault_by_current(kind: Kind, adrift: Option<u64>) -> Option<u64>
+    ensures { result ≡ (if goes_by_current kind then adrift else None) }
 {
-    matches!(kind, Kind::Egl(EglKind::MakeCurrent))
-}
-
-fn sets_current(kind: Kind) -> bool
-    ensures { result ≡ sets_current kind }
-{
-    match kind {
-        Kind::Egl(EglKind::MakeCurrent) | Kind::Egl(EglKind::ReleaseThread) => true,
-        _ => false,
+    if adrift.is_none() {
+        return None;
     }
-}
-
-fn is_of_current(kind: EglKind) -> bool
-    ensures { result ≡ is_of_current kind }
-{
-    match kind {
-        EglKind::GetCurrentContext
-        | EglKind::GetCurrentSurface
-        | EglKind::GetCurrentDisplay
-        | EglKind::SwapBuffers
-        | EglKind::WaitClient
-        | EglKind::CreateSync
-        | EglKind::WaitSync => true,
-        _ => false,
-    }
-}
-
-/// Whether a call goes by what is current to its thread.
-fn goes_by_current(kind: Kind) -> bool
-    ensures { result ≡ goes_by_current kind }
-{
-    match kind {
-        Kind::Gl(_) => true,
-        Kind::Egl(kind) => is_of_current(kind),
-        Kind::Own(_) => false,
-    }
+    if goes_by_current(kind) { adrift } else { None }
 }
 
 impl Kept {
@@ -167,11 +139,7 @@ impl Kept {
         if let Some(fault) = lost_in(self.variables.as_slice(), line.uses.as_slice()) {
             return Some(fault);
         }
-        if goes_by_current(line.call.kind()) {
-            self.adrift_at(line.thread)
-        } else {
-            None
-        }
+        fault_by_current(line.call.kind(), self.adrift_at(line.thread))
     }
 
     /// Behind an eglMakeCurrent that isn't played its thread may have another context.

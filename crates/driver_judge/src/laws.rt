@@ -1,9 +1,14 @@
 //! What holds of all judgements: the contracts of functions that do nothing.
-ghost use Rattle.std.specs.Prelude.{◌≡◌, ◌||◌, ◌≤◌, ℕ, List, [], ◌∷◌, ◌++◌, fold, is_some, length, true};
+ghost use Rattle.std.specs.Prelude.{◌≡◌, ◌↔◌, ◌||◌, ◌≤◌, ℕ, List, [], ◌∷◌, ◌++◌, fold, is_some, length, true};
 ghost use Rattle.egl_calls.specs.Calls.{CallValue};
 ghost use Rattle.egl_calls.specs.declared.kinds.GlKind.{GlKind as GlKinds};
 ghost use Rattle.driver_facts.specs.Verdicts.{refusals};
-ghost use Rattle.egl_model.specs.State.{State};
+ghost use Rattle.egl_calls.specs.declared.entries.Entry.{Entry};
+ghost use Rattle.egl_model.specs.History.{IsLegalFrom, replay_from};
+ghost use Rattle.egl_model.specs.State.{State, opening};
+ghost use Rattle.trace_model.specs.Follows.{IsPlayOf};
+ghost use Rattle.trace_model.specs.Serial.{serial};
+ghost use Rattle.trace_reader.specs.Traces.{TraceValue};
 ghost use Rattle.log_reader.specs.Logs.{LogValue};
 ghost use Rattle.log_reader.specs.declared.items.Called.{Called};
 ghost use Rattle.log_reader.specs.declared.items.Item.{Item};
@@ -13,7 +18,7 @@ ghost use Rattle.driver_judge.specs.Configs.{ConfigsValue};
 ghost use Rattle.driver_judge.specs.Judgements.{Progress, judge_next, judged, judgement, opened, setting};
 ghost use Rattle.driver_judge.specs.Fences.{step_beside};
 ghost use Rattle.driver_judge.specs.Judging.{KeptValue, Setting, judge_call};
-ghost use Rattle.driver_judge.specs.Laws.{AgreesInto, AgreesRightly, AnswerAsOurs, IsJudgedAs, IsOfARow, IsOfOurs, IsOneToOne, IsRefusedAnew, IsRun, LogAllows, MoreAllowMore, OneMoreAgrees, error_answer, reply_answer};
+ghost use Rattle.driver_judge.specs.Laws.{AgreesInto, AgreesRightly, AnswerAsOurs, ChoosesLine, IsJudgedAs, IsNoted, IsOfARow, IsOfOurs, IsOneToOne, IsRefusedAnew, IsRun, LogAllows, MoreAllowMore, OneMoreAgrees, RecordsBy, RecordsLine, error_answer, reply_answer};
 ghost use Rattle.driver_judge.specs.Outcomes.{agrees, errors_of, outcomes, refused_with};
 ghost use Rattle.driver_judge.specs.UsedNames.{gl_names, has_objects, takes_image};
 
@@ -38,9 +43,9 @@ pub fn calls_with_names_are_told()
     ensures { (k : GlKinds) → has_objects k ≡ (is_some (gl_names k) || takes_image k) }
 {}
 
-/// Behind each log, and so at each line of one, no name of the other driver stands for two of ours in a group and of a kind, and no display of it for two of ours.
-pub fn names_stand_for_one_each()
-    ensures { (l : LogValue) (delta : ℕ) → IsOneToOne (judged l delta).beside.kept.stands }
+/// Behind each log, and so at each line of one, no name of the other driver stands for two of ours in a group and of a kind, no display of it for two of ours, and no context, surface, image or sync of it for two of ours that are valid on a display.
+pub fn numbers_stand_for_one_each()
+    ensures { (l : LogValue) (delta : ℕ) → IsOneToOne (judged l delta).beside.state (judged l delta).beside.kept.stands }
 {}
 
 /// What answers as ours agrees. The outcomes that agree are no fewer than those that `what_agrees_is_right` allows. A line whose call ours refuses agrees with the error of any row that holds, and leaves our state with that error; one whose call no row refuses agrees with our reply, where each handle, config and name in it stands for itself, and leaves the state behind our step. So a log whose lines all answer so has no difference.
@@ -51,7 +56,20 @@ pub fn what_answers_as_ours_agrees()
     ensures log { (l : LogValue) (delta : ℕ) → AnswerAsOurs (setting l delta) l.items (opened l).state (opened l).kept → ((judgement l delta).notes ≡ []) × ((judgement l delta).agreed ≡ length l.items) }
 {}
 
-/// A line of a call that is refused by an error of a row that holds may be put in wherever that error is noted already, as in a context of OpenGL ES that keeps one: it agrees, and all other lines are judged as without it.
+/// Where the lines of a log are the entries of a legal history from the opening state, one by one, each handle, name and config that their replies tell is ours, and no fence is told signalled that ours has yet to serve, the log has no difference, and leaves the state that the history leaves. So has a log of what `serial` plays of a trace, or of a recording that `check` holds, if no wait blocks in it: both are legal histories.
+pub fn what_is_recorded_agrees()
+    ensures history { (l : LogValue) (delta : ℕ) (es : List Entry) → IsLegalFrom (opening l.windows l.video) es → RecordsBy RecordsLine (setting l delta) l.items es (opened l).state (opened l).kept → ((judgement l delta).notes ≡ []) × ((judgement l delta).agreed ≡ length l.items) × ((judged l delta).beside.state ≡ replay_from (opening l.windows l.video) es) }
+    ensures serial { (l : LogValue) (delta : ℕ) (t : TraceValue) → t.windows ≡ l.windows → t.video ≡ l.video → RecordsBy RecordsLine (setting l delta) l.items (serial t) (opened l).state (opened l).kept → ((judgement l delta).notes ≡ []) × ((judgement l delta).agreed ≡ length l.items) }
+    ensures play { (l : LogValue) (delta : ℕ) (t : TraceValue) (es : List Entry) → IsPlayOf t es → t.windows ≡ l.windows → t.video ≡ l.video → RecordsBy RecordsLine (setting l delta) l.items es (opened l).state (opened l).kept → ((judgement l delta).notes ≡ []) × ((judgement l delta).agreed ≡ length l.items) }
+{}
+
+/// Where a log has the threads and the calls of a recording, one line an entry, and chooses as ours wherever another driver may choose (the first row's error, our handles, names, configs and pixels, no fence signalled that ours has yet to serve), no line is noted exactly where the recording is a legal history from the opening state. That is what `check` asks of entries, beside that they follow a trace.
+pub fn a_log_of_ours_is_judged_as_checked()
+    ensures { (l : LogValue) (delta : ℕ) (es : List Entry) → RecordsBy ChoosesLine (setting l delta) l.items es (opened l).state (opened l).kept → ((judgement l delta).notes ≡ []) ↔ IsLegalFrom (opening l.windows l.video) es }
+{}
+
+/// A line of a call that is refused by an error of a row that holds may be put in wherever that error is noted already: it agrees, and all other lines are judged as without it. That is so where the thread's last call of EGL left this error, and where its context keeps an error of OpenGL ES, whichever.
 pub fn a_refused_call_may_be_put_in()
-    ensures { (set : Setting) (p : Progress) (before after : List Item) (x : Called) (c : CallValue) (e : LogOutcome) → IsRefusedAnew set x (fold (judge_next set) p before).beside c e → OneMoreAgrees (fold (judge_next set) p (before ++ after)) (fold (judge_next set) p (before ++ Call x ∷ after)) }
+    ensures line { (set : Setting) (p : Progress) (before after : List Item) (x : Called) (c : CallValue) (e : LogOutcome) → IsRefusedAnew set x (fold (judge_next set) p before).beside c e → OneMoreAgrees (fold (judge_next set) p (before ++ after)) (fold (judge_next set) p (before ++ Call x ∷ after)) }
+    ensures noted { (s : State) (t : ℕ) (e : LogOutcome) → IsNoted s t e → refused_with s t e ≡ s }
 {}

@@ -7,6 +7,7 @@
 
 mod answers;
 mod bases;
+mod calls;
 mod configs;
 mod differences;
 mod facts;

@@ -11,8 +11,8 @@ use share_group::NameKind;
 use std::alloc::Global;
 use std::marker::Model;
 
-/// A display or a share group, the place of a kind, and a number.
-type Key = (u64, u8, i128);
+/// A display or a share group, the place of a kind, and a number. All are of eight bytes or more, so that they are hashed in whole words.
+type Key = (u64, u64, i128);
 
 /// Entries that are found by hashes under a key.
 pub type Entries = IndexMap<Key, i128, KeyedState>;
@@ -69,7 +69,7 @@ fn take(entries: &mut Entries, key: Key)
     let _ = entries.swap_remove(&key);
 }
 
-fn mapped_place(kind: Mapped) -> u8
+fn mapped_place(kind: Mapped) -> u64
     ensures { result ≡ mapped_place kind }
 {
     match kind {
@@ -81,7 +81,7 @@ fn mapped_place(kind: Mapped) -> u8
     }
 }
 
-fn name_place(kind: NameKind) -> u8
+fn name_place(kind: NameKind) -> u64
     ensures { result ≡ name_place kind }
 {
     match kind {

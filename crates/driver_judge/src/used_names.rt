@@ -1,8 +1,8 @@
 //! The names that a call has as numbers.
-ghost use Rattle.std.specs.Prelude.{◌≡◌, pos, slice_index_or};
+ghost use Rattle.std.specs.Prelude.{◌≡◌, Some, pos, slice_index_or};
 ghost use Rattle.std.specs.List.{list_any};
 ghost use Rattle.egl_model.specs.Images.{source_kind};
-ghost use Rattle.driver_judge.specs.UsedNames.{is_ever_renamed, is_other, is_renamed, is_renamed_in, name_places, names_by_role, uses_renamed};
+ghost use Rattle.driver_judge.specs.UsedNames.{is_ever_renamed, is_other, is_renamed, is_renamed_in, name_places, names_by_role, uses_renamed_by};
 
 use crate::maps::{Both, Entries, found, name_key};
 use call_table::{Role, egl_role, gl_role};
@@ -11,7 +11,7 @@ use egl_calls::places::{ASKED_NAME, ATTACHED_NAME, BOUND_NAME, CLIENT_BUFFER, IM
 use egl_calls::{Kind, unsigned};
 use egl_names::codes::EGL_GL_TEXTURE_2D;
 use share_group::NameKind;
-use trace_reader::{Line, LineCall};
+use trace_reader::LineCall;
 
 /// Where a call has names, and of which kind.
 #[derive(Clone, Copy, Debug, PartialEq, Eq, Drop)]
@@ -39,7 +39,7 @@ fn names_by_role(role: Role) -> Option<NamePlaces>
 }
 
 /// Where a call has names.
-fn name_places(kind: Kind) -> Option<NamePlaces>
+pub fn name_places(kind: Kind) -> Option<NamePlaces>
     ensures { result ≡ name_places kind }
 {
     match kind {
@@ -61,8 +61,9 @@ fn is_other(known: Option<i128>, name: i64) -> bool
 fn is_renamed(names: &Both, group: u64, kind: NameKind, name: i64) -> bool
     ensures { result ≡ is_renamed names.now group kind name }
 {
-    is_other(names.given_for(group, kind, i128::from(name)), name)
-        || is_other(names.given_as(group, kind, i128::from(name)), name)
+    name != 0
+        && (is_other(names.given_for(group, kind, i128::from(name)), name)
+            || is_other(names.given_as(group, kind, i128::from(name)), name))
 }
 
 /// Whether a number is a name in a group that is another's on the other side.
@@ -112,19 +113,22 @@ fn argument_at(call: &LineCall, place: u64) -> i64
     if place < 8 { args[place as usize] } else { 0 }
 }
 
-/// Whether the call of a line has a name as a number that is another's in theirs.
-#[tactic(auto, unfolding(crate::specs::UsedNames::uses_renamed))]
-pub fn uses_renamed(renamed: &Entries, names: &Both, group: Option<u64>, line: &Line) -> bool
-    ensures { result ≡ uses_renamed renamed.now.entries names.now group line.now }
+/// Whether a call with names at these places has one as a number that is another's in theirs.
+pub fn uses_renamed_at(
+    renamed: &Entries,
+    names: &Both,
+    group: Option<u64>,
+    call: &LineCall,
+    places: NamePlaces,
+) -> bool
+    ensures { result ≡ uses_renamed_by renamed.now.entries names.now group call.now (Some places) }
 {
-    let call = &line.call;
-    match name_places(call.kind()) {
-        None => false,
-        Some(NamePlaces::AtPlace(kind, place)) => {
+    match places {
+        NamePlaces::AtPlace(kind, place) => {
             is_renamed_in(names, group, kind, argument_at(call, place))
         }
-        Some(NamePlaces::InList(kind)) => has_renamed(names, group, kind, call.list()),
-        Some(NamePlaces::OfImage) => is_ever_renamed(
+        NamePlaces::InList(kind) => has_renamed(names, group, kind, call.list()),
+        NamePlaces::OfImage => is_ever_renamed(
             renamed,
             source_kind(call),
             argument_at(call, CLIENT_BUFFER as u64),

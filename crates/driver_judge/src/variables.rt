@@ -3,14 +3,14 @@ ghost use Rattle.std.specs.Prelude.{◌≡◌, ◌<◌, ◌≤◌, [], ◌∷◌
 ghost use Rattle.std.specs.List.{list_any};
 ghost use Rattle.egl_calls.specs.declared.kinds.Kind.{Kind as CallKind};
 ghost use Rattle.egl_calls.specs.Ranges.{AreArguments, IsNumber};
-ghost use Rattle.log_reader.specs.Forms.{takes_config};
 ghost use Rattle.trace_model.specs.Resolve.{put_arguments, put_items, reference_value, resolved_by};
 ghost use Rattle.driver_judge.specs.Configs.{our_list, our_value};
-ghost use Rattle.driver_judge.specs.Variables.{IsItem, in_our_configs, is_choice, is_config_place, is_foreign, item_at, kept, lost, lost_in, names_config, our_call, stands_for, variable_at, with_config, with_list, with_our_configs};
+ghost use Rattle.driver_judge.specs.Variables.{IsItem, in_our_configs, is_config_place, is_foreign, item_at, kept, lost, lost_in, names_config, our_call, stands_for, variable_at, with_config, with_list, with_our_configs};
 
+use crate::calls::{lists_configs, takes_config};
 use crate::configs::ConfigMap;
 use egl_calls::places::CONFIG;
-use egl_calls::{Call, EglKind, Kind, List, NoMemory, Numbers, set_argument};
+use egl_calls::{Call, List, NoMemory, Numbers, set_argument};
 use std::alloc::Global;
 use std::marker::Model;
 use trace_reader::{Line, Reference};
@@ -244,19 +244,6 @@ fn resolved(alloc: Global, line: &Line, variables: &[Variable]) -> Result<Call, 
     })
 }
 
-/// Whether a call names a config behind its display.
-fn takes_config(kind: Kind) -> bool
-    ensures { result ≡ takes_config kind }
-{
-    match kind {
-        Kind::Egl(EglKind::GetConfigAttrib)
-        | Kind::Egl(EglKind::CreateWindowSurface)
-        | Kind::Egl(EglKind::CreatePbufferSurface)
-        | Kind::Egl(EglKind::CreateContext) => true,
-        _ => false,
-    }
-}
-
 fn is_config_place(uses: &[Reference]) -> bool
     ensures { result ≡ list_any is_config_place uses.now }
 {
@@ -392,12 +379,6 @@ fn with_list(call: Call, list: Option<Numbers>) -> Option<Call>
     })
 }
 
-fn is_choice(kind: Kind) -> bool
-    ensures { result ≡ is_choice kind }
-{
-    matches!(kind, Kind::Egl(EglKind::ChooseConfig))
-}
-
 /// A call with our configs in the place of theirs. None where one is none of ours.
 fn with_our_configs(
     alloc: Global,
@@ -411,7 +392,7 @@ fn with_our_configs(
         let config = configs.ours(i128::from(call.args[CONFIG]));
         return Ok(with_config(call, config));
     }
-    if is_choice(line.call.kind()) {
+    if lists_configs(line.call.kind()) {
         let list = our_list(alloc, configs, call.list.as_slice())?;
         return Ok(with_list(call, list));
     }

@@ -9,7 +9,7 @@ use Rattle.egl_calls.specs.declared.entries.Entry.{Entry}
 use Rattle.egl_model.specs.State.{State}
 use Rattle.egl_model.specs.Step.{step}
 use Rattle.egl_model.specs.History.{replay_from}
-use Rattle.model_laws.proofs.HistoryLaws.{replay_from-append}
+use Rattle.model_laws.proofs.Steps.HistoryLaws.{replay_from-append}
 use Rattle.screen_compose.specs.declared.placed.Placed.{Placed}
 use Rattle.egl_cli.specs.Frames.{picture_of, makes_frame, frame_line, frame_of, frames_of}
 

@@ -1,8 +1,9 @@
 -- Windows that are declared together may be stacked on a screen.
-use Rattle.std.proofs.Common.{◌≡◌, ℕ, suc, ℤ, pos, ◌+◌, ◌*◌, ◌<◌, ◌≤◌, Bool, true, false, ◌&&◌, List, [], ◌∷◌, length, refl, ap, ◌∙◌, arith}
+use Rattle.std.proofs.Common.{◌≡◌, ℕ, suc, ℤ, pos, ◌+◌, ◌*◌, ◌<◌, ◌≤◌, Bool, true, false, List, [], ◌∷◌, length, refl, ap, ◌∙◌, arith}
 use Rattle.std.proofs.lemmas.Bool.Decides.{nat_tests}
 use Rattle.std.specs.Prelude.{nat_le, if◌then◌else◌}
 use Rattle.std.specs.Ordering.{int_eq}
+use Rattle.std.proofs.lemmas.Bool.{and_parts}
 use Rattle.surface_store.specs.declared.windows.WindowSpec.{WindowSpec}
 use Rattle.surface_store.specs.Windows.{is_spec, has_id, are_distinct, windows_ok}
 use Rattle.screen_compose.specs.Placing.{places, is_near, lies_near, are_placed, is_side, screen_ok}
@@ -37,13 +38,8 @@ distinct below (s ∷ specs) few d =
     whole (lies_near (placed_over below s)) (places s.id (stacked_over (below + 1) specs)) (are_placed (stacked_over (below + 1) specs))
     (lies below s (omega (arith, few))) (same_ids s.id (below + 1) specs ∙ p.0) (distinct (below + 1) specs (omega (arith, few)) p.1)
 
-both : (a b : Bool) → (a && b) ≡ true → (a ≡ true) × (b ≡ true)
-both true true h = (refl, refl)
-both true false h = absurd (let f : false ≡ true = h in cc)
-both false b h = absurd (let f : false ≡ true = h in cc)
-
 pub few_windows : (specs : List WindowSpec) → windows_ok specs ≡ true → length specs ≤ 64
-few_windows specs ok = let f = (both (nat_le (length specs) 64) (are_distinct specs) ok).0 in grind (arith, nat_tests, f)
+few_windows specs ok = let f = (and_parts (nat_le (length specs) 64) (are_distinct specs) ok).0 in grind (arith, nat_tests, f)
 
 side : (n : ℕ) → 0 < n → n ≤ 2048 → is_side n ≡ true
 side n some few = grind (arith, nat_tests, some, few)
@@ -54,5 +50,5 @@ stacked_ok w h specs some_w few_w some_h few_h ok =
     let wide = side w some_w few_w in
     let high = side h some_h few_h in
     let count : nat_le (length (stacked specs)) 64 ≡ true = let e = as_many 0 specs in grind (arith, nat_tests, few, e) in
-    let all = distinct 0 specs (omega (arith, few)) (both (nat_le (length specs) 64) (are_distinct specs) ok).1 in
+    let all = distinct 0 specs (omega (arith, few)) (and_parts (nat_le (length specs) 64) (are_distinct specs) ok).1 in
     rw (wide, high, count, all) refl

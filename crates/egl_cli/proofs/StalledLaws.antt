@@ -1,7 +1,8 @@
 -- The answer to a run that came to its end, and to one that stalled.
-use Rattle.std.proofs.Common.{◌≡◌, ℕ, Bool, true, false, List, ◌++◌, refl, sym, ap, ◌∙◌}
+use Rattle.std.proofs.Common.{◌≡◌, ℕ, Bool, true, false, List, ◌++◌, sym, ap, ◌∙◌}
 use Rattle.std.specs.Prelude.{not, ◌&&◌}
 use Rattle.std.specs.List.{list_all}
+use Rattle.egl_calls.proofs.Truths.{and_false}
 use Rattle.egl_calls.specs.declared.entries.Entry.{Entry}
 use Rattle.egl_model.specs.State.{State}
 use Rattle.trace_reader.specs.Traces.{TraceValue}
@@ -12,16 +13,12 @@ use Rattle.egl_cli.specs.StalledLines.{stalled_lines}
 use Rattle.egl_flow.specs.declared.statuses.Status.TheVariants.{Ok as Fine, Stalled}
 use Rattle.egl_cli.specs.Answers.{journal_answer, run_answer}
 
-never : (b : Bool) → (b && false) ≡ false
-never true = refl
-never false = refl
-
 -- what is complete isn't stalled
 pub never_stalls : (t : TraceValue) (journal : List Entry) (s : State) → IsComplete t journal → is_stalled t journal s ≡ false
 unfolding is_stalled
 never_stalls t journal s c =
     let all : Bool = list_all (is_at_rest t.lines journal s) (threads_of t) in
-    ap (λ (b : Bool). all && not b) c ∙ never all
+    ap (λ (b : Bool). all && not b) c ∙ and_false all
 
 pub answer_by : (t : TraceValue) (b : Bool) → is_stalled t (serial t) (state_behind t (serial t)) ≡ b → run_answer t ≡ journal_answer false t (serial t) b
 unfolding run_answer

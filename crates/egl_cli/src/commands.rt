@@ -4,6 +4,7 @@ ghost use Rattle.trace_reader.specs.Numerals.{numeral};
 ghost use Rattle.egl_cli.specs.Commands.{command_named, command_told, command_sided, command_sized, composing, generating, command_of, HasSize};
 
 use egl_calls::Text;
+use egl_calls::limits::LONGEST_SIDE;
 use trace_reader::numerals::numeral;
 
 /// The most lines that are drawn, the most threads, and the greatest seed of a trace that is generated.
@@ -12,9 +13,6 @@ const MOST_LINES: u64 = 90_000;
 const MOST_THREADS: u64 = 16;
 
 const MOST_SEED: u64 = 9_223_372_036_854_775_807;
-
-/// The longest side of a screen, in pixels.
-const LONGEST_SIDE: u64 = 2_048;
 
 /// What the program can be told to do.
 #[derive(Clone, Copy, Debug, PartialEq, Eq, Drop)]

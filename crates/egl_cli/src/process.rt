@@ -75,7 +75,7 @@ fn run_words<R: Threads + Wait + Sync, S: Source, K: Sink>(
 
 /// Does the command that the process's words name, from standard input to standard output. Input that isn't there yet is waited for.
 ///
-/// Without want of memory for the words the status is the one that `top` gives to all words behind the first.
+/// Where there is memory for the words, the status is the one that `top` gives to all words behind the first.
 pub fn run<R: Clock + AllocGlobal + Threads + Wait + Sync>(
     rt: &R,
     args: io::Result<Args>,

@@ -202,7 +202,16 @@ fn respond_scene<S: Source, K: Sink>(alloc: Global, source: &mut S, sink: &mut K
     }
 }
 
-/// Does the command that the words name: `serial` reads a trace from the source and writes the recording of its run by turns to the sink, and where that stalls, the lines at which threads wait; `check` reads a trace and a recording behind it, and writes whether that is the recording of one of the trace's runs to its end, or where it first differs; `compose` reads a trace and writes a line for each frame of a screen of its sides, on which the trace's windows are stacked, and where the run stalls, the lines at which threads wait; `races` reads a trace of at most 2,000 body lines and writes which of its calls touch one thing though nothing orders them, and where the run stalls, the lines at which threads wait; `scene` reads a scene and writes the trace whose calls draw it; `configs` reads nothing and writes the eight configs, a line for each, and `gen` the trace that its numbers generate. `play` is no command here, since it starts threads: `top` knows it.
+/// Does the command that the words name. Where a run by turns stalls, `serial`, `compose` and `races` write the lines at which threads wait.
+///
+/// - `serial` reads a trace from the source, and writes the recording of its run by turns to the sink.
+/// - `check` reads a trace and a recording behind it, and writes whether that is the recording of one of the trace's runs to its end, or where it first differs.
+/// - `compose` reads a trace, and writes a line for each frame of a screen of its sides, on which the trace's windows are stacked.
+/// - `races` reads a trace of at most 2,000 body lines, and writes which of its calls touch one thing though nothing orders them.
+/// - `scene` reads a scene, and writes the trace whose calls draw it.
+/// - `configs` reads nothing, and writes the eight configs, a line for each; `gen` too, and writes the trace that its numbers generate.
+///
+/// `play` is no command here, since it starts threads: `top` knows it.
 ///
 /// All output is made before the first write. A write that fails gives `WriteFault` in place of every other status. Memory is wanted only to read an input within the limit and to play it, and for the texts of commands that read nothing.
 pub fn plain<S: Source, K: Sink>(

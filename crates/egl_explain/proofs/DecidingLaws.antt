@@ -12,7 +12,7 @@ use Rattle.egl_calls.specs.declared.kinds.Kind.TheVariants.{Egl, Gl, Own}
 use Rattle.egl_calls.specs.declared.kinds.EglKind.{EglKind}
 use Rattle.egl_calls.specs.declared.kinds.GlKind.{GlKind}
 use Rattle.egl_calls.specs.declared.kinds.OwnKind.{OwnKind}
-use Rattle.egl_calls.specs.declared.kinds.OwnKind.TheVariants.{Post, Await, Census, ReadFront, ReadBuffer, WaitEnd, Halt}
+use Rattle.egl_calls.specs.declared.kinds.OwnKind.TheVariants.{WaitEnd}
 use Rattle.egl_calls.specs.contracts.kinds.EglKind as egl_kinds
 use Rattle.egl_calls.specs.contracts.kinds.GlKind as gl_kinds
 use Rattle.egl_calls.specs.contracts.kinds.OwnKind as own_kinds
@@ -36,9 +36,9 @@ use Rattle.egl_model.specs.EglCalls.{egl_effect, egl_refusal}
 use Rattle.egl_model.specs.Facts.{facts_of}
 use Rattle.egl_model.specs.GlCalls.{gl_effect, gl_refusal}
 use Rattle.egl_model.specs.GlFacts.{gl_facts_of}
-use Rattle.egl_model.specs.OwnCalls.{buffer_effect, buffer_refusal, own_effect}
+use Rattle.egl_model.specs.OwnCalls.{buffer_effect, buffer_refusal}
 use Rattle.egl_model.specs.State.{State, record_of}
-use Rattle.egl_model.specs.Step.{after_egl_rules, after_gl_rules, buffer_step_on, egl_step, gl_step, gl_step_on, step, step_by, step_in, wait_step}
+use Rattle.egl_model.specs.Step.{after_egl_rules, after_gl_rules, buffer_step_on, egl_step, gl_step, gl_step_on, own_step, step, step_by, step_in, wait_step}
 use Rattle.egl_model.specs.Waits.{ended, is_signalled, is_wait_end}
 use Rattle.driver_facts.specs.Verdicts.{gl_refusals, refusals, refusals_by}
 use Rattle.driver_facts.specs.declared.verdicts.Refusals.TheVariants.{Unjudged}
@@ -138,17 +138,19 @@ unfolding buffer_refusal gl_first
 on_buffer s t None c = refl
 on_buffer s t (Some n) c = first_gl c (gl_facts_of s t n c) ∙ gl_decided s n (first_error (gl_rows_by c.kind c (gl_facts_of s t n c))) (buffer_effect s t n c)
 
+buffer_decided : (s : State) (t : ℕ) (c : CallValue) → deciding (gl_refusals s t (current_context s t) c) ≡ refusal_in (buffer_step_on s t (current_context s t) c).reply.outcome
+buffer_decided s t c = on_buffer s t (current_context s t) c
+
+-- a call of this project is refused as one of OpenGL ES, or by nothing
+on_own : (s : State) (t : ℕ) (k : OwnKind) (c : CallValue) → deciding (refusals_by s t (Own k) c) ≡ refusal_in (own_step s t k c).reply.outcome
+on_own s t WaitEnd c = refl
+on_own s t k c = search (buffer_decided, not_refused)
+
 by_kind : (s : State) (t : ℕ) (k : Kind) (c : CallValue) → deciding (refusals_by s t k c) ≡ refusal_in (step_by s t k c).reply.outcome
 unfolding egl_step gl_step egl_refusal egl_first
 by_kind s t (Egl k) c = first_egl c (facts_of s t c) ∙ egl_decided s t (first_error (egl_rows_by c.kind c (facts_of s t c))) (egl_effect s t k c)
 by_kind s t (Gl k) c = on_gl s t (current_context s t) k c
-by_kind s t (Own ReadBuffer) c = on_buffer s t (current_context s t) c
-by_kind s t (Own WaitEnd) c = refl
-by_kind s t (Own Post) c = not_refused (own_effect s t Post c).waits
-by_kind s t (Own Await) c = not_refused (own_effect s t Await c).waits
-by_kind s t (Own Census) c = not_refused (own_effect s t Census c).waits
-by_kind s t (Own ReadFront) c = not_refused (own_effect s t ReadFront c).waits
-by_kind s t (Own Halt) c = not_refused (own_effect s t Halt c).waits
+by_kind s t (Own k) c = on_own s t k c
 
 -- ---- A thread that waits.
 in_wait : (s : State) (t : ℕ) (ends signalled : Bool) → None ≡ refusal_in (wait_step s t ends signalled).reply.outcome

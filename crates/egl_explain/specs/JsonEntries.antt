@@ -9,7 +9,7 @@ use Rattle.egl_names.specs.Names.{name_of}
 use Rattle.json_lines.specs.Lines.{list_data, number_data}
 use Rattle.serde_json.specs.Data.{Data, number, object, string, unsigned, Members, no_members, put}
 use Rattle.driver_facts.specs.declared.verdicts.Refusals.{Refusals}
-use Rattle.egl_explain.specs.CallNames.{call_name}
+use Rattle.call_table.specs.Names.{call_name}
 use Rattle.egl_explain.specs.Judged.{code_at}
 
 -- ---- Numbers.

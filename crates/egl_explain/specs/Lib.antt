@@ -4,7 +4,6 @@ pub mod Births
 pub mod Statuses
 pub mod Judged
 pub mod Pieces
-pub mod CallNames
 pub mod JsonEntries
 pub mod Formats
 pub mod Answers

@@ -1,10 +1,11 @@
 //! How the bytes of one line of a recording differ from those of another: as pixels where it is known how they lie.
 use crate::pages::{Ink, Page};
 use crate::source_lines::put_bar;
+use call_table::{Role, gl_role};
 use driver_core::Driver;
 use egl_calls::arguments::{number, signed};
 use egl_calls::places::{FORMAT, FRONT, HEIGHT, WIDTH};
-use egl_calls::{Entry, GlKind, Kind, OwnKind};
+use egl_calls::{Entry, Kind, OwnKind};
 use egl_names::codes::GL_RGBA;
 use trace_reader::hexadecimals::{are_hex_digits, hex_digit};
 
@@ -38,25 +39,31 @@ impl Layout {
         }
     }
 
+    /// That of a rectangle that is read.
+    fn of_rectangle(entry: &Entry) -> Layout {
+        let call = &entry.call;
+        let pixel = if number(call, FORMAT) == GL_RGBA {
+            WIDE_PIXEL
+        } else {
+            NARROW_PIXEL
+        };
+        let (stride, _) = divided(entry.reply.bytes.len() as u64, number(call, HEIGHT));
+        Layout {
+            pixel,
+            width: number(call, WIDTH),
+            stride,
+            row: 0,
+        }
+    }
+
     /// That of the pixels that an entry answers.
     pub fn of_entry(driver: &Driver, entry: &Entry) -> Option<Layout> {
         let call = &entry.call;
         match call.kind {
-            Kind::Gl(GlKind::ReadPixels) => {
-                let height = number(call, HEIGHT);
-                let pixel = if number(call, FORMAT) == GL_RGBA {
-                    WIDE_PIXEL
-                } else {
-                    NARROW_PIXEL
-                };
-                let (stride, _) = divided(entry.reply.bytes.len() as u64, height);
-                Some(Layout {
-                    pixel,
-                    width: number(call, WIDTH),
-                    stride,
-                    row: 0,
-                })
-            }
+            Kind::Gl(kind) => match gl_role(kind) {
+                Role::ReadsPixels => Some(Layout::of_rectangle(entry)),
+                _ => None,
+            },
             Kind::Own(OwnKind::ReadFront) => {
                 let width = u64::from(driver.front(signed(call, FRONT))?.width());
                 Some(Layout {

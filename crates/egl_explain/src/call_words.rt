@@ -52,7 +52,7 @@ fn marks(form: Form) -> (&'static str, &'static str) {
         Form::NumberOrVariable => ("", "*"),
         Form::AttributeList | Form::NumberList => ("[", "]"),
         Form::NameList => ("[", "*]"),
-        Form::Number | Form::PostNumber | Form::Timeout | Form::Payload => ("", ""),
+        Form::Number | Form::Config | Form::PostNumber | Form::Timeout | Form::Payload => ("", ""),
     }
 }
 

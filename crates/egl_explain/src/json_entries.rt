@@ -4,15 +4,14 @@ ghost use Rattle.std.specs.Option.{option_map};
 ghost use Rattle.json_lines.specs.Lists.{items_of_list};
 ghost use Rattle.json_lines.specs.Objects.{members_of};
 ghost use Rattle.serde_json.specs.Data.{object, put};
-ghost use Rattle.egl_explain.specs.CallNames.{call_name, egl_name, gl_name, own_name};
 ghost use Rattle.egl_explain.specs.JsonEntries.{AreRows, TellsEntry, TellsRows, call_members, codes_of, is_refused, kind_members, line_members, named_data, outcome_data, played_members, row_data, with_name, with_values};
 
 use crate::entry_lines::code_at;
 use crate::headers::name_with;
 use crate::row_words::row_words;
-use call_table::{EGL_CALLS, GL_CALLS, OWN_CALLS};
+use call_table::call_name;
 use driver_core::Refusals;
-use egl_calls::{Call, EglKind, Entry, GlKind, Kind, NoMemory, Outcome, OwnKind, Reply};
+use egl_calls::{Call, Entry, Kind, NoMemory, Outcome, Reply};
 use egl_names::name_of;
 use json_lines::{JsonList, JsonObject};
 use refusal_rows::MOST_ROWS;
@@ -40,38 +39,6 @@ pub fn object_of_line(
     object.put_count("thread", u64::from(thread))?;
     object.put_count("line", line)?;
     Ok(object)
-}
-
-fn egl_name(kind: EglKind) -> &'static str
-    ensures { result.now ≡ egl_name kind }
-{
-    EGL_CALLS[kind as usize].0
-}
-
-fn gl_name(kind: GlKind) -> &'static str
-    ensures { result.now ≡ gl_name kind }
-{
-    GL_CALLS[kind as usize].0
-}
-
-fn own_name(kind: OwnKind) -> &'static str
-    ensures { result.now ≡ own_name kind }
-{
-    match OWN_CALLS.get(kind as usize) {
-        Some(row) => row.0,
-        None => "",
-    }
-}
-
-/// The word that names a call.
-fn call_name(kind: Kind) -> &'static str
-    ensures { result.now ≡ call_name kind }
-{
-    match kind {
-        Kind::Egl(kind) => egl_name(kind),
-        Kind::Gl(kind) => gl_name(kind),
-        Kind::Own(kind) => own_name(kind),
-    }
 }
 
 /// A number, by its name where it has one.

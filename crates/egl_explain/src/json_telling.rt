@@ -90,7 +90,7 @@ fn put_cause(
             )?;
             put_awaited(object, line)
         }
-        Cause::Post(number, line) => {
+        Cause::Unposted(number, line) => {
             object.put_text("for", "post")?;
             object.put_count("post", number)?;
             match line {

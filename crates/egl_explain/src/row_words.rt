@@ -3,23 +3,15 @@ ghost use Rattle.std.specs.Prelude.{◌≡◌, nat_lt, is_some, length};
 ghost use Rattle.call_table.specs.Rows.{egl_rules, gl_rules, own_rules};
 ghost use Rattle.egl_explain.specs.Judged.{row_count};
 
-use call_table::{EglCondition, egl_rules, gl_rules, own_rules};
+use call_table::{egl_rules, gl_rules, own_rules};
 use egl_calls::{EglKind, GlKind, Kind, OwnKind};
-
-/// What a condition of EGL says. Siblings stay siblings when the image is destroyed that made them.
-fn egl_words(condition: EglCondition) -> &'static str {
-    match condition {
-        EglCondition::Sibling => "an EGL image, or what was made of one, has the pixels already",
-        _ => condition.words(),
-    }
-}
 
 /// What the row of a call of EGL at a place says.
 fn egl_row_words(kind: EglKind, place: usize) -> Option<&'static str>
     ensures { is_some result ≡ nat_lt place (length (egl_rules kind)) }
 {
     match egl_rules(kind).get(place) {
-        Some((condition, _)) => Some(egl_words(*condition)),
+        Some((condition, _)) => Some(condition.words()),
         None => None,
     }
 }

@@ -105,12 +105,12 @@ fn waited_for(inventory: &Inventory, thread: u32) -> Option<u64> {
     kept.wait
 }
 
-/// Why a thread waits at a line: for a sync, by its number; for the answer of a line that isn't played; or for the post of a number.
+/// Why a thread waits at a line: for a sync, by its number; for the answer of a line that isn't played; or for a number that isn't posted.
 #[derive(Clone, Copy, Drop)]
 pub enum Cause<'a> {
     Sync(u64),
     Answer(&'a Line),
-    Post(u64, Option<&'a Line>),
+    Unposted(u64, Option<&'a Line>),
     Unknown,
 }
 
@@ -136,7 +136,7 @@ fn cause_of<'a>(
     }
     if is_await(line.call.kind()) {
         let number = awaited(&line.call);
-        return Cause::Post(number, posting(trace, number));
+        return Cause::Unposted(number, posting(trace, number));
     }
     Cause::Unknown
 }
@@ -152,7 +152,7 @@ pub fn put_wait(page: &mut Page, inventory: &Inventory, wait: &Wait<'_>) {
     match wait.cause {
         Cause::Sync(sync) => put_unsignalled(page, inventory, sync),
         Cause::Answer(other) => put_unanswered(page, inventory.lines, other),
-        Cause::Post(number, line) => put_unposted(page, line, number),
+        Cause::Unposted(number, line) => put_unposted(page, line, number),
         Cause::Unknown => {}
     }
 }

@@ -22,7 +22,7 @@ pub trait Sink {
         ensures count { faults self.old ≤ faults self.new };
 }
 
-/// A call of the sink failed. What it took is a front part of the bytes, and not all of them.
+/// A call of the sink failed. What it took is a prefix of the bytes, and not all of them.
 #[derive(Clone, Copy, Debug, PartialEq, Eq, Drop)]
 pub struct WriteFault;
 

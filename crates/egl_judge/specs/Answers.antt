@@ -1,8 +1,8 @@
 -- What the program answers to bytes.
-use Rattle.std.specs.Prelude.{◌≡◌, ℕ, ◌++◌, Bool, true, false, ◌==◌, nat_lt, List, length, codes, decimal, if◌then◌else◌, Result, Ok as Spelt, Err}
-use Rattle.egl_flow.specs.Inputs.{most_input, too_long_text}
+use Rattle.std.specs.Prelude.{◌≡◌, ℕ, ◌++◌, Bool, true, false, ◌==◌, List, codes, decimal, if◌then◌else◌, Result, Ok as Spelt, Err}
+use Rattle.egl_flow.specs.declared.responding.Answer.{Answer}
 use Rattle.egl_flow.specs.declared.statuses.Status.{Status}
-use Rattle.egl_flow.specs.declared.statuses.Status.TheVariants.{Ok, Malformed, TooLong, Differs}
+use Rattle.egl_flow.specs.declared.statuses.Status.TheVariants.{Ok, Malformed, Differs}
 use Rattle.log_reader.specs.declared.reasons.LogDefect.{LogDefect}
 use Rattle.log_reader.specs.declared.reasons.LogReason.{LogReason}
 use Rattle.log_reader.specs.Grammar.{log}
@@ -10,7 +10,6 @@ use Rattle.log_reader.specs.Logs.{LogValue}
 use Rattle.log_reader.specs.Reasons.{log_reason_name}
 use Rattle.driver_judge.specs.Judgements.{judgement}
 use Rattle.driver_judge.specs.Values.{JudgementValue}
-use Rattle.egl_judge.specs.declared.answers.Answer.{Answer}
 use Rattle.egl_judge.specs.declared.requests.Request.{Request}
 use Rattle.egl_judge.specs.Judgements.{count_of, differs, judgement_text}
 
@@ -32,9 +31,9 @@ answer_or_defect delta (Err d) = record { text = malformed_text d.line d.reason;
 unfoldable pub answer : ℕ → List ℕ → Answer
 answer delta bytes = answer_or_defect delta (log bytes)
 
--- a text for people says what no definition fixes
+-- a text for people has more behind what is said to programs, which no definition fixes as a whole
 abbrev pub IsTextOf : Bool → List ℕ → List ℕ → Type 0
-IsTextOf true said text = Unit {0}
+IsTextOf true said text = (more : List ℕ) × (text ≡ said ++ more)
 IsTextOf false said text = text ≡ said
 
 -- what is made of bytes: its status is that of their answer, and its text too where it isn't for people

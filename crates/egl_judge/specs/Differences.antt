@@ -19,7 +19,7 @@ abbrev pub first_text : PixelDifference → List ℕ
 first_text p = decimal p.x ++ codes " " ++ decimal p.y ++ codes " " ++ bytes_text p.expected ++ codes " " ++ bytes_text p.found
 
 unfoldable pub difference_text : Difference → List ℕ
-difference_text (Outcome expected found) = codes "outcome " ++ parted outcome_text expected ++ codes " " ++ outcome_text found
+difference_text (Outcome expected found kind refusals) = codes "outcome " ++ parted outcome_text expected ++ codes " " ++ outcome_text found
 difference_text (Value expected found) = codes "value " ++ optional_text expected ++ codes " " ++ long_text found
 difference_text (Items expected found) = codes "list [" ++ parted optional_text expected ++ codes "] [" ++ parted long_text found ++ codes "]"
 difference_text (Pixels p) = codes "pixels " ++ count_text p ++ codes " " ++ box_text p ++ codes " " ++ first_text p

@@ -8,7 +8,7 @@ use Rattle.driver_judge.specs.declared.judgements.Note.{Note}
 use Rattle.driver_judge.specs.declared.judgements.Unjudged.{Unjudged as Why}
 use Rattle.driver_judge.specs.declared.judgements.Unjudged.TheVariants.{Config, Name}
 use Rattle.driver_judge.specs.Values.{JudgementValue}
-use Rattle.egl_judge.specs.CallNames.{call_name}
+use Rattle.call_table.specs.Names.{call_name}
 use Rattle.egl_judge.specs.Differences.{difference_text}
 
 -- ---- How many there are.

@@ -1,6 +1,7 @@
 pub mod Numbers
-pub mod CallNames
 pub mod Differences
+pub mod Reasons
+pub mod Explaining
 pub mod Judgements
 pub mod Requests
 pub mod Answers

@@ -1,25 +1,18 @@
 //! What the program answers to bytes.
-ghost use Rattle.std.specs.Prelude.{◌≡◌, ◌≤◌, length, IfOk};
+ghost use Rattle.std.specs.Prelude.{◌≡◌, ◌≤◌, IfOk};
 ghost use Rattle.driver_judge.specs.Judgements.{judgement};
 ghost use Rattle.egl_judge.specs.Answers.{Answers, IsTextOf, answer, judged_status, malformed_text};
 ghost use Rattle.egl_judge.specs.Judgements.{judgement_text};
 
-use crate::explaining::put_explained;
+use crate::explaining::explained;
 use crate::judgements::{count_differences, judgement_text};
 use crate::requests::Request;
 use driver_judge::{Judgement, judge};
 use egl_calls::{Bytes, NoMemory};
-use egl_flow::Status;
+use egl_flow::{Answer, Responder, Status};
 use journal_text::texts::{put_byte, put_decimal_and_space, put_text};
 use log_reader::{Log, LogError, LogReason};
 use std::alloc::Global;
-
-/// A text, and the status that the program ends with when it is written.
-#[derive(Drop)]
-pub struct Answer {
-    pub text: Bytes,
-    pub status: Status,
-}
 
 /// A driver that differs nowhere is held.
 fn judged_status(judgement: &Judgement) -> Status
@@ -32,21 +25,22 @@ fn judged_status(judgement: &Judgement) -> Status
     }
 }
 
-/// What is said to programs, and behind that to people where it is asked for.
+/// What is said to programs, and behind that what is told to people where it is asked for.
 #[tactic(auto, using(crate::proofs::AnswerLaws::for_people, crate::proofs::AnswerLaws::for_programs))]
 fn text_of(
     alloc: Global,
-    explained: bool,
+    for_people: bool,
     bytes: &Bytes,
     judgement: &Judgement,
 ) -> Result<Bytes, NoMemory>
-    ensures { IfOk result (IsTextOf explained (judgement_text judgement.now)) }
+    ensures { IfOk result (IsTextOf for_people (judgement_text judgement.now)) }
 {
     let mut text = judgement_text(alloc, judgement)?;
-    if !explained {
+    if !for_people {
         return Ok(text);
     }
-    put_explained(alloc, &mut text, bytes.as_slice(), judgement)?;
+    let more = explained(alloc, bytes.as_slice(), judgement)?;
+    text.extend(more.as_slice())?;
     Ok(text)
 }
 
@@ -83,7 +77,7 @@ fn malformed_text(alloc: Global, line: u64, reason: LogReason) -> Result<Bytes, 
 
 /// What is said to bytes.
 #[tactic(auto, unfolding(crate::specs::Answers::answer), using(crate::proofs::AnswerLaws::said))]
-pub fn answer_to(alloc: Global, request: Request, bytes: &Bytes) -> Result<Answer, NoMemory>
+fn answer_to(alloc: Global, request: Request, bytes: &Bytes) -> Result<Answer, NoMemory>
     requires { request.delta ≤ 255 }
     ensures { IfOk result (Answers request bytes.now) }
 {
@@ -94,5 +88,19 @@ pub fn answer_to(alloc: Global, request: Request, bytes: &Bytes) -> Result<Answe
             status: Status::Malformed,
         }),
         Err(LogError::NoMemory) => Err(NoMemory),
+    }
+}
+
+/// Answers bytes by what is asked for.
+impl Responder for Request {
+    ghost use Rattle.std.specs.Prelude.{◌≤◌};
+    ghost use Rattle.egl_judge.specs.Answers.{Answers};
+
+    ghost asks = { λ q. q.delta ≤ 255 };
+
+    ghost answers = { Answers };
+
+    fn answer(&self, alloc: Global, bytes: &Bytes) -> Result<Answer, NoMemory> {
+        answer_to(alloc, *self, bytes)
     }
 }

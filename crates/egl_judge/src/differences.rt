@@ -58,7 +58,12 @@ pub fn put_difference(out: &mut Bytes, difference: &Difference) -> Result<(), No
     ensures { OnOk result (out.new ≡ out.old ++ difference_text difference.now) }
 {
     match difference {
-        Difference::Outcome { expected, found } => {
+        Difference::Outcome {
+            expected,
+            found,
+            kind: _,
+            refusals: _,
+        } => {
             put_text(out, "outcome ")?;
             put_outcomes(out, expected.as_slice())?;
             put_byte(out, b' ')?;

@@ -3,8 +3,8 @@ ghost use Rattle.std.specs.Prelude.{◌≡◌, ◌≤◌, ◌++◌, codes, lengt
 ghost use Rattle.std.specs.List.{flat_map};
 ghost use Rattle.egl_judge.specs.Judgements.{agreed_text, count_of, cut_text, differs, end_text, head_text, is_after, is_unjudged, judgement_text, last_text, note_text, told_text, verdict_text, why_text, word_text};
 
-use crate::call_names::call_name;
 use crate::differences::put_difference;
+use call_table::call_name;
 use driver_judge::{CutCall, Judgement, LineVerdict, Note, Unjudged};
 use egl_calls::{Bytes, NoMemory, Text};
 use journal_text::texts::{put_byte, put_decimal, put_decimal_and_space, put_text};

@@ -6,16 +6,15 @@
 #![tactic(auto)]
 
 mod answers;
-mod call_names;
 mod differences;
 mod explaining;
 mod judgements;
 mod numbers;
 mod process;
+mod reasons;
 mod requests;
 mod responding;
 
-pub use answers::Answer;
 pub use judgements::judgement_text;
 pub use process::run;
 pub use requests::Request;

@@ -7,6 +7,7 @@ use Rattle.std.specs.Option.{option_map_or, option_or, option_map}
 use Rattle.std.specs.List.{slice_split, onto_first, position_or_len, All, list_any, list_all, filter_map, fold, cons_option}
 use Rattle.std.proofs.lemmas.List.Splits.{slice_split_none, slice_split_first}
 use Rattle.std.proofs.lemmas.List.Sums.{fails_before_first, position_or_len_is}
+use Rattle.std.proofs.lemmas.Bool.{and_right}
 use Rattle.egl_names.specs.Names.{bit_word, is_bit_word, code_of, number_word, plain_words, value_in}
 use Rattle.egl_names.specs.Joined.{is_bar, parts, is_unknown_name, joined_bits, joined, joined_word, known_word, begins_with, is_name_start}
 use Rattle.egl_names.specs.Parts.{part_of, is_unknown_part, with_part, word_of_bits, single_word, joined_parts}
@@ -75,16 +76,12 @@ bit_is_known w b e = ap (λ (o : Option ℕ). is_none (option_or (option_map pos
     go None (Some x) = refl
     go None None = refl
 
-and_false : (a b : Bool) → b ≡ false → (a && b) ≡ false
-and_false true b e = e
-and_false false b e = refl
-
 -- which parts are unknown names
 unknown_is : (w : List ℕ) → is_unknown_part (part_of w) ≡ is_unknown_name w
 unknown_is w = go (bit_word w) (is_unknown_name w) refl refl
   where
     go : (o : Option ℕ) (u : Bool) → bit_word w ≡ o → is_unknown_name w ≡ u → is_unknown_part (option_map_or PartBit o (if u then PartUnknownName else NoBit)) ≡ u
-    go (Some b) u f g = sym (and_false (begins_with is_name_start w) (is_none (known_word w)) (bit_is_known w b f)) ∙ g
+    go (Some b) u f g = sym (and_right (begins_with is_name_start w) (is_none (known_word w)) (bit_is_known w b f)) ∙ g
     go None true f g = refl
     go None false f g = refl
 

@@ -1,11 +1,11 @@
 -- A word stands in its list where it stands in the row of its length.
-use Rattle.std.proofs.Common.{◌≡◌, ℕ, zero, suc, ◌+◌, ◌<◌, ◌≤◌, Bool, true, false, ◌&&◌, List, [], ◌∷◌, ◌++◌, length, refl, sym, ap, ◌∙◌, arith, cond, eqb, ltb, Option, None, Some, append_assoc, length-append, get_or}
+use Rattle.std.proofs.Common.{◌≡◌, ℕ, zero, suc, ◌+◌, ◌<◌, ◌≤◌, Bool, true, false, List, [], ◌∷◌, ◌++◌, length, refl, sym, ap, ◌∙◌, arith, cond, eqb, ltb, Option, None, Some, append_assoc, length-append, get_or}
 use Rattle.std.specs.List.{position_from, list_all, slice_get}
 use Rattle.std.specs.Option.{option_map_or}
 use Rattle.std.specs.Str.{bytes_eq}
 use Rattle.std.proofs.lemmas.Slice.Eq.{bytes_eq-Decides}
 use Rattle.std.proofs.lemmas.Bool.Decides.{Decides-eqb}
-use Rattle.std.proofs.lemmas.Bool.{false≢true}
+use Rattle.std.proofs.lemmas.Bool.{false≢true, and_parts}
 use Rattle.std.proofs.lemmas.Option.{slice_get_within, get_or_from_slice_get}
 use Rattle.std.proofs.lemmas.List.FromFn.{get_or-map-range_with_len}
 use borrow.Author.Tests.{ltb-true}
@@ -61,10 +61,6 @@ found_in_row words rows w row h g = ap (λ (x : List ℕ). first_at words x w) (
 shorter : (x w : List ℕ) (n : ℕ) (b : Bool) → bytes_eq x w ≡ b → n ≤ length w → length x < n → b ≡ false
 shorter x w n false e l s = refl
 shorter x w n true e l s = let same : length x ≡ length w = ap length ((bytes_eq-Decides x w).0 e) in absurd (omega arith)
-
-and_parts : (a b : Bool) → (a && b) ≡ true → (a ≡ true) × (b ≡ true)
-and_parts true b h = (refl, h)
-and_parts false b h = absurd (false≢true h)
 
 -- no word is as long as a text without a row
 none_longer : (w : List ℕ) (n k : ℕ) (words : List (List ℕ)) → n ≤ length w → list_all (λ x. ltb (length x) n) words ≡ true → position_from (λ x. bytes_eq x w) k words ≡ None

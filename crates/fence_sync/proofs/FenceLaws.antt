@@ -1,11 +1,12 @@
 -- Fences that are listed by their numbers.
-use Rattle.std.proofs.Common.{◌≡◌, ◌≢◌, ℕ, zero, suc, ◌+◌, ◌<◌, ◌≤◌, Bool, true, false, not, ◌||◌, ◌==◌, if◌then◌else◌, [], ◌∷◌, ◌++◌, Option, None, Some, refl, sym, ◌∙◌, ap, arith, add-one, inl, inr, IfSome, map, subst}
+use Rattle.std.proofs.Common.{◌≡◌, ◌≢◌, ℕ, zero, suc, ◌+◌, ◌<◌, ◌≤◌, Bool, true, false, not, ◌==◌, if◌then◌else◌, [], ◌∷◌, ◌++◌, Option, None, Some, refl, sym, ◌∙◌, ap, arith, add-one, inl, inr, IfSome, map, subst}
 use Rattle.std.specs.List.{filter, find}
 use Rattle.std.specs.Option.{option_to_list, option_or, option_map, is_some}
 use Rattle.std.proofs.lemmas.List.{map-append}
 use Rattle.std.proofs.lemmas.List.Elements.{filter-append}
 use Rattle.std.proofs.lemmas.List.Folds.{find-append}
 use Rattle.std.proofs.lemmas.Bool.{cases_eq, ne_eqb, eq-eqb, le-ltb, lt-ltb}
+use Rattle.egl_calls.proofs.Truths.{or_true}
 use Rattle.fence_sync.specs.declared.fences.Fence.{Fence}
 use Rattle.fence_sync.specs.declared.tables.Kept.{Kept}
 use Rattle.fence_sync.specs.Fences.{flushed, flushed_of, is_of, is_signalled, signalled, signalled_in, signalled_one, without}
@@ -103,16 +104,12 @@ signalled_found sync made kept u t =
 
 -- a context is flushed
 
-or-true : (b : Bool) → (b || true) ≡ true
-or-true true = refl
-or-true false = refl
-
 flushed_one : (context n : ℕ) (u w : ℕ → Option ℕ) (o : Option Kept) → is_flushed (w context) n ≡ true → ((c : ℕ) → c ≢ context → w c ≡ u c) → map (flushed_of context) (option_to_list (fence_of u n o)) ≡ option_to_list (fence_of w n o)
 flushed_one context n u w None h e = refl
 flushed_one context n u w (Some k) h e = elim (cases_eq k.context context) [
   | inl q ↦
       let new : is_flushed (w k.context) n ≡ true = ap (λ c. is_flushed (w c) n) q ∙ h in
-      rw (eq-eqb k.context context q, new, or-true k.is_signalled) refl
+      rw (eq-eqb k.context context q, new, or_true k.is_signalled) refl
   | inr ne ↦ rw (ne_eqb k.context context ne, e k.context ne) refl
 ]
 

@@ -60,7 +60,7 @@ pub(crate) fn kept_at(table: &Table, n: u64) -> Option<Kept>
     table.get(&n).copied()
 }
 
-/// The fences of a context from this number on aren't flushed, where none of them says otherwise.
+/// The fences of a context from this number on aren't flushed.
 pub(crate) fn note(contexts: &mut Contexts, context: u64, from: u64) -> Result<(), NoMemory>
     ensures noted { OnOk result ((k : ℕ) → get nat_cmp contexts.new k ≡ (if k == context then Some from else get nat_cmp contexts.old k)) }
     ensures joined { OnOk result (keys contexts.new ≡ insert_key nat_cmp (keys contexts.old) context) }

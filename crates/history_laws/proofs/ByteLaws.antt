@@ -11,7 +11,10 @@ use Rattle.std.proofs.lemmas.Option.{none-some, same_Some}
 use Rattle.egl_calls.specs.Arguments.{number, signed}
 use Rattle.egl_calls.specs.Calls.{CallValue}
 use Rattle.egl_calls.specs.Ranges.{unsigned}
-use Rattle.egl_calls.specs.declared.kinds.GlKind.TheVariants.{BufferData, CopyTexImage2d, RenderbufferStorage, TexImage2d}
+use Rattle.egl_calls.specs.declared.kinds.GlKind.{GlKind}
+use Rattle.call_table.specs.Rows.{gl_role}
+use Rattle.call_table.specs.declared.roles.Role.TheVariants.{Copies, Specifies}
+use Rattle.share_group.specs.declared.names.NameKind.TheVariants.{Buffer as buffers, Renderbuffer as renderbuffers, Texture as textures}
 use Rattle.pixel_formats.specs.Formats.{bytes_of}
 use Rattle.pixel_formats.specs.declared.formats.Format.{Format}
 use Rattle.pixel_rows.specs.Images.{ImageValue, blank, frozen}
@@ -36,10 +39,11 @@ use Rattle.egl_model.specs.State.{State}
 use Rattle.egl_model.specs.Sweep.{bytes_in, live_bytes}
 use Rattle.egl_model.specs.Textures.{change_pixels, has_no_side, image_bytes, level_of, new_level, specified, specified_in, target_texture, unpack_alignment, with_pixels}
 use Rattle.model_laws.specs.Laws.{IsAllowedGl}
-use Rattle.model_laws.proofs.CopyCalls.{copy_passed}
-use Rattle.model_laws.proofs.Places.{below}
-use Rattle.model_laws.proofs.RenderbufferCalls.{storage_passed}
-use Rattle.model_laws.proofs.TextureCalls.{side_few, small, specify_allowed}
+use Rattle.model_laws.proofs.Calls.CopyCalls.{copy_passed}
+use Rattle.model_laws.proofs.References.Places.{below}
+use Rattle.model_laws.proofs.Calls.RenderbufferCalls.{storage_passed}
+use Rattle.model_laws.proofs.Calls.TextureCalls.{side_few, small, specify_allowed}
+use Rattle.history_laws.proofs.MemoryRows.{of_role}
 
 -- ---- An object that is put in a place for one with as many bytes.
 same_at : (os : List (Option Object)) (n : ℕ) (o : Option Object) → bytes_in o ≡ bytes_in (get_or os n None) → live_bytes (set os n o) ≡ live_bytes os
@@ -106,10 +110,13 @@ image_at : (s : State) (c : CallValue) (align x : ℕ) (o : Option ℕ) → o �
 image_at s c align x None e a b = absurd (none-some x e)
 image_at s c align x (Some y) e a b = specified_bytes (level_of c) (new_level c align) y s.objects ∙ ap (λ k. live_bytes s.objects + k) (level_bytes c align a b)
 
-pub image_counted : (s : State) (t n x : ℕ) (c : CallValue) → IsAllowedGl s t n TexImage2d c → target_texture s n ≡ Some x → live_bytes (gl_effect s t n TexImage2d c).state.objects ≡ live_bytes s.objects + image_bytes c
-image_counted s t n x c h e =
+abbrev CountsImage : State → ℕ → ℕ → ℕ → CallValue → GlKind → Type 0
+CountsImage s t n x c k = IsAllowedGl s t n k c → target_texture s n ≡ Some x → live_bytes (gl_effect s t n k c).state.objects ≡ live_bytes s.objects + image_bytes c
+
+pub image_counted : (s : State) (t n x : ℕ) (k : GlKind) (c : CallValue) → gl_role k ≡ Specifies textures → CountsImage s t n x c k
+image_counted s t n x k c r = of_role (Specifies textures) (CountsImage s t n x c) k r (λ h e.
     let f = specify_allowed s t n c h.call.kind h.allowed in
-    image_at s c (unpack_alignment s n) x (target_texture s n) e (side_few _ (signed c 3) f.width) (side_few _ (signed c 4) f.height)
+    image_at s c (unpack_alignment s n) x (target_texture s n) e (side_few _ (signed c 3) f.width) (side_few _ (signed c 4) f.height))
 
 -- ---- glCopyTexImage2D.
 copy_bytes : (c : CallValue) (i : ImageValue) → unsigned (signed c 5) ≤ 1024 → unsigned (signed c 6) ≤ 1024 → storage_bytes (copied_level c i) ≡ copied_bytes c
@@ -130,10 +137,13 @@ copy_at s t x c i None e r a b = absurd (none-some x e)
 copy_at s t x c i (Some y) e r a b = cond_both (copies_nothing c) (specified (level_of c) None (Some y) s) (copied_from (read_image s t) c (Some y) s) (λ (z : State). live_bytes z.objects ≡ live_bytes s.objects + copied_bytes c)
     (λ q. nothing_copied s c y q) (λ q. from_image s c i y (read_image s t) r a b)
 
-pub copy_counted : (s : State) (t n x : ℕ) (c : CallValue) (i : ImageValue) → IsAllowedGl s t n CopyTexImage2d c → target_texture s n ≡ Some x → read_image s t ≡ Some i → live_bytes (gl_effect s t n CopyTexImage2d c).state.objects ≡ live_bytes s.objects + copied_bytes c
-copy_counted s t n x c i h e r =
+abbrev CountsCopy : State → ℕ → ℕ → ℕ → CallValue → ImageValue → GlKind → Type 0
+CountsCopy s t n x c i k = IsAllowedGl s t n k c → target_texture s n ≡ Some x → read_image s t ≡ Some i → live_bytes (gl_effect s t n k c).state.objects ≡ live_bytes s.objects + copied_bytes c
+
+pub copy_counted : (s : State) (t n x : ℕ) (k : GlKind) (c : CallValue) (i : ImageValue) → gl_role k ≡ Copies → CountsCopy s t n x c i k
+copy_counted s t n x k c i r = of_role Copies (CountsCopy s t n x c i) k r (λ h e r.
     let f = copy_passed s t n c h.call.kind h.allowed in
-    copy_at s t x c i (target_texture s n) e r (side_few _ (signed c 5) f.width) (side_few _ (signed c 6) f.height)
+    copy_at s t x c i (target_texture s n) e r (side_few _ (signed c 5) f.width) (side_few _ (signed c 6) f.height))
 
 -- ---- glRenderbufferStorageOES.
 within_sides : (n : ℕ) → n ≤ 2048 → min n 2048 ≡ n
@@ -154,10 +164,13 @@ storage_at s c x (Some y) e a b =
     ∙ ap (λ k. k + bytes_given (new_pixels c)) (kinded_same (new_kind c) y s.objects)
     ∙ ap (λ k. live_bytes s.objects + k) (blank_bytes (number c 2) (number c 3) (format_of (number c 1)) a b)
 
-pub storage_counted : (s : State) (t n x : ℕ) (c : CallValue) → IsAllowedGl s t n RenderbufferStorage c → target_renderbuffer s n ≡ Some x → live_bytes (gl_effect s t n RenderbufferStorage c).state.objects ≡ live_bytes s.objects + renderbuffer_bytes c
-storage_counted s t n x c h e =
+abbrev CountsStorage : State → ℕ → ℕ → ℕ → CallValue → GlKind → Type 0
+CountsStorage s t n x c k = IsAllowedGl s t n k c → target_renderbuffer s n ≡ Some x → live_bytes (gl_effect s t n k c).state.objects ≡ live_bytes s.objects + renderbuffer_bytes c
+
+pub storage_counted : (s : State) (t n x : ℕ) (k : GlKind) (c : CallValue) → gl_role k ≡ Specifies renderbuffers → CountsStorage s t n x c k
+storage_counted s t n x k c r = of_role (Specifies renderbuffers) (CountsStorage s t n x c) k r (λ h e.
     let f = storage_passed s t n c h.call.kind h.allowed in
-    storage_at s c x (target_renderbuffer s n) e (longest (signed c 2) f.width.high) (longest (signed c 3) f.height.high)
+    storage_at s c x (target_renderbuffer s n) e (longest (signed c 2) f.width.high) (longest (signed c 3) f.height.high))
 
 -- ---- glBufferData.
 is_buffer : (o : Option Object) (b : BufferValue) → as_buffer o ≡ Some b → o ≡ Some (Buffer b)
@@ -178,5 +191,9 @@ contents_at : (s : State) (c : CallValue) (x : ℕ) (b : BufferValue) (o : Optio
 contents_at s c x b None e h = absurd (none-some x e)
 contents_at s c x b (Some y) e h = contents_in s.objects c y b (ap (λ k. get_or s.objects k None) (same_Some y x e) ∙ is_buffer (get_or s.objects x None) b h)
 
-pub contents_counted : (s : State) (t n x : ℕ) (c : CallValue) (b : BufferValue) → IsAllowedGl s t n BufferData c → target_buffer s n c ≡ Some x → buffer_in s.objects x ≡ Some b → live_bytes (gl_effect s t n BufferData c).state.objects + length b.contents ≡ live_bytes s.objects + number c 1
-contents_counted s t n x c b h e i = contents_at s c x b (target_buffer s n c) e i
+abbrev CountsContents : State → ℕ → ℕ → ℕ → CallValue → BufferValue → GlKind → Type 0
+CountsContents s t n x c b k = IsAllowedGl s t n k c → target_buffer s n c ≡ Some x → buffer_in s.objects x ≡ Some b → live_bytes (gl_effect s t n k c).state.objects + length b.contents ≡ live_bytes s.objects + number c 1
+
+pub contents_counted : (s : State) (t n x : ℕ) (k : GlKind) (c : CallValue) (b : BufferValue) → gl_role k ≡ Specifies buffers → CountsContents s t n x c b k
+contents_counted s t n x k c b r = of_role (Specifies buffers) (CountsContents s t n x c b) k r (λ h e i.
+    contents_at s c x b (target_buffer s n c) e i)

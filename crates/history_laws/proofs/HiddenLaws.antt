@@ -6,10 +6,10 @@ use Rattle.egl_model.specs.State.{State, record_of}
 use Rattle.egl_model.specs.Sweep.{edges_at, edges_in, references, roots}
 use Rattle.egl_model.specs.Waits.{is_signalled}
 use Rattle.model_laws.specs.Hidden.{hide, nothing}
-use Rattle.model_laws.proofs.Blinds.{signalled-put}
-use Rattle.model_laws.proofs.LitterLaws.{roots-set_error}
-use Rattle.model_laws.proofs.Puts.{record-put}
-use Rattle.model_laws.proofs.Writes.{blind-edges, edges_at-written, sum-written}
+use Rattle.model_laws.proofs.Steps.Blinds.{signalled-put}
+use Rattle.model_laws.proofs.References.LitterLaws.{roots-set_error}
+use Rattle.model_laws.proofs.Parts.Puts.{record-put}
+use Rattle.model_laws.proofs.Changes.Writes.{blind-edges, edges_at-written, sum-written}
 
 pub windows-hide : (s : State) (out : List ℕ) → (hide out s).windows ≡ s.windows
 windows-hide s [] = refl

@@ -18,7 +18,7 @@ use Rattle.egl_model.specs.Objects.{as_texture, change_buffer, change_context, c
 use Rattle.egl_model.specs.State.{State}
 use Rattle.egl_model.specs.Sweep.{swept}
 use Rattle.egl_model.specs.Textures.{change_pixels, specified_in, with_pixels}
-use Rattle.model_laws.proofs.TextureLaws.{swept_same}
+use Rattle.model_laws.proofs.Pixels.TextureLaws.{swept_same}
 use Rattle.history_laws.specs.Levels.{HaveLevels}
 
 abbrev pub Eleven : Option Object → Type 0

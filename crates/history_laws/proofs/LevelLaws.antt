@@ -61,8 +61,8 @@ use Rattle.egl_model.specs.Textures.{level_of, rewritten_part, set_crop, set_par
 use Rattle.egl_model.specs.Waits.{is_signalled, waiting}
 use Rattle.egl_model.specs.Windows.{created_window, swapped, swapped_surface, swapped_with}
 use Rattle.model_laws.specs.Laws.{IsAllowedGl}
-use Rattle.model_laws.proofs.ImageLaws.{base_of_image, levels_of_image}
-use Rattle.model_laws.proofs.Ways.{HoldsEachWay, each_way}
+use Rattle.model_laws.proofs.Pixels.ImageLaws.{base_of_image, levels_of_image}
+use Rattle.model_laws.proofs.Steps.Ways.{HoldsEachWay, each_way}
 use Rattle.history_laws.specs.Levels.{HaveLevels}
 use Rattle.history_laws.proofs.LevelChanges.{AreNew, Elevens, adds, change_buffer_keeps, change_context_keeps, change_fence_keeps, change_framebuffer_keeps, change_group_keeps, change_part_keeps, change_pixels_keeps, change_renderbuffer_keeps, change_storage_keeps, change_surface_keeps, change_texture_keeps, empty, had, have, specified_keeps, sweeps}
 

@@ -1,5 +1,5 @@
 -- Which rows of the table say GL_OUT_OF_MEMORY, and what is known where those before them don't hold.
-use Rattle.std.proofs.Common.{◌≡◌, ℕ, Bool, true, false, not, ◌||◌, ◌&&◌, refl, sym, ap, ◌∙◌, Option, None, Some, is_some, ℤ, pos}
+use Rattle.std.proofs.Common.{◌≡◌, ℕ, Bool, true, false, not, ◌||◌, ◌&&◌, refl, sym, subst, ap, ◌∙◌, Option, None, Some, is_some, ℤ, pos}
 use Rattle.std.specs.Prelude.{int_lt, ◌==◌}
 use Rattle.std.proofs.lemmas.Bool.{and_from, and_parts, not-false, not_from_true, or_from, or_parts}
 use Rattle.std.proofs.lemmas.Bool.Decides.{Decides-eqb}
@@ -8,14 +8,18 @@ use Rattle.egl_calls.specs.Calls.{CallValue}
 use Rattle.egl_calls.specs.declared.errors.GlError.{GlError}
 use Rattle.egl_calls.specs.declared.errors.GlError.TheVariants.{OutOfMemory}
 use Rattle.egl_calls.specs.declared.kinds.GlKind.{GlKind}
-use Rattle.egl_calls.specs.declared.kinds.GlKind.TheVariants.{GetError}
+use Rattle.egl_calls.specs.declared.kinds.GlKind.TheVariants.{BufferData, CopyTexImage2d, RenderbufferStorage, TexImage2d}
 use Rattle.egl_calls.specs.declared.kinds.Kind.{Kind}
 use Rattle.egl_calls.specs.declared.kinds.Kind.TheVariants.{Gl, Own}
-use Rattle.egl_calls.specs.declared.kinds.OwnKind.TheVariants.{ReadBuffer}
+use Rattle.egl_calls.specs.declared.kinds.OwnKind.{OwnKind}
+use Rattle.egl_calls.specs.declared.kinds.OwnKind.TheVariants.{WaitEnd}
 use Rattle.egl_names.specs.declared.codes.TheConstants.{GL_RENDERBUFFER_OES, GL_TEXTURE_2D}
 use Rattle.refusal_rows.specs.Rows.{first_error}
 use Rattle.refusal_rows.proofs.RowLaws.{first_is, is_not_said, some_says}
-use Rattle.call_table.specs.Rows.{own_rules}
+use Rattle.call_table.specs.Rows.{gl_role, own_rules}
+use Rattle.call_table.specs.declared.roles.Role.{Role}
+use Rattle.call_table.specs.declared.roles.Role.TheVariants.{Copies, Specifies}
+use Rattle.share_group.specs.declared.names.NameKind.TheVariants.{Buffer, Renderbuffer, Texture}
 use Rattle.call_rules.specs.CopyRules.{has_alpha}
 use Rattle.call_rules.specs.GlAllowed.{CopyAsked, DataAsked, ImageAsked, IsSide, StorageAsked}
 use Rattle.call_rules.specs.GlRules.{gl_refusal, gl_rows, gl_rows_by, ruled}
@@ -30,28 +34,52 @@ use Rattle.egl_model.specs.GlFacts.{gl_facts_of, has_read_alpha}
 use Rattle.egl_model.specs.State.{State}
 use Rattle.history_laws.specs.Memory.{IsFaultlessCopy, IsFaultlessData, IsFaultlessLevel, IsFaultlessStorage, wants_bytes}
 
+-- ---- Each of four roles is of one call.
+-- what is asked of a role's call, or of all calls where the role isn't one of them
+abbrev pub OfRole : Role → (GlKind → Type 0) → Type 0
+OfRole (Specifies Texture) P = P TexImage2d
+OfRole (Specifies Buffer) P = P BufferData
+OfRole (Specifies Renderbuffer) P = P RenderbufferStorage
+OfRole Copies P = P CopyTexImage2d
+OfRole r P = (k : GlKind) → P k
+
+of_kind : (P : GlKind → Type 0) (k : GlKind) → OfRole (gl_role k) P → P k
+of_kind P TexImage2d p = p
+of_kind P BufferData p = p
+of_kind P RenderbufferStorage p = p
+of_kind P CopyTexImage2d p = p
+of_kind P k p = p k
+
+pub of_role : (r : Role) (P : GlKind → Type 0) (k : GlKind) → gl_role k ≡ r → OfRole r P → P k
+of_role r P k e = subst (λ r. OfRole r P → P k) e (of_kind P k)
+
 -- ---- The error stands in the rows of four calls.
 abbrev is_out_of_memory : GlError → Bool
 is_out_of_memory OutOfMemory = true
 is_out_of_memory e = false
 
 -- a table that has it is that of one of them; one kind stands apart, so that the others are tried one by one
-said_by : (k : GlKind) (c : CallValue) (f : GlFacts) → (not (some_says is_out_of_memory (gl_rows k c f)) || wants_bytes k) ≡ true
-said_by GetError c f = refl
+said_by : (k : GlKind) (c : CallValue) (f : GlFacts) → (not (some_says is_out_of_memory (gl_rows k c f)) || wants_bytes (gl_role k)) ≡ true
+said_by TexImage2d c f = refl
 said_by k c f = refl
 
 where_said : (said wants : Bool) → (not said || wants) ≡ true → (said ≡ false → ⊥) → wants ≡ true
 where_said true wants e n = e
 where_said false wants e n = absurd (n refl)
 
-pub four_want : (c : CallValue) (f : GlFacts) (k : GlKind) → c.kind ≡ Gl k → gl_refusal c f ≡ Some OutOfMemory → wants_bytes k ≡ true
+pub four_want : (c : CallValue) (f : GlFacts) (k : GlKind) → c.kind ≡ Gl k → gl_refusal c f ≡ Some OutOfMemory → wants_bytes (gl_role k) ≡ true
 four_want c f k h n =
     let first = first_is OutOfMemory (gl_rows k c f) (refused_first c f k OutOfMemory h n) in
-    where_said (some_says is_out_of_memory (gl_rows k c f)) (wants_bytes k) (said_by k c f) (λ s. is_not_said is_out_of_memory OutOfMemory (gl_rows k c f) refl s first)
+    where_said (some_says is_out_of_memory (gl_rows k c f)) (wants_bytes (gl_role k)) (said_by k c f) (λ s. is_not_said is_out_of_memory OutOfMemory (gl_rows k c f) refl s first)
 
-pub read_wants_none : (c : CallValue) (f : GlFacts) → c.kind ≡ Own ReadBuffer → gl_refusal c f ≡ Some OutOfMemory → ⊥
+-- and in those of no call of this project
+own_said : (k : OwnKind) (c : CallValue) (f : GlFacts) → some_says is_out_of_memory (ruled (own_rules k) c f) ≡ false
+own_said WaitEnd c f = refl
+own_said k c f = refl
+
+pub own_wants_none : (c : CallValue) (f : GlFacts) (k : OwnKind) → c.kind ≡ Own k → gl_refusal c f ≡ Some OutOfMemory → ⊥
 unfolding gl_refusal
-read_wants_none c f h n = is_not_said is_out_of_memory OutOfMemory (ruled (own_rules ReadBuffer) c f) refl refl (sym (ap (λ (kind : Kind). first_error (gl_rows_by kind c f)) h) ∙ n)
+own_wants_none c f k h n = is_not_said is_out_of_memory OutOfMemory (ruled (own_rules k) c f) refl (own_said k c f) (sym (ap (λ (kind : Kind). first_error (gl_rows_by kind c f)) h) ∙ n)
 
 -- ---- Tests of two things.
 equal : (a b : ℕ) → not (a == b) ≡ false → a ≡ b

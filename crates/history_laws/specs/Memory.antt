@@ -2,10 +2,11 @@
 use Rattle.std.specs.Prelude.{◌≡◌, ℕ, pos, ◌≤ℤ◌, Bool, true, false, is_some}
 use Rattle.egl_calls.specs.Arguments.{is_zero, number, signed}
 use Rattle.egl_calls.specs.Calls.{CallValue}
-use Rattle.egl_calls.specs.declared.kinds.GlKind.{GlKind}
-use Rattle.egl_calls.specs.declared.kinds.GlKind.TheVariants.{BufferData, CopyTexImage2d, RenderbufferStorage, TexImage2d}
 use Rattle.egl_calls.specs.declared.kinds.Kind.{Kind}
 use Rattle.egl_calls.specs.declared.kinds.Kind.TheVariants.{Gl}
+use Rattle.call_table.specs.Rows.{gl_role}
+use Rattle.call_table.specs.declared.roles.Role.{Role}
+use Rattle.call_table.specs.declared.roles.Role.TheVariants.{Copies, Specifies}
 use Rattle.egl_calls.specs.declared.places.TheConstants.{BORDER, BUFFER_SIZE, BUFFER_USAGE, COPIED_BORDER, COPIED_HEIGHT, COPIED_WIDTH, IMAGE_FORMAT, IMAGE_HEIGHT, IMAGE_TYPE, IMAGE_WIDTH, INTERNAL_FORMAT, LEVEL, STORED_FORMAT, STORED_HEIGHT, STORED_WIDTH, TARGET}
 use Rattle.egl_names.specs.declared.codes.TheConstants.{GL_RENDERBUFFER_OES, GL_TEXTURE_2D}
 use Rattle.texture_objects.specs.Forms.{form_of}
@@ -20,15 +21,14 @@ use Rattle.egl_model.specs.GlFacts.{has_read_alpha}
 use Rattle.egl_model.specs.Renderbuffers.{target_renderbuffer}
 use Rattle.egl_model.specs.State.{State}
 
-abbrev pub wants_bytes : GlKind → Bool
-wants_bytes TexImage2d = true
-wants_bytes CopyTexImage2d = true
-wants_bytes BufferData = true
-wants_bytes RenderbufferStorage = true
-wants_bytes k = false
+-- those that give what is bound new pixels or bytes
+abbrev pub wants_bytes : Role → Bool
+wants_bytes (Specifies names) = true
+wants_bytes Copies = true
+wants_bytes r = false
 
 abbrev pub may_want_bytes : Kind → Bool
-may_want_bytes (Gl k) = wants_bytes k
+may_want_bytes (Gl k) = wants_bytes (gl_role k)
 may_want_bytes k = false
 
 -- glTexImage2D: a target, a level and sides that it may have, no border, and a format and a type that go together, the format that of the inside too

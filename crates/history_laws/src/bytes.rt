@@ -2,7 +2,10 @@
 ghost use Rattle.std.specs.Prelude.{◌≡◌, ◌+◌, ℕ, length, Some};
 ghost use Rattle.buffer_objects.specs.Buffers.{BufferValue};
 ghost use Rattle.egl_calls.specs.Calls.{CallValue};
-ghost use Rattle.egl_calls.specs.declared.kinds.GlKind.TheVariants.{BufferData, CopyTexImage2d, RenderbufferStorage, TexImage2d};
+ghost use Rattle.egl_calls.specs.declared.kinds.GlKind.{GlKind};
+ghost use Rattle.call_table.specs.Rows.{gl_role};
+ghost use Rattle.call_table.specs.declared.roles.Role.TheVariants.{Copies, Specifies};
+ghost use Rattle.share_group.specs.declared.names.NameKind.TheVariants.{Buffer, Renderbuffer, Texture};
 ghost use Rattle.egl_calls.specs.declared.places.TheConstants.{BUFFER_SIZE};
 ghost use Rattle.egl_model.specs.Arguments.{number};
 ghost use Rattle.egl_model.specs.Buffers.{target_buffer};
@@ -18,8 +21,8 @@ ghost use Rattle.model_laws.specs.Laws.{IsAllowedGl};
 
 /// The pixels that a glTexImage2D, a glCopyTexImage2D or a glRenderbufferStorageOES makes take the bytes that its refusal counts, beside those that it replaces, and the contents that a glBufferData gives take as many as its size, in place of the former ones.
 pub fn new_pixels_are_counted_as_they_are_made()
-    ensures image { (s : State) (t n x : ℕ) (c : CallValue) → IsAllowedGl s t n TexImage2d c → target_texture s n ≡ Some x → live_bytes (gl_effect s t n TexImage2d c).state.objects ≡ live_bytes s.objects + image_bytes c }
-    ensures copied { (s : State) (t n x : ℕ) (c : CallValue) (from : ImageValue) → IsAllowedGl s t n CopyTexImage2d c → target_texture s n ≡ Some x → read_image s t ≡ Some from → live_bytes (gl_effect s t n CopyTexImage2d c).state.objects ≡ live_bytes s.objects + copied_bytes c }
-    ensures storage { (s : State) (t n x : ℕ) (c : CallValue) → IsAllowedGl s t n RenderbufferStorage c → target_renderbuffer s n ≡ Some x → live_bytes (gl_effect s t n RenderbufferStorage c).state.objects ≡ live_bytes s.objects + renderbuffer_bytes c }
-    ensures contents { (s : State) (t n x : ℕ) (c : CallValue) (b : BufferValue) → IsAllowedGl s t n BufferData c → target_buffer s n c ≡ Some x → buffer_in s.objects x ≡ Some b → live_bytes (gl_effect s t n BufferData c).state.objects + length b.contents ≡ live_bytes s.objects + number c BUFFER_SIZE }
+    ensures image { (s : State) (t n x : ℕ) (k : GlKind) (c : CallValue) → gl_role k ≡ Specifies Texture → IsAllowedGl s t n k c → target_texture s n ≡ Some x → live_bytes (gl_effect s t n k c).state.objects ≡ live_bytes s.objects + image_bytes c }
+    ensures copied { (s : State) (t n x : ℕ) (k : GlKind) (c : CallValue) (from : ImageValue) → gl_role k ≡ Copies → IsAllowedGl s t n k c → target_texture s n ≡ Some x → read_image s t ≡ Some from → live_bytes (gl_effect s t n k c).state.objects ≡ live_bytes s.objects + copied_bytes c }
+    ensures storage { (s : State) (t n x : ℕ) (k : GlKind) (c : CallValue) → gl_role k ≡ Specifies Renderbuffer → IsAllowedGl s t n k c → target_renderbuffer s n ≡ Some x → live_bytes (gl_effect s t n k c).state.objects ≡ live_bytes s.objects + renderbuffer_bytes c }
+    ensures contents { (s : State) (t n x : ℕ) (k : GlKind) (c : CallValue) (b : BufferValue) → gl_role k ≡ Specifies Buffer → IsAllowedGl s t n k c → target_buffer s n c ≡ Some x → buffer_in s.objects x ≡ Some b → live_bytes (gl_effect s t n k c).state.objects + length b.contents ≡ live_bytes s.objects + number c BUFFER_SIZE }
 {}

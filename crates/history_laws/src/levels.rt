@@ -15,7 +15,7 @@ ghost use Rattle.surface_store.specs.declared.windows.WindowSpec.{WindowSpec};
 ghost use Rattle.model_laws.specs.Laws.{IsAllowedGl};
 ghost use Rattle.history_laws.specs.Levels.{HaveLevels};
 
-/// In each history every texture has its eleven levels, each with a storage or without: before the first call there is no texture, and a step leaves it so wherever it was so before (OpenGL ES 1.1, section 3.7.1).
+/// In each history every texture has its eleven levels, each with a storage or without (OpenGL ES 1.1, section 3.7.1). Before the first call there is no texture, and a step leaves it so wherever it was so before.
 pub fn textures_have_eleven_levels()
     ensures opening { (windows : List WindowSpec) (video : ℕ) → HaveLevels (opening windows video) }
     ensures step { (s : State) (t : ℕ) (c : CallValue) → HaveLevels s → HaveLevels (step s t c).state }

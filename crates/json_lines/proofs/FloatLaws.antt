@@ -1,7 +1,9 @@
 -- No list and no object has a float.
-use Rattle.std.proofs.Common.{◌≡◌, ℕ, ℤ, pos, negsuc, Bool, true, false, true≢false, ◌||◌, List, [], ◌∷◌, ◌++◌, map, Ordering, Less, Equal, Greater, nat_cmp, BTreeMap, String, Vec, Global, refl, ap, ◌∙◌}
+use Rattle.std.proofs.Common.{◌≡◌, ℕ, ℤ, pos, negsuc, false, List, [], ◌∷◌, ◌++◌, map, Ordering, Less, Equal, Greater, nat_cmp, BTreeMap, String, Vec, Global, refl, ap, ◌∙◌}
 use Rattle.std.specs.Ordering.{match_ordering}
 use Rattle.std.specs.Cmp.Lexicographic.{slice_cmp}
+use Rattle.std.proofs.lemmas.Bool.{or_from}
+use Rattle.egl_calls.proofs.Truths.{neither_first, neither_second}
 use Rattle.serde_json.proofs.Views.{view-Array, view-Object}
 use Rattle.serde_json.specs.Data.{Data, number, object, string, unsigned, Members, no_members, member, put}
 use Rattle.serde_json.specs.Find.{of_integer}
@@ -11,17 +13,6 @@ use Rattle.serde_json.specs.declared.value.Value.{Value, Array, Object}
 use Rattle.json_lines.specs.Lines.{list_data, number_data}
 
 -- ---- Either of two.
-neither : (a b : Bool) → a ≡ false → b ≡ false → (a || b) ≡ false
-neither a b p q = rw p q
-
-not_first : (a b : Bool) → (a || b) ≡ false → a ≡ false
-not_first true b e = e
-not_first false b e = refl
-
-not_second : (a b : Bool) → (a || b) ≡ false → b ≡ false
-not_second true b e = absurd (true≢false e)
-not_second false b e = e
-
 -- ---- Members.
 of_three : (o : Ordering) (a b c : Members) → members_have_float a ≡ false → members_have_float b ≡ false → members_have_float c ≡ false → members_have_float (match_ordering o a b c) ≡ false
 of_three Less a b c p q r = p
@@ -29,31 +20,31 @@ of_three Equal a b c p q r = q
 of_three Greater a b c p q r = r
 
 put_bare : (k : List ℕ) (d : Data) (ms : Members) → has_float d ≡ false → members_have_float ms ≡ false → members_have_float (put k d ms) ≡ false
-put_bare k d no_members p q = neither (has_float d) false p refl
+put_bare k d no_members p q = or_from (has_float d) false p refl
 put_bare k d (member l e ms) p q =
-    let rest : members_have_float ms ≡ false = not_second (has_float e) (members_have_float ms) q in
-    let own : has_float e ≡ false = not_first (has_float e) (members_have_float ms) q in
+    let rest : members_have_float ms ≡ false = neither_second (has_float e) (members_have_float ms) q in
+    let own : has_float e ≡ false = neither_first (has_float e) (members_have_float ms) q in
     of_three
     (slice_cmp nat_cmp k l)
     (member k d (member l e ms))
     (member l d ms)
     (member l e (put k d ms))
-    (neither (has_float d) (members_have_float (member l e ms)) p q)
-    (neither (has_float d) (members_have_float ms) p rest)
-    (neither (has_float e) (members_have_float (put k d ms)) own (put_bare k d ms p rest))
+    (or_from (has_float d) (members_have_float (member l e ms)) p q)
+    (or_from (has_float d) (members_have_float ms) p rest)
+    (or_from (has_float e) (members_have_float (put k d ms)) own (put_bare k d ms p rest))
 
 pub member_put : (k : List ℕ) (d : Data) (before after : Members) → after ≡ put k d before → has_float d ≡ false → members_have_float before ≡ false → members_have_float after ≡ false
 member_put k d before after e p q = ap members_have_float e ∙ put_bare k d before p q
 
 -- ---- Items.
 push_bare : (xs : List Data) (d : Data) → items_have_float (items_of xs) ≡ false → has_float d ≡ false → items_have_float (items_of (xs ++ d ∷ [])) ≡ false
-push_bare [] d p q = neither (has_float d) false q refl
+push_bare [] d p q = or_from (has_float d) false q refl
 push_bare (x ∷ xs) d p q =
-    neither
+    or_from
     (has_float x)
     (items_have_float (items_of (xs ++ d ∷ [])))
-    (not_first (has_float x) (items_have_float (items_of xs)) p)
-    (push_bare xs d (not_second (has_float x) (items_have_float (items_of xs)) p) q)
+    (neither_first (has_float x) (items_have_float (items_of xs)) p)
+    (push_bare xs d (neither_second (has_float x) (items_have_float (items_of xs)) p) q)
 
 map_more : (xs : List Value) (v : Value) → map view (xs ++ v ∷ []) ≡ map view xs ++ view v ∷ []
 map_more [] v = refl

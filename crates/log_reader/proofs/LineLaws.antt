@@ -8,7 +8,7 @@ use Rattle.call_table.specs.declared.forms.Form.{Form}
 use Rattle.trace_reader.specs.declared.traces.Line.{Line}
 use Rattle.trace_reader.specs.declared.traces.Reason.{Reason}
 use Rattle.trace_reader.specs.declared.traces.Reason.TheVariants.{Name, Argument as ArgumentReason}
-use Rattle.call_table.specs.declared.forms.Form.TheVariants.{Number}
+use Rattle.call_table.specs.declared.forms.Form.TheVariants.{Config}
 use Rattle.trace_reader.specs.Words.{word_at}
 use Rattle.trace_reader.specs.CallNames.{Signature, call_named}
 use Rattle.trace_reader.specs.Arguments.{has_unknown_name, call_of, is_placed, are_placed, place_behind, is_list, have_one_list}
@@ -37,7 +37,7 @@ line_uncalled names number thread kind fs target ws h =
 
 -- ---- A variable in place of a number changes no form's place, and adds no list.
 second_placed : (kind : Kind) (place : ℕ) (g : Form) (fs : List Form) → are_placed kind place (or_variable g ∷ fs) ≡ are_placed kind place (g ∷ fs)
-second_placed kind place Number fs = refl
+second_placed kind place Config fs = refl
 second_placed kind place g fs = refl
 
 pub placed_with_variable : (kind : Kind) (place : ℕ) (fs : List Form) → are_placed kind place (with_variable fs) ≡ are_placed kind place fs
@@ -46,7 +46,7 @@ placed_with_variable kind place (f ∷ []) = refl
 placed_with_variable kind place (f ∷ g ∷ fs) = ap (λ (b : Bool). is_placed kind place f && b) (second_placed kind (place_behind place f) g fs)
 
 no_list_more : (g : Form) → is_list (or_variable g) ≡ is_list g
-no_list_more Number = refl
+no_list_more Config = refl
 no_list_more g = refl
 
 lists_first : Bool → Bool → List Form → Bool
@@ -117,11 +117,11 @@ inside threads names number thread ws s t h i =
     line_signed threads names number thread ws s t h
     ∙ ap (λ (r : Result Signature Reason). provided (not any) Name (r >>= line)) (checked_as s true i)
 
-as_formed : (s : Signature) (b : Bool) → takes_config s.kind ≡ b → in_log s ≡ record { kind = s.kind; forms = if b then with_variable s.forms else s.forms }
+as_formed : (s : Signature) (b : Bool) → takes_config s.forms ≡ b → in_log s ≡ record { kind = s.kind; forms = if b then with_variable s.forms else s.forms }
 as_formed s b e = ap (λ (c : Bool). let t : Signature = record { kind = s.kind; forms = if c then with_variable s.forms else s.forms } in t) e
 
 -- its line, by the forms that a log has of it
-pub line_formed : (threads : ℕ) (names : List (List ℕ)) (number thread : ℕ) (ws : List (List ℕ)) (s : Signature) (b : Bool) → thread_of threads (word_at ws 0) ≡ Ok thread → Some s ≡ call_named (call_word ws) → is_in_logs s.kind ≡ true → takes_config s.kind ≡ b →
+pub line_formed : (threads : ℕ) (names : List (List ℕ)) (number thread : ℕ) (ws : List (List ℕ)) (s : Signature) (b : Bool) → thread_of threads (word_at ws 0) ≡ Ok thread → Some s ≡ call_named (call_word ws) → is_in_logs s.kind ≡ true → takes_config s.forms ≡ b →
     line_of threads names number ws ≡ log_line_in names number thread (record { kind = s.kind; forms = if b then with_variable s.forms else s.forms }) (target_of ws) (argument_words ws)
 line_formed threads names number thread ws s b t h i e =
     inside threads names number thread ws s t h i

@@ -1,11 +1,10 @@
 -- Which calls a log has, and the forms of their arguments.
 use Rattle.std.specs.Prelude.{Bool, true, false, List, [], ◌∷◌, if◌then◌else◌}
 use Rattle.egl_calls.specs.declared.kinds.Kind.{Kind}
-use Rattle.egl_calls.specs.declared.kinds.Kind.TheVariants.{Egl, Own}
-use Rattle.egl_calls.specs.declared.kinds.EglKind.TheVariants.{GetConfigAttrib, CreateWindowSurface, CreatePbufferSurface, CreateContext}
+use Rattle.egl_calls.specs.declared.kinds.Kind.TheVariants.{Own}
 use Rattle.egl_calls.specs.declared.kinds.OwnKind.TheVariants.{Post, Await, Census, ReadFront, ReadBuffer}
 use Rattle.call_table.specs.declared.forms.Form.{Form}
-use Rattle.call_table.specs.declared.forms.Form.TheVariants.{Number, NumberOrVariable}
+use Rattle.call_table.specs.declared.forms.Form.TheVariants.{Config, NumberOrVariable}
 use Rattle.trace_reader.specs.CallNames.{Signature}
 
 -- the calls that look into our driver aren't in a log: no other driver has them
@@ -21,27 +20,29 @@ needs_no_answer (Own Post) = true
 needs_no_answer (Own Await) = true
 needs_no_answer kind = false
 
--- the calls that name a config behind their display (EGL 1.5, sections 3.4.3, 3.5.1, 3.5.2 and 3.7.1)
-abbrev pub takes_config : Kind → Bool
-takes_config (Egl GetConfigAttrib) = true
-takes_config (Egl CreateWindowSurface) = true
-takes_config (Egl CreatePbufferSurface) = true
-takes_config (Egl CreateContext) = true
-takes_config kind = false
+-- a call names a config behind its display (EGL 1.5, sections 3.4.3, 3.5.1, 3.5.2 and 3.7.1)
+abbrev pub is_config : Form → Bool
+is_config Config = true
+is_config form = false
+
+abbrev pub takes_config : List Form → Bool
+takes_config [] = false
+takes_config (f ∷ []) = false
+takes_config (f ∷ g ∷ forms) = is_config g
 
 abbrev pub or_variable : Form → Form
-or_variable Number = NumberOrVariable
+or_variable Config = NumberOrVariable
 or_variable form = form
 
--- a variable may stand for the argument behind the first
+-- a variable may stand for a config behind the first
 abbrev pub with_variable : List Form → List Form
 with_variable [] = []
 with_variable (f ∷ []) = f ∷ []
 with_variable (f ∷ g ∷ forms) = f ∷ or_variable g ∷ forms
 
 -- in a log a variable may stand for a config: a driver's configs have numbers of its own
-abbrev pub log_forms : Kind → List Form → List Form
-log_forms kind forms = if takes_config kind then with_variable forms else forms
+abbrev pub log_forms : List Form → List Form
+log_forms forms = if takes_config forms then with_variable forms else forms
 
 abbrev pub in_log : Signature → Signature
-in_log s = record { kind = s.kind; forms = log_forms s.kind s.forms }
+in_log s = record { kind = s.kind; forms = log_forms s.forms }

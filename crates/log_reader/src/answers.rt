@@ -9,6 +9,7 @@ ghost use Rattle.log_reader.specs.Reading.{GivesOf};
 use crate::numbers::answer_number;
 use crate::outcomes::{LogOutcome, outcome_of};
 use crate::reasons::{LogLineError, LogReason};
+use crate::words::same_word;
 use egl_calls::{Bytes, List, NoMemory};
 use std::alloc::Global;
 use trace_reader::lists::{inside, is_bracketed};
@@ -74,7 +75,7 @@ fn answer_list(alloc: Global, word: &[u8]) -> Result<Option<List<i128>>, NoMemor
 pub fn answer_bytes(alloc: Global, word: &[u8]) -> Result<Option<Bytes>, NoMemory>
     ensures { IfOk result (λ o. o ≡ answer_bytes word.now) }
 {
-    if word == b"-".as_slice() {
+    if same_word(word, b"-") {
         return Ok(Some(Bytes::new(alloc)));
     }
     if word.is_empty() || !are_byte_digits(word) {
@@ -147,7 +148,7 @@ pub fn answer_in(alloc: Global, words: &[&[u8]]) -> Result<Answer, LogLineError>
 fn is_arrow(word: &[u8]) -> bool
     ensures { result ≡ is_arrow word.now }
 {
-    word == b"=>".as_slice()
+    same_word(word, b"=>")
 }
 
 /// The words of a line in two parts: those of its call, and those of its answer, if it has one.

@@ -18,6 +18,7 @@ use crate::heads::LogHead;
 use crate::items::{Called, Item, Shown};
 use crate::lines::line_of;
 use crate::reasons::{LogLineError, LogReason};
+use crate::words::same_word;
 use egl_calls::{Kind, NoMemory};
 use keyed_hash::HashKey;
 use std::alloc::Global;
@@ -76,7 +77,7 @@ fn defective(reason: Reason) -> LogLineError
 pub fn is_front(words: &[&[u8]]) -> bool
     ensures { result ≡ is_front (map (λ w. w.now) words.now) }
 {
-    word_at(words, 0) == b"front".as_slice()
+    same_word(word_at(words, 0), b"front")
 }
 
 #[tactic(auto, unfolding(crate::specs::Items::window_in))]

@@ -1,9 +1,9 @@
 //! Which calls a log has, and the forms of their arguments.
 ghost use Rattle.std.specs.Prelude.{◌≡◌, IfOk};
-ghost use Rattle.log_reader.specs.Forms.{is_in_logs, needs_no_answer, or_variable, takes_config, with_variable};
+ghost use Rattle.log_reader.specs.Forms.{is_config, is_in_logs, needs_no_answer, or_variable, takes_config, with_variable};
 
 use call_table::Form;
-use egl_calls::{EglKind, Kind, NoMemory, OwnKind};
+use egl_calls::{Kind, NoMemory, OwnKind};
 use std::alloc::Global;
 
 /// Whether a log may have a call of this kind: none looks into our driver.
@@ -23,15 +23,21 @@ pub fn needs_no_answer(kind: Kind) -> bool
     matches!(kind, Kind::Own(OwnKind::Post | OwnKind::Await))
 }
 
-/// Whether a call names a config behind its display.
-pub fn takes_config(kind: Kind) -> bool
-    ensures { result ≡ takes_config kind }
+fn is_config(form: Form) -> bool
+    ensures { result ≡ is_config form }
 {
-    match kind {
-        Kind::Egl(EglKind::GetConfigAttrib) => true,
-        Kind::Egl(EglKind::CreateWindowSurface) => true,
-        Kind::Egl(EglKind::CreatePbufferSurface) => true,
-        Kind::Egl(EglKind::CreateContext) => true,
+    match form {
+        Form::Config => true,
+        _ => false,
+    }
+}
+
+/// Whether a call with these forms names a config behind its display.
+pub fn takes_config(forms: &[Form]) -> bool
+    ensures { result ≡ takes_config forms.now }
+{
+    match forms {
+        [_, form, ..] => is_config(*form),
         _ => false,
     }
 }
@@ -40,12 +46,12 @@ fn or_variable(form: Form) -> Form
     ensures { result ≡ or_variable form }
 {
     match form {
-        Form::Number => Form::NumberOrVariable,
+        Form::Config => Form::NumberOrVariable,
         _ => form,
     }
 }
 
-/// These forms, where a variable may stand for the argument behind the first.
+/// These forms, where a variable may stand for a config behind the first.
 pub fn with_variable(alloc: Global, forms: &[Form]) -> Result<Vec<Form>, NoMemory>
     ensures { IfOk result (λ v. v.items ≡ with_variable forms.now) }
 {

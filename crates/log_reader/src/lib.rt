@@ -18,9 +18,11 @@ mod outcomes;
 mod reading;
 mod reasons;
 mod steps;
+mod words;
 
 pub use answers::Answer;
 pub use configs::LogConfig;
+pub use forms::{needs_no_answer, takes_config};
 pub use items::{Called, Cut, Item, Shown};
 pub use logs::Log;
 pub use outcomes::LogOutcome;

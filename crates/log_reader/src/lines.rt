@@ -156,7 +156,7 @@ pub fn line_of(
     }
     let target = words.target();
     let arguments = words.arguments();
-    if !takes_config(kind) {
+    if !takes_config(forms) {
         return line_in(
             alloc, variables, number, thread, kind, forms, target, arguments,
         );

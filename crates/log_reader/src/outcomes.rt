@@ -7,6 +7,7 @@ ghost use Rattle.log_reader.specs.Outcomes.{egl_refused, gl_refused, outcome_of,
 ghost use Rattle.log_reader.specs.declared.outcomes.LogOutcome.TheVariants.{Egl, Gl, Unnamed};
 
 use crate::numbers::long_number;
+use crate::words::same_word;
 use egl_calls::{EglError, GlError};
 use egl_names::code_of_word;
 
@@ -105,7 +106,7 @@ fn unnamed(word: &[u8]) -> Option<LogOutcome>
 pub fn outcome_of(word: &[u8]) -> Option<LogOutcome>
     ensures { result ≡ outcome_of word.now }
 {
-    if word == b"ok".as_slice() {
+    if same_word(word, b"ok") {
         return Some(LogOutcome::Done);
     }
     let Some(code) = code_of_word(word) else {

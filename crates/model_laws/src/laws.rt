@@ -111,7 +111,7 @@ pub fn no_litter_is_left()
     ensures history { (windows : List WindowSpec) → windows_ok windows ≡ true → (video : ℕ) (entries : List Entry) → HasNoLitter (replay_from (opening windows video) entries) }
 {}
 
-/// Each root and each reference leads to an object, before the first call and after a step wherever it was so before; then no chain is longer than those that a sweep follows.
+/// Each root and each reference leads to an object, before the first call and after each step from a sound state; then no chain is longer than those that a sweep follows.
 pub fn references_lead_to_objects()
     ensures opening { (windows : List WindowSpec) → windows_ok windows ≡ true → (video : ℕ) → IsLinked (opening windows video) }
     ensures step { (s : State) (t : ℕ) (c : CallValue) → IsSound s → IsLinked (step s t c).state }
@@ -123,7 +123,7 @@ pub fn an_object_exists_exactly_where_it_is_held()
     ensures { (windows : List WindowSpec) → windows_ok windows ≡ true → (video : ℕ) (entries : List Entry) (n : ℕ) → (has_object (replay_from (opening windows video) entries) n ≡ true) ↔ IsHeld (replay_from (opening windows video) entries) n }
 {}
 
-/// Handles name objects of their kind; a context and surfaces are current to threads; a context has a group and a texture, and a surface a storage. Holds before the first call, and is preserved by every step.
+/// Handles name objects of their kind; a context and surfaces are current to threads; a context has a group and a texture, and a surface a storage. Holds before the first call, after each step from a sound state, and so in each history.
 pub fn names_lead_to_objects_of_their_kind()
     ensures opening { (windows : List WindowSpec) → windows_ok windows ≡ true → (video : ℕ) → let s = opening windows video in KindsFit (shapes s.objects) s }
     ensures step { (s : State) (t : ℕ) (c : CallValue) → IsSound s → let a = (step s t c).state in KindsFit (shapes a.objects) a }
@@ -238,7 +238,7 @@ pub fn terminate_takes_handles_and_leaves_currents()
     ensures read { (s : State) (t u : ℕ) (c : CallValue) → IsTerminated s t c → (record_of (step s t c).state u).read ≡ (record_of s u).read }
 {}
 
-/// Where no rule refuses an eglMakeCurrent of a thread that has a record, the thread has the context and the surfaces that valid handles of the call's display with the given numbers name, each under that number; where it is given no surface, the thread has none, and where it is given none of the three, no context either (EGL 1.5, section 3.7.3). Handles stay as they were, and the thread waits for nothing.
+/// Where no rule refuses an eglMakeCurrent of a thread that has a record, the thread has the context and the surfaces that valid handles of the call's display with the given numbers name, each under that number (EGL 1.5, section 3.7.3). Where it is given no surface, the thread has none, and where it is given none of the three, no context either. Handles stay as they were, and the thread waits for nothing.
 pub fn make_current_binds_what_it_is_given()
     ensures released { (s : State) (t : ℕ) (c : CallValue) → IsMadeCurrent s t c → t < length s.threads → is_release c ≡ true → HasNoneCurrent (record_of (step s t c).state t) }
     ensures context { (s : State) (t : ℕ) (c : CallValue) → IsMadeCurrent s t c → t < length s.threads → is_release c ≡ false → IsBoundBy s (number c 0) (number c 3) Context (record_of (step s t c).state t).context }
@@ -257,7 +257,7 @@ pub fn a_context_takes_the_sides_of_its_first_surface()
     ensures later { (s : State) (t : ℕ) (c : CallValue) (context : Handle) (p : PartValue) → IsReady s t → IsGiven s t c context → part_of_context s context.object ≡ Some p → p.was_current ≡ true → part_of_context (step s t c).state context.object ≡ Some p }
 {}
 
-/// Where no rule refuses a call that makes a handle (`made_handle`: an eglCreateWindowSurface, an eglCreatePbufferSurface, an eglCreateContext, an eglCreateSync or an eglCreateImage), it answers the number of a new handle, which names a new object of its kind, and the next number rises by one (EGL 1.5, sections 3.5.1, 3.5.2, 3.7.1, 3.8.1 and 3.9). It rises at no other call, and at none that isn't done.
+/// Where no rule refuses a call that makes a handle (`made_handle`), it answers the number of a new handle, which names a new object of its kind, and the next number rises by one (EGL 1.5, sections 3.5.1, 3.5.2, 3.7.1, 3.8.1 and 3.9). Such calls are eglCreateWindowSurface, eglCreatePbufferSurface, eglCreateContext, eglCreateSync and eglCreateImage. The number rises at no other call, and at none that isn't done.
 pub fn a_new_handle_names_its_object()
     ensures handle { (s : State) (t : ℕ) (k : EglKind) (c : CallValue) (kind : AHandleKind) → IsAllowedEgl s t k c → made_handle k ≡ Some kind → HasNewHandle s (step s t c).state (number c 0) kind }
     ensures reply { (s : State) (t : ℕ) (k : EglKind) (c : CallValue) (kind : AHandleKind) → IsAllowedEgl s t k c → made_handle k ≡ Some kind → (step s t c).reply.value ≡ pos s.next_handle }
@@ -370,7 +370,7 @@ pub fn a_deletion_leaves_other_contexts()
     ensures { (s : State) (t n m : ℕ) (k : GlKind) (names : ANameKind) (c : CallValue) (y : AContext) → gl_role k ≡ Deletes names → IsAllowedGl s t n k c → m ≢ n → context_in (step s t c).state.objects m ≡ Some y → context_in s.objects m ≡ Some y }
 {}
 
-/// glCheckFramebufferStatusOES tells the first status that holds of a framebuffer object, each exactly where it does (OES_framebuffer_object, "Framebuffer Completeness"): something may not stand where it is attached; nothing is attached; two of what is attached have different sides; no colour is attached; else it is complete. The window system's framebuffer is complete where the thread has a surface, and undefined where it has none (OES_surfaceless_context).
+/// glCheckFramebufferStatusOES tells the first status that holds of a framebuffer object, each exactly where it does (OES_framebuffer_object, "Framebuffer Completeness"). They say, in this order: something may not stand where it is attached; nothing is attached; two of what is attached have different sides; no colour is attached; else it is complete. The window system's framebuffer is complete where the thread has a surface, and undefined where it has none (OES_surfaceless_context).
 pub fn a_status_tells_what_is_attached()
     ensures complete { (s : State) (t n : ℕ) (c : CallValue) (f : AFramebuffer) → IsCheck s t n c → HasFramebufferBound s t n f → AnswersStatus s t c GL_FRAMEBUFFER_COMPLETE_OES ↔ IsComplete s.objects f }
     ensures unfit { (s : State) (t n : ℕ) (c : CallValue) (f : AFramebuffer) → IsCheck s t n c → HasFramebufferBound s t n f → AnswersStatus s t c GL_FRAMEBUFFER_INCOMPLETE_ATTACHMENT_OES ↔ HasUnfit s.objects f }

@@ -8,8 +8,8 @@ use Rattle.model_laws.specs.Hidden.{hide, nothing}
 use Rattle.egl_model.specs.Parts.{Own, OwnObjects, own_objects, put_at}
 use Rattle.egl_model.specs.State.{State, record_of}
 use Rattle.egl_model.specs.Waits.{is_ready, is_signalled}
-use Rattle.model_laws.proofs.Blinds.{signalled-put}
-use Rattle.model_laws.proofs.Puts.{record-put}
+use Rattle.model_laws.proofs.Steps.Blinds.{signalled-put}
+use Rattle.model_laws.proofs.Parts.Puts.{record-put}
 use Rattle.trace_reader.specs.declared.traces.Line.{Line}
 use Rattle.trace_reader.specs.Traces.{TraceValue}
 use Rattle.trace_model.specs.Turns.{next_line, has_begun, is_free, goes_on, is_held, is_blocked, is_at_end}

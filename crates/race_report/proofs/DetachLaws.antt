@@ -29,9 +29,9 @@ use Rattle.egl_model.specs.Names.{group_of, object_named, with_name_of}
 use Rattle.egl_model.specs.Objects.{as_context, change_context, change_framebuffer, change_group, with_context, with_framebuffer, with_group}
 use Rattle.egl_model.specs.Parts.{is_place}
 use Rattle.egl_model.specs.State.{State, object_at}
-use Rattle.model_laws.proofs.NameLaws.{names_at, names_deleted}
-use Rattle.model_laws.proofs.Places.{same_at_set}
-use Rattle.model_laws.proofs.TextureLaws.{changed_at}
+use Rattle.model_laws.proofs.Names.NameLaws.{names_at, names_deleted}
+use Rattle.model_laws.proofs.References.Places.{same_at_set}
+use Rattle.model_laws.proofs.Pixels.TextureLaws.{changed_at}
 use Rattle.driver_facts.specs.Touches.{objects_named}
 use Rattle.race_report.specs.Writes.{LosesAt, LosesIn}
 use Rattle.race_report.proofs.WordLaws.{contains_cases, contains_first, contains_later, contains_none}

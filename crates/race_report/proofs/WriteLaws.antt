@@ -20,7 +20,7 @@ use Rattle.egl_calls.specs.declared.kinds.EglKind.TheVariants.{SwapBuffers}
 use Rattle.egl_calls.specs.declared.kinds.GlKind.{GlKind}
 use Rattle.egl_calls.specs.declared.kinds.GlKind.TheVariants.{Clear}
 use Rattle.egl_calls.specs.declared.kinds.OwnKind.{OwnKind}
-use Rattle.egl_calls.specs.declared.kinds.OwnKind.TheVariants.{ReadBuffer}
+use Rattle.egl_calls.specs.declared.kinds.OwnKind.TheVariants.{WaitEnd}
 use Rattle.call_table.specs.Rows.{gl_role}
 use Rattle.context_state.specs.Calls.{apply}
 use Rattle.context_state.specs.Kinds.{context_gl_call}
@@ -79,7 +79,7 @@ use Rattle.egl_model.specs.Textures as calls
 use Rattle.egl_model.specs.Textures.{change_pixels}
 use Rattle.egl_model.specs.Waits.{is_signalled, is_wait_end, waiting}
 use Rattle.egl_model.specs.Windows.{swapped_surface, swapped_with}
-use Rattle.model_laws.proofs.SweepLaws.{length-swept, object_at-swept}
+use Rattle.model_laws.proofs.References.SweepLaws.{length-swept, object_at-swept}
 use Rattle.driver_facts.proofs.TouchLaws.{gl_never_waits}
 use Rattle.driver_facts.specs.Touches.{buffer_touches_on, deletion_touches, drawing, egl_touches, front, gl_touches, gl_touches_on, nothing, object, object_touches, own_touches, swap_of, swap_with, touches_by, touches_by_class, touches_of}
 use Rattle.race_report.specs.Writes.{Becomes, IsAsItWas, IsWrittenBy, Loses, LosesIn, Shows, Spares, StaysOrGoes, left_out, left_out_by, left_out_of}
@@ -600,9 +600,13 @@ buffer_on : (s : State) (t : ℕ) (c : CallValue) (o : Option ℕ) → ToldBy (b
 buffer_on s t c None = tells_self [] s.objects s.windows
 buffer_on s t c (Some n) = buffer_ruled s t n c (buffer_refusal s t n c)
 
+buffer_told : (s : State) (t : ℕ) (c : CallValue) → ToldBy (buffer_touches_on s (current_context s t) c) s (buffer_step_on s t (current_context s t) c)
+buffer_told s t c = buffer_on s t c (current_context s t)
+
 own_told : (s : State) (t : ℕ) (c : CallValue) (k : OwnKind) → ToldBy (own_touches s t k c) s (own_step s t k c)
-own_told s t c ReadBuffer = buffer_on s t c (current_context s t)
-own_told s t c k = tells_self _ s.objects s.windows
+own_told s t c WaitEnd = tells_self _ s.objects s.windows
+-- a call that changes nothing, or one that is refused as a call of OpenGL ES
+own_told s t c k = search (tells_self, buffer_told)
 
 kind_told : (s : State) (t : ℕ) (c : CallValue) (k : Kind) → StepLeaves (touches_by s t k c) (left_out_by k (current_context s t) s) s (step_by s t k c)
 unfolding egl_step gl_step

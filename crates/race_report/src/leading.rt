@@ -277,9 +277,7 @@ fn waited_by(entries: &[Entry], entry: &Entry) -> Option<i64>
                 None
             }
         }
-        Kind::Own(OwnKind::Post | OwnKind::Await | OwnKind::Halt) => None,
-        Kind::Own(OwnKind::Census | OwnKind::ReadFront | OwnKind::ReadBuffer) => None,
-        Kind::Gl(_) => None,
+        Kind::Gl(_) | Kind::Own(_) => None,
     }
 }
 

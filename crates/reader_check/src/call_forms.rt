@@ -11,7 +11,7 @@ const HEAD: &[u8] = b"egl-trace 1 1\n0 $v = eglGetDisplay 0\n0 ";
 /// An argument of a form.
 fn argument(form: Form) -> &'static [u8] {
     match form {
-        Form::Number => b" -1",
+        Form::Number | Form::Config => b" -1",
         Form::NumberOrVariable => b" $v",
         Form::PostNumber => b" 2147483647",
         Form::Timeout => b" 9223372036854775807",

@@ -1,5 +1,6 @@
 -- What the first row that holds says of the others.
 use Rattle.std.proofs.Common.{◌≡◌, ◌⊎◌, inl, inr, Bool, true, false, cond, ◌||◌, List, [], ◌∷◌, ◌++◌, Option, None, Some, refl, sym, ap, ◌∙◌}
+use Rattle.std.proofs.lemmas.Bool.{or_parts}
 use Rattle.refusal_rows.specs.Rows.{AllOff, IsFirst, Row, first_error}
 
 off : {E : Type 0} (b : Bool) (e : E) (o : Option E) → cond b (Some e) o ≡ None → (b ≡ false) × (o ≡ None)
@@ -71,13 +72,9 @@ abbrev pub some_says : {E : Type 0} → (E → Bool) → List (Row E) → Bool
 some_says p [] = false
 some_says p (r ∷ rs) = p r.1 || some_says p rs
 
-neither : (a b : Bool) → (a || b) ≡ false → (a ≡ false) × (b ≡ false)
-neither true b h = absurd (let e : true ≡ false = h in cc)
-neither false b h = (refl, h)
-
 none_says : {E : Type 0} (p : E → Bool) (rs : List (Row E)) → some_says p rs ≡ false → NoneSays p rs
 none_says p [] h = tt
-none_says p (r ∷ rs) h = let n = neither (p r.1) (some_says p rs) h in (n.0, none_says p rs n.1)
+none_says p (r ∷ rs) h = let n = or_parts (p r.1) (some_says p rs) h in (n.0, none_says p rs n.1)
 
 pub is_not_said : {E : Type 0} (p : E → Bool) (e : E) (rs : List (Row E)) → p e ≡ true → some_says p rs ≡ false → first_error rs ≡ Some e → ⊥
 is_not_said p e rs y n h = never_says p e rs y (none_says p rs n) h

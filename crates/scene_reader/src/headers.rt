@@ -3,12 +3,10 @@ ghost use Rattle.std.specs.Prelude.{◌≡◌, map, IfOk};
 ghost use Rattle.scene_reader.specs.Headers as values;
 ghost use Rattle.scene_reader.specs.Scenes.{IsSide};
 
+use egl_calls::limits::LONGEST_SIDE;
 use trace_reader::Reason;
 use trace_reader::numerals::numeral;
 use trace_reader::word_cuts::word_at;
-
-/// The longest side of a scene, in pixels.
-const LONGEST_SIDE: u64 = 2_048;
 
 /// The sides of a scene, in pixels.
 #[derive(Clone, Copy, Drop)]

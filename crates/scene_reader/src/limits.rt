@@ -3,16 +3,14 @@ ghost use Rattle.std.specs.Prelude.{◌≡◌, ◌*◌, ◌^◌, ◌<◌, ◌≤
 ghost use Rattle.scene_reader.specs.Items as values;
 
 use crate::items::Item;
-
-/// The longest side of a texture.
-const LONGEST_SIDE: u32 = 1_024;
+use egl_calls::limits::LONGEST_TEXTURE_SIDE;
 
 /// The least power of two that isn't below a number up to 1,024: a side of the texture on which a smooth part that large is made. Above, it is 1,024.
 #[tactic(auto, using(crate::proofs::PowerLaws::least_is))]
 pub fn least_power(n: u32) -> u32
     ensures { result ≡ values.least_power n }
 {
-    n.min(LONGEST_SIDE).next_power_of_two()
+    n.min(LONGEST_TEXTURE_SIDE as u32).next_power_of_two()
 }
 
 fn product(a: u32, b: u32) -> u128

@@ -19,7 +19,7 @@ use Rattle.trace_reader.specs.Payloads.{are_byte_digits, hex_bytes, payload}
 use Rattle.trace_reader.specs.References.{is_reference, used_in}
 use Rattle.trace_reader.specs.Words.{is_word}
 use Rattle.call_table.specs.declared.forms.Form.{Form}
-use Rattle.call_table.specs.declared.forms.Form.TheVariants.{Number, NumberOrVariable, AttributeList, NumberList, Payload}
+use Rattle.call_table.specs.declared.forms.Form.TheVariants.{Number, Config, NumberOrVariable, AttributeList, NumberList, Payload}
 use Rattle.journal_text.proofs.WordLaws.{From, bracketed, from_less, hex_long, hex_written, items_written, list_written, no_first, number_written, within}
 use Rattle.journal_text.specs.Written.{IsByte, IsLong}
 use Rattle.scene_trace.specs.Lines.{payload_text}
@@ -65,6 +65,10 @@ number z r {fs} {ws} {zs} {list} {bytes} m = record {
   known = m.known;
   free = λ place. m.free (place + 1);
 }
+
+-- the same where a config has its number
+pub config : (z : ℤ) → IsNumber z → {fs : List Form} {ws : List (List ℕ)} {zs list : List ℤ} {bytes : Option (List ℕ)} → Argues fs ws zs list bytes → Argues (Config ∷ fs) (number_text z ∷ ws) (z ∷ zs) list bytes
+config z r m = let n = number z r m in record { words = n.words; argued = n.argued; known = n.known; free = n.free }
 
 -- the same where a variable could stand
 pub variable : (z : ℤ) → IsNumber z → {fs : List Form} {ws : List (List ℕ)} {zs list : List ℤ} {bytes : Option (List ℕ)} → Argues fs ws zs list bytes → Argues (NumberOrVariable ∷ fs) (number_text z ∷ ws) (z ∷ zs) list bytes

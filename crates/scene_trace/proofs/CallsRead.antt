@@ -1,6 +1,6 @@
 -- Each call that draws a scene is read back from its line.
 use Rattle.std.proofs.Common.{◌≡◌, ℕ, ℤ, pos, ◌+◌, ◌≤◌, Bool, true, false, not, ◌&&◌, nat_le, List, [], ◌∷◌, length, drop, refl, sym, subst, ap, ◌∙◌, arith, Option, None, Some, All}
-use Rattle.std.proofs.lemmas.Bool.{and_left, and_parts, le-leb}
+use Rattle.std.proofs.lemmas.Bool.{and_left, and_parts, le-leb, not-true}
 use Rattle.std.proofs.lemmas.List.Elements.{All-cons, All-nil}
 use Rattle.std.specs.Prelude.{codes, if◌then◌else◌, Result, Ok}
 use Rattle.std.specs.List.{list_all}
@@ -28,9 +28,10 @@ use Rattle.journal_text.specs.Written.{IsByte}
 use Rattle.scene_reader.specs.declared.items.ScaledPart.{ScaledPart}
 use Rattle.sprite_scene.specs.Calls.{bind_texture, create_context, create_pbuffer, crop, draw_tex, enable, get_display, initialize, make_current, read_all, replace, scissor, set_nearest, tex_image}
 use Rattle.scene_trace.specs.Lines.{argument_words, line_of}
-use Rattle.scene_trace.specs.Rows.{call_forms, call_name}
-use Rattle.scene_trace.proofs.ArgumentsRead.{Argues, attribute_words, call_said, list, nothing, number, payload_is, variable}
-use Rattle.scene_trace.proofs.NumbersRead.{code, not_from, small}
+use Rattle.call_table.specs.Names.{call_name}
+use Rattle.scene_trace.specs.Rows.{call_forms}
+use Rattle.scene_trace.proofs.ArgumentsRead.{Argues, attribute_words, call_said, config, list, nothing, number, payload_is, variable}
+use Rattle.scene_trace.proofs.NumbersRead.{code, small}
 use Rattle.scene_trace.proofs.Spaced.{AreWords, call_words}
 
 -- a call is read back from its words, behind the thread's
@@ -75,7 +76,7 @@ reads c {fs} {ws} {zs} {l} {bytes} a can named few words call =
     let name = call_name c.kind in
     let p = and_parts (is_word name && list_all (nat_le 33) name) (not (begins_with 36 name)) can in
     let q = and_parts (is_word name) (list_all (nat_le 33) name) p.0 in
-    let plain = not_from (begins_with 36 name) p.1 in
+    let plain = not-true (begins_with 36 name) p.1 in
     let w : AreWords (name ∷ ws) = (q.0, from_all 33 name q.1, a.words) in
     record {
       words = subst (λ (vs : List (List ℕ)). AreWords (name ∷ vs)) (sym words) w;
@@ -116,14 +117,14 @@ create_pbuffer_reads w h k l =
     let sides = pos EGL_WIDTH ∷ pos w ∷ pos EGL_HEIGHT ∷ pos h ∷ [] in
     let all = four (pos EGL_WIDTH) (pos w) (pos EGL_HEIGHT) (pos h) (code EGL_WIDTH refl) (small w (omega (arith, k))) (code EGL_HEIGHT refl) (small h (omega (arith, l))) in
     reads (create_pbuffer w h)
-    (variable (pos 1) one_said (number (pos 4) (code 4 refl) (attribute_words sides all refl)))
+    (variable (pos 1) one_said (config (pos 4) (code 4 refl) (attribute_words sides all refl)))
     refl refl (omega arith) refl refl
 
 pub create_context_reads : Reads create_context
 unfolding padded call_named calls call_name call_forms attributes
 create_context_reads =
     reads create_context
-    (variable (pos 1) one_said (number (pos 4) (code 4 refl) (variable (pos 0) zero_said (attribute_words [] (All-nil IsNumber) refl))))
+    (variable (pos 1) one_said (config (pos 4) (code 4 refl) (variable (pos 0) zero_said (attribute_words [] (All-nil IsNumber) refl))))
     refl refl (omega arith) refl refl
 
 pub make_current_reads : Reads make_current

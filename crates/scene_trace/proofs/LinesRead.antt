@@ -25,7 +25,7 @@ use Rattle.trace_reader.specs.declared.traces.Line.{Line}
 use Rattle.journal_text.proofs.WordLaws.{From, from_all}
 use Rattle.sprite_scene.specs.Runs.{video_bytes}
 use Rattle.scene_trace.specs.Lines.{call_line, line_of, lines_from, trace_of}
-use Rattle.scene_trace.specs.Rows.{call_name}
+use Rattle.call_table.specs.Names.{call_name}
 use Rattle.scene_trace.proofs.CallsRead.{Reads}
 use Rattle.scene_trace.proofs.Spaced.{AreWords, bare_line, call_words, from_spaced, line_first, line_is, words_spaced}
 

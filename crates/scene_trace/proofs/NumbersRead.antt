@@ -1,6 +1,6 @@
 -- Numbers are read back as they are written.
 use Rattle.std.proofs.Common.{◌≡◌, ℕ, zero, suc, ℤ, pos, negsuc, ◌≤◌, Bool, true, false, not, ◌&&◌, ◌==◌, nat_le, List, [], ◌∷◌, take, refl, sym, subst, ap, ◌∙◌, arith, Option, None, Some}
-use Rattle.std.proofs.lemmas.Bool.{and_left, and_parts, and_right, cond-false, leb-true, lt-leb, ne_eqb, or_from}
+use Rattle.std.proofs.lemmas.Bool.{and_left, and_parts, and_right, cond-false, leb-true, lt-leb, ne_eqb, or_from, not-true}
 use Rattle.std.proofs.lemmas.Int.{ints}
 use Rattle.std.specs.Prelude.{codes, if◌then◌else◌, int_lt, slice_get}
 use Rattle.std.specs.Fmt.{signed_decimal}
@@ -35,15 +35,11 @@ plain_at [] k w h g = absurd (let e : None ≡ Some w = g in cc)
 plain_at (x ∷ xs) zero w h g = let e : x ≡ w = cc in ap is_plain (sym e) ∙ (and_parts (is_plain x) (list_all is_plain xs) h).0
 plain_at (x ∷ xs) (suc k) w h g = plain_at xs k w (and_parts (is_plain x) (list_all is_plain xs) h).1 g
 
-pub not_from : (b : Bool) → not b ≡ true → b ≡ false
-not_from true h = absurd (let e : false ≡ true = h in cc)
-not_from false h = refl
-
 one_part : (w : List ℕ) → list_all (λ x. not (x == 124)) w ≡ true → slice_split is_bar w ≡ w ∷ []
 one_part [] h = refl
 one_part (b ∷ bs) h =
     let p = and_parts (not (b == 124)) (list_all (λ x. not (x == 124)) bs) h in
-    cond-false (b == 124) _ _ (not_from (b == 124) p.0) ∙ ap (onto_first b) (one_part bs p.1)
+    cond-false (b == 124) _ _ (not-true (b == 124) p.0) ∙ ap (onto_first b) (one_part bs p.1)
 
 -- ---- What begins with a letter is no numeral.
 neither : (b : Bool) (o : Option ℕ) → o ≡ None → (if b then o else None) ≡ None

@@ -11,7 +11,8 @@ use Rattle.egl_calls.specs.Calls.{CallValue}
 use Rattle.trace_reader.specs.Words.{is_space, is_word, words}
 use Rattle.journal_text.proofs.WordLaws.{From, from_append, from_less, split_first, split_last}
 use Rattle.scene_trace.specs.Lines.{argument_words, call_line, spaced}
-use Rattle.scene_trace.specs.Rows.{call_forms, call_name}
+use Rattle.call_table.specs.Names.{call_name}
+use Rattle.scene_trace.specs.Rows.{call_forms}
 
 -- texts without spaces, none of them empty
 abbrev pub AreWords : List (List ℕ) → Type 0

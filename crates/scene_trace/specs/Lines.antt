@@ -4,7 +4,7 @@ use Rattle.std.specs.List.{flat_map}
 use Rattle.egl_calls.specs.Arguments.{signed}
 use Rattle.egl_calls.specs.Calls.{CallValue}
 use Rattle.call_table.specs.declared.forms.Form.{Form}
-use Rattle.call_table.specs.declared.forms.Form.TheVariants.{Number, NumberOrVariable, PostNumber, Timeout, AttributeList, NumberList, NameList, Payload}
+use Rattle.call_table.specs.declared.forms.Form.TheVariants.{Number, Config, NumberOrVariable, PostNumber, Timeout, AttributeList, NumberList, NameList, Payload}
 use Rattle.trace_model.specs.Recording.{hex_byte, list_text, number_text}
 use Rattle.trace_reader.specs.Arguments.{place_behind}
 use Rattle.trace_reader.specs.Traces.{TraceValue}
@@ -12,7 +12,8 @@ use Rattle.trace_reader.specs.declared.traces.Line.{Line}
 use Rattle.scene_reader.specs.Scenes.{SceneValue}
 use Rattle.sprite_scene.specs.Calls.{calls_of}
 use Rattle.sprite_scene.specs.Runs.{video_bytes}
-use Rattle.scene_trace.specs.Rows.{call_forms, call_name}
+use Rattle.call_table.specs.Names.{call_name}
+use Rattle.scene_trace.specs.Rows.{call_forms}
 
 -- two digits a byte, and - for the null pointer
 unfoldable pub payload_text : Option (List ℕ) → List ℕ
@@ -22,6 +23,7 @@ payload_text (Some bs) = codes "#" ++ flat_map hex_byte bs
 -- the word of an argument of a form: the number in its place, the call's list, or its payload
 abbrev pub argument_word : ℕ → Form → CallValue → List ℕ
 argument_word place Number c = number_text (signed c place)
+argument_word place Config c = number_text (signed c place)
 argument_word place NumberOrVariable c = number_text (signed c place)
 argument_word place PostNumber c = number_text (signed c place)
 argument_word place Timeout c = number_text (signed c place)

@@ -11,13 +11,7 @@ use Rattle.call_table.specs.declared.forms.Form.{Form}
 use Rattle.call_table.specs.declared.gl_table.TheConstants.{GL_CALLS}
 use Rattle.call_table.specs.declared.own_table.TheConstants.{OWN_CALLS}
 
--- the word that names a call; the end of a wait and a Halt have none
-unfoldable pub call_name : Kind → List ℕ
-call_name (Egl k) = slice_index_or (map (λ r. r.0.now) EGL_CALLS) (tag_of egl_kinds.the_type k) []
-call_name (Gl k) = slice_index_or (map (λ r. r.0.now) GL_CALLS) (tag_of gl_kinds.the_type k) []
-call_name (Own k) = slice_index_or (map (λ r. r.0.now) OWN_CALLS) (tag_of own_kinds.the_type k) []
-
--- the forms of its arguments; the end of a wait and a Halt have none
+-- the forms of the arguments of a call; the end of a wait and a Halt have none
 unfoldable pub call_forms : Kind → List Form
 call_forms (Egl k) = slice_index_or (map (λ r. r.2.now) EGL_CALLS) (tag_of egl_kinds.the_type k) []
 call_forms (Gl k) = slice_index_or (map (λ r. r.2.now) GL_CALLS) (tag_of gl_kinds.the_type k) []

@@ -4,8 +4,8 @@ ghost use Rattle.std.specs.List.{flat_map};
 ghost use Rattle.trace_reader.specs.Arguments.{place_behind};
 ghost use Rattle.scene_trace.specs.Lines as values;
 
-use crate::rows::{call_forms, call_name};
-use call_table::Form;
+use crate::rows::call_forms;
+use call_table::{Form, call_name};
 use egl_calls::{Bytes, Call, NoMemory, Payload};
 use journal_text::texts::{put_byte, put_number, put_text};
 use journal_text::{put_hex, put_list};
@@ -31,7 +31,7 @@ fn put_argument(out: &mut Bytes, place: usize, form: Form, call: &Call) -> Resul
 {
     put_byte(out, b' ')?;
     match form {
-        Form::Number | Form::NumberOrVariable | Form::PostNumber | Form::Timeout => {
+        Form::Number | Form::Config | Form::NumberOrVariable | Form::PostNumber | Form::Timeout => {
             put_number(out, call.args[place])?;
             Ok(place + 1)
         }

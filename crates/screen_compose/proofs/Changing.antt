@@ -1,7 +1,7 @@
 -- A row that doesn't change is composed already.
-use Rattle.std.proofs.Common.{◌≡◌, ℕ, zero, suc, ◌+◌, ◌<◌, ◌≤◌, List, [], ◌∷◌, Bool, true, false, cond, not, ◌&&◌, ◌||◌, ◌==◌, map, length, get_or, set, refl, sym, ap, ◌∙◌, arith, min, drop, subst, Option, None, Some, inl, inr, length-set}
+use Rattle.std.proofs.Common.{◌≡◌, ℕ, zero, suc, ◌+◌, ◌<◌, ◌≤◌, List, [], ◌∷◌, Bool, true, false, cond, ◌&&◌, ◌==◌, map, length, get_or, set, refl, sym, ap, ◌∙◌, arith, min, drop, subst, Option, None, Some, inl, inr, length-set}
 use Rattle.std.specs.List.{count_by, range_with_len, sum_by}
-use Rattle.std.proofs.lemmas.Bool.{cases_eq, eqb-true}
+use Rattle.std.proofs.lemmas.Bool.{cases_eq, eqb-true, and_parts, not-false, or_parts}
 use Rattle.std.proofs.lemmas.List.{ext_get_or, get_or-set_same, get_or-set_other, map-id}
 use Rattle.std.proofs.lemmas.List.FromFn.{get_or-map-range_with_len, length-map-range_with_len, sum_by-map-range_with_len_more}
 use Rattle.pixel_formats.specs.declared.pixels.Pixel.{Pixel}
@@ -12,16 +12,11 @@ use Rattle.screen_compose.specs.declared.placed.Placed.{Placed}
 use Rattle.screen_compose.proofs.RowLaws.{length-composed_row}
 
 -- ---- Rows with the same pixels are one row.
-pub both : (a b : Bool) → (a && b) ≡ true → (a ≡ true) × (b ≡ true)
-both true true h = (refl, refl)
-both true false h = absurd (let f : false ≡ true = h in cc)
-both false b h = absurd (let f : false ≡ true = h in cc)
-
 same_pixel : (p q : Pixel) → is_same_pixel p q ≡ true → p ≡ q
 same_pixel p q h =
-    let first = both ((p.r == q.r) && (p.g == q.g) && (p.b == q.b)) (p.a == q.a) h in
-    let second = both ((p.r == q.r) && (p.g == q.g)) (p.b == q.b) first.0 in
-    let third = both (p.r == q.r) (p.g == q.g) second.0 in
+    let first = and_parts ((p.r == q.r) && (p.g == q.g) && (p.b == q.b)) (p.a == q.a) h in
+    let second = and_parts ((p.r == q.r) && (p.g == q.g)) (p.b == q.b) first.0 in
+    let third = and_parts (p.r == q.r) (p.g == q.g) second.0 in
     let r = eqb-true p.r q.r third.0 in let g = eqb-true p.g q.g third.1 in
     let b = eqb-true p.b q.b second.1 in let a = eqb-true p.a q.a first.1 in
     λ i. record { r = r i; g = g i; b = b i; a = a i }
@@ -31,23 +26,14 @@ same_pixels [] [] h = refl
 same_pixels [] (q ∷ qs) h = absurd (let f : false ≡ true = h in cc)
 same_pixels (p ∷ ps) [] h = absurd (let f : false ≡ true = h in cc)
 same_pixels (p ∷ ps) (q ∷ qs) h =
-    let e = both (is_same_pixel p q) (are_same_pixels ps qs) h in
+    let e = and_parts (is_same_pixel p q) (are_same_pixels ps qs) h in
     let a = same_pixel p q e.0 in let b = same_pixels ps qs e.1 in λ i. a i ∷ b i
-
-off : (b : Bool) → not b ≡ false → b ≡ true
-off true h = refl
-off false h = absurd (let f : true ≡ false = h in cc)
 
 same_row : (old new : Option (List Pixel)) → differ old new ≡ false → old ≡ new
 same_row None None h = refl
 same_row None (Some new) h = absurd (let f : true ≡ false = h in cc)
 same_row (Some old) None h = absurd (let f : true ≡ false = h in cc)
-same_row (Some old) (Some new) h = ap Some (same_pixels old new (off (are_same_pixels old new) h))
-
-neither : (a b : Bool) → (a || b) ≡ false → (a ≡ false) × (b ≡ false)
-neither true b h = absurd (let f : true ≡ false = h in cc)
-neither false true h = absurd (let f : true ≡ false = h in cc)
-neither false false h = (refl, refl)
+same_row (Some old) (Some new) h = ap Some (same_pixels old new (not-false (are_same_pixels old new) h))
 
 -- ---- The same rows of the same windows lie over it.
 heads : (p q : Placed) (ps qs : List Placed) → (p ∷ ps) ≡ (q ∷ qs) → (p ≡ q) × (ps ≡ qs)
@@ -62,7 +48,7 @@ same_cover [] [] x y c e h = refl
 same_cover [] (n ∷ news) x y c e h = absurd (let f : 0 ≡ suc (length (placed_in news)) = ap length e in omega (arith, f))
 same_cover (o ∷ olds) [] x y c e h = absurd (let f : suc (length (placed_in olds)) ≡ 0 = ap length e in omega (arith, f))
 same_cover (o ∷ olds) (n ∷ news) x y c e h =
-    let d = neither (differ (row_at o y) (row_at n y)) (is_changed olds news y) h in
+    let d = or_parts (differ (row_at o y) (row_at n y)) (is_changed olds news y) h in
     let p = heads o.placed n.placed (placed_in olds) (placed_in news) e in
     let r = same_row (row_at o y) (row_at n y) d.0 in
     same_cover olds news x y (covered o.placed.x (row_at o y) x c) p.1 d.1

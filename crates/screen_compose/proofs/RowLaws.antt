@@ -1,9 +1,10 @@
 -- What is left to lay over a row.
-use Rattle.std.proofs.Common.{◌≡◌, ℕ, ◌+◌, ◌<◌, ◌≢◌, suc, List, [], ◌∷◌, ◌++◌, Bool, true, false, ◌&&◌, map, length, get_or, drop, replicate, refl, sym, ap, ◌∙◌, arith}
+use Rattle.std.proofs.Common.{◌≡◌, ℕ, ◌+◌, ◌<◌, ◌≢◌, suc, List, [], ◌∷◌, ◌++◌, false, ◌&&◌, map, length, get_or, drop, replicate, refl, sym, ap, ◌∙◌, arith}
 use Rattle.std.specs.List.{range_with_len}
 use Rattle.std.proofs.Math.Seq.{drop-cons}
 use Rattle.std.proofs.lemmas.List.{ext_get_or, get_or-replicate, length-replicate}
 use Rattle.std.proofs.lemmas.List.FromFn.{get_or-map-range_with_len, length-map-range_with_len, map-range_with_len_more}
+use Rattle.egl_calls.proofs.Truths.{and_false}
 use Rattle.pixel_formats.specs.declared.pixels.Pixel.{Pixel}
 use Rattle.pixel_rows.specs.Images.{ImageValue, no_pixel, pixel_at}
 use Rattle.screen_compose.specs.Composing.{black, composed_row, covered, covered_by, row_at}
@@ -57,12 +58,8 @@ row_from layers given old start new y g s l e =
     (λ x h. let b : x < length start = omega (arith, h, n) in e x b ∙ ap (λ ls. covered_by ls x y (get_or start x no_pixel)) g ∙ ap (covered_by layers x y) (ap (λ r. get_or r x no_pixel) s ∙ get_or-replicate (length old) x black no_pixel h))
 
 -- ---- Rows of other lengths aren't the same.
-never : (b : Bool) → (b && false) ≡ false
-never true = refl
-never false = refl
-
 pub other_length : (ps qs : List Pixel) → length ps ≢ length qs → are_same_pixels ps qs ≡ false
 other_length [] [] ne = absurd (ne refl)
 other_length [] (q ∷ qs) ne = refl
 other_length (p ∷ ps) [] ne = refl
-other_length (p ∷ ps) (q ∷ qs) ne = ap (λ b. is_same_pixel p q && b) (other_length ps qs (λ e. ne (ap suc e))) ∙ never (is_same_pixel p q)
+other_length (p ∷ ps) (q ∷ qs) ne = ap (λ b. is_same_pixel p q && b) (other_length ps qs (λ e. ne (ap suc e))) ∙ and_false (is_same_pixel p q)

@@ -1,12 +1,13 @@
 -- A screen of which nothing is shown yet, and what its sides are.
 use Rattle.std.proofs.Common.{◌≡◌, ℕ, ◌<◌, ◌≤◌, ◌*◌, List, [], ◌∷◌, true, ◌&&◌, map, length, replicate, refl, sym, ap, ◌∙◌, subst, arith}
 use Rattle.std.specs.Prelude.{nat_le}
-use Rattle.std.specs.List.{flat_map, range_with_len}
+use Rattle.std.specs.List.{range_with_len}
 use Rattle.std.proofs.Math.Nat.{mul-le-mul}
 use Rattle.std.proofs.lemmas.Bool.Decides.{nat_tests}
 use Rattle.std.proofs.lemmas.List.{ext_get_or, get_or-replicate, length-replicate}
 use Rattle.std.proofs.lemmas.List.Folds.{flat_map-map}
 use Rattle.std.proofs.lemmas.List.FromFn.{get_or-map-range_with_len, length-map-range_with_len}
+use Rattle.std.proofs.lemmas.Bool.{and_parts}
 use Rattle.pixel_formats.specs.declared.pixels.Pixel.{Pixel}
 use Rattle.pixel_rows.proofs.LawsHold.{length-flat}
 use Rattle.pixel_rows.specs.Images.{no_pixel}
@@ -15,7 +16,7 @@ use Rattle.screen_compose.specs.Fronts.{FrontsValue, LayerValue, bare_layer, no_
 use Rattle.screen_compose.specs.Placing.{are_placed, is_side, screen_ok}
 use Rattle.screen_compose.specs.Screens.{Shows, pixel_bytes, row_bytes, picture_bytes}
 use Rattle.screen_compose.specs.declared.placed.Placed.{Placed}
-use Rattle.screen_compose.proofs.Changing.{both, length-composed}
+use Rattle.screen_compose.proofs.Changing.{length-composed}
 
 all_same : {A : Type 0} (f : ℕ → A) (a d : A) (n : ℕ) → ((x : ℕ) → f x ≡ a) → map f (range_with_len 0 n) ≡ replicate n a
 all_same f a d n e =
@@ -48,12 +49,12 @@ record Sides (w h : ℕ) (placed : List Placed) : Type 0 where
 
 sides : (w h : ℕ) (placed : List Placed) → screen_ok w h placed ≡ true → Sides w h placed
 sides w h placed ok =
-    let a = both (is_side w && is_side h && nat_le (length placed) 64) (are_placed placed) ok in
-    let b = both (is_side w && is_side h) (nat_le (length placed) 64) a.0 in
-    let c = both (is_side w) (is_side h) b.0 in
+    let a = and_parts (is_side w && is_side h && nat_le (length placed) 64) (are_placed placed) ok in
+    let b = and_parts (is_side w && is_side h) (nat_le (length placed) 64) a.0 in
+    let c = and_parts (is_side w) (is_side h) b.0 in
     record {
-      wide = below w 2048 (both (nat_le 1 w) (nat_le w 2048) c.0).1;
-      high = below h 2048 (both (nat_le 1 h) (nat_le h 2048) c.1).1;
+      wide = below w 2048 (and_parts (nat_le 1 w) (nat_le w 2048) c.0).1;
+      high = below h 2048 (and_parts (nat_le 1 h) (nat_le h 2048) c.1).1;
       few = below (length placed) 64 b.1;
     }
 

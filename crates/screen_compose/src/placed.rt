@@ -2,8 +2,7 @@
 ghost use Rattle.std.specs.Prelude.{◌≡◌};
 ghost use Rattle.screen_compose.specs.Placing as values;
 
-/// The longest side of a screen, in pixels.
-const LONGEST_SIDE: u32 = 2_048;
+use egl_calls::limits::LONGEST_SIDE;
 
 /// The most windows that may be placed on a screen.
 const MOST_PLACED: usize = 64;
@@ -61,7 +60,7 @@ fn are_placed(list: &[Placed]) -> bool
 fn is_side(side: u32) -> bool
     ensures { result ≡ values.is_side side }
 {
-    1 <= side && side <= LONGEST_SIDE
+    1 <= side && side as u64 <= LONGEST_SIDE
 }
 
 /// Whether there may be a screen of these sides with these windows: sides from 1 to 2,048, and at most 64 distinct windows, each from -2,147,483,648 to 2,147,483,647.

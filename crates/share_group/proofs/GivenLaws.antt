@@ -5,6 +5,7 @@ use Rattle.std.specs.Option.{is_some}
 use Rattle.std.proofs.lemmas.Bool.{cases_eq, cases_order, ne_eqb, eq-eqb}
 use Rattle.std.proofs.lemmas.List.Elements.{All-get_or, All-nil, All-push, All-weaker}
 use Rattle.std.proofs.lemmas.List.Quantifiers.{all_pairs_push}
+use Rattle.egl_calls.proofs.Truths.{false_by}
 use Rattle.share_group.specs.declared.names.Name.{Name}
 use Rattle.share_group.specs.Names.{Rise, after, fresh, given, is_used, put, unused_from}
 use Rattle.share_group.specs.Laws.{GivesTheSmallest}
@@ -57,10 +58,6 @@ used_after k (suc n) xs h = used_stays k (fresh (unused_from 1 (after n xs))) (a
 not_both : (b : Bool) → b ≡ true → b ≡ false → ⊥
 not_both b t f = cc
 
-unless_used : (b c : Bool) → (b ≡ true → c ≡ true) → c ≡ false → b ≡ false
-unless_used false c f h = refl
-unless_used true c f h = absurd (not_both c (f refl) h)
-
 module _ (xs : List Name) (end : ℕ) (r : Rise 1 xs end) where
   next_unused : (n : ℕ) → is_used (unused_from 1 (after n xs)) (after n xs) ≡ false
   next_unused n = ap is_some (unused_not_used 1 (after n xs) (end + n) (rise-after n xs end r))
@@ -75,7 +72,7 @@ module _ (xs : List Name) (end : ℕ) (r : Rise 1 xs end) where
   unused zero = All-nil (λ m. is_used m xs ≡ false)
   unused (suc n) =
       let next = unused_from 1 (after n xs) in
-      All-push (λ m. is_used m xs ≡ false) (given n xs) next (unused n) (unless_used (is_used next xs) (is_used next (after n xs)) (used_after next n xs) (next_unused n))
+      All-push (λ m. is_used m xs ≡ false) (given n xs) next (unused n) (false_by (is_used next xs) (is_used next (after n xs)) (used_after next n xs) (next_unused n))
 
   used : (n : ℕ) → All (λ m. is_used m (after n xs) ≡ true) (given n xs)
   unfolding after given

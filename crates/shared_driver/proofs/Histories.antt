@@ -16,11 +16,11 @@ use Rattle.model_laws.specs.Hidden.{hide}
 use Rattle.egl_model.specs.History.{IsLegalFrom, replay_from}
 use Rattle.model_laws.specs.Local.{is_local, locally, part_after}
 use Rattle.egl_model.specs.Parts.{Private, part_of}
-use Rattle.model_laws.proofs.Framing.{has_frame, ready-step}
-use Rattle.model_laws.proofs.HistoryLaws.{IsLegalFrom-append, replay_from-append}
-use Rattle.model_laws.proofs.LateEntry.{late_entry, late_local}
-use Rattle.model_laws.proofs.StepKeeps.{sides_of_none, sound-opening}
-use Rattle.model_laws.proofs.WholeSweep.{linked_from}
+use Rattle.model_laws.proofs.Steps.Framing.{has_frame, ready-step}
+use Rattle.model_laws.proofs.Steps.HistoryLaws.{IsLegalFrom-append, replay_from-append}
+use Rattle.model_laws.proofs.Parts.LateEntry.{late_entry, late_local}
+use Rattle.model_laws.proofs.Steps.StepKeeps.{sides_of_none, sound-opening}
+use Rattle.model_laws.proofs.References.WholeSweep.{linked_from}
 use Rattle.driver_core.specs.Machine.{outs}
 use Rattle.driver_core.specs.Parts.{FitsThread}
 use Rattle.driver_core.proofs.AwayLaws.{tail_fits, tail_stays}

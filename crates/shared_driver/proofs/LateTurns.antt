@@ -13,8 +13,8 @@ use Rattle.egl_model.specs.Step.{step}
 use Rattle.model_laws.specs.Frame.{AreOf, IsReady}
 use Rattle.model_laws.specs.Hidden.{hide}
 use Rattle.model_laws.specs.Late.{IsOut, drawing, drawn_part}
-use Rattle.model_laws.proofs.LateDraws.{draws_unseen, part_drawn}
-use Rattle.model_laws.proofs.OwnedPixels.{draw_owned}
+use Rattle.model_laws.proofs.Parts.LateDraws.{draws_unseen, part_drawn}
+use Rattle.model_laws.proofs.Parts.OwnedPixels.{draw_owned}
 use Rattle.driver_core.specs.LateDraws.{IsLeft, drawn_late, part_drawn_late, sampler_of}
 use Rattle.driver_core.specs.Machine.{Machine, outs}
 use Rattle.driver_core.specs.declared.drawings.Drawing.{Drawing}

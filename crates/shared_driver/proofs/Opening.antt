@@ -15,7 +15,7 @@ use Rattle.model_laws.specs.Hidden.{hide}
 use Rattle.egl_model.specs.History.{replay_from}
 use Rattle.egl_model.specs.Parts.{Private, part_of}
 use Rattle.egl_model.specs.State.{State, capacity, opening}
-use Rattle.model_laws.proofs.StepKeeps.{sound-opening}
+use Rattle.model_laws.proofs.Steps.StepKeeps.{sound-opening}
 use Rattle.driver_core.specs.Machine.{outs}
 use Rattle.turn_lock.specs.Moves.{newcomer}
 use Rattle.turn_lock.specs.Values.{Begins, Leaves}

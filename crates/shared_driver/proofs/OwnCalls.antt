@@ -15,7 +15,7 @@ use Rattle.model_laws.specs.Local.{is_local, is_local_kind}
 use Rattle.egl_model.specs.Parts.{Private, part_of}
 use Rattle.egl_model.specs.State.{State}
 use Rattle.egl_model.specs.Step.{step}
-use Rattle.model_laws.proofs.HistoryLaws.{replay_from-append}
+use Rattle.model_laws.proofs.Steps.HistoryLaws.{replay_from-append}
 use Rattle.shared_driver.specs.declared.cores.Core.{Core}
 use Rattle.shared_driver.specs.Cores.{IsLegalAt, are_local, has_halted, of_number, part_after, start_in}
 use Rattle.shared_driver.proofs.Histories.{legal_at, legal_from, legal_more, local_more, ready_at, replay_more}

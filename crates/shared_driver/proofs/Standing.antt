@@ -10,7 +10,7 @@ use Rattle.egl_model.specs.History.{IsLegalFrom, replay_from}
 use Rattle.egl_model.specs.Parts.{Private, part_of}
 use Rattle.egl_model.specs.State.{State}
 use Rattle.egl_model.specs.Step.{Stepped, step}
-use Rattle.model_laws.proofs.StepPut.{hide-step}
+use Rattle.model_laws.proofs.Steps.StepPut.{hide-step}
 use Rattle.driver_core.specs.Machine.{Machine, outs}
 use Rattle.driver_core.proofs.OutsideLaws.{is_in as is_none}
 use Rattle.turn_lock.specs.Meaning.{Leads, StandsFor}

@@ -17,8 +17,8 @@ use Rattle.driver_objects.specs.Storages.{stored}
 use Rattle.egl_model.specs.Objects.{with_texture}
 use Rattle.egl_model.specs.Textures.{with_pixels}
 use Rattle.egl_model.specs.Sweep.{bytes_in, live_bytes}
-use Rattle.model_laws.proofs.Places.{below}
-use Rattle.sprite_scene.proofs.Views.{Has, IsNearest, IsStored, IsTexture, Shows}
+use Rattle.model_laws.proofs.References.Places.{below}
+use Rattle.sprite_scene.proofs.Views.{Has, IsNearest, IsStored, IsTextureAt, Shows}
 
 abbrev pub Objects : Type 0
 Objects = List (Option Object)
@@ -60,7 +60,7 @@ shows_new os c i names y v = record {
   long = let l = v.long in let e = length-append os (Some y ∷ []) in omega (arith, l, e);
 }
 
-pub texture_new : (os : Objects) (x : ℕ) (t : TextureValue) (level : Option ℕ) (y : Object) → IsTexture os x t level → IsTexture (os ++ Some y ∷ []) x t level
+pub texture_new : (os : Objects) (x : ℕ) (t : TextureValue) (level : Option ℕ) (y : Object) → IsTextureAt os x t level → IsTextureAt (os ++ Some y ∷ []) x t level
 texture_new os x t level y a = record { beyond = a.beyond; is = old os x y _ a.is }
 
 pub stored_new : (os : Objects) (x w h : ℕ) (pixel : ℕ → ℕ → Pixel) (y : Object) → IsStored os x w h pixel → IsStored (os ++ Some y ∷ []) x w h pixel
@@ -78,13 +78,13 @@ has_new os names name w h pixel y a = record {
 }
 
 -- ---- A change of the target, the context or the group.
-texture_set : (os : Objects) (n : ℕ) (y : Option Object) (x : ℕ) (t : TextureValue) (level : Option ℕ) → n ≢ x → IsTexture os x t level → IsTexture (set os n y) x t level
+texture_set : (os : Objects) (n : ℕ) (y : Option Object) (x : ℕ) (t : TextureValue) (level : Option ℕ) → n ≢ x → IsTextureAt os x t level → IsTextureAt (set os n y) x t level
 texture_set os n y x t level ne a = record { beyond = a.beyond; is = there os n x y ne ∙ a.is }
 
 stored_set : (os : Objects) (n : ℕ) (y : Option Object) (x w h : ℕ) (pixel : ℕ → ℕ → Pixel) → n ≢ x → IsStored os x w h pixel → IsStored (set os n y) x w h pixel
 stored_set os n y x w h pixel ne a = record { image = a.image; beyond = a.beyond; is = there os n x y ne ∙ a.is; picture = a.picture }
 
-pub texture_low : (os : Objects) (n : ℕ) (y : Option Object) (x : ℕ) (t : TextureValue) (level : Option ℕ) → n < 5 → IsTexture os x t level → IsTexture (set os n y) x t level
+pub texture_low : (os : Objects) (n : ℕ) (y : Option Object) (x : ℕ) (t : TextureValue) (level : Option ℕ) → n < 5 → IsTextureAt os x t level → IsTextureAt (set os n y) x t level
 texture_low os n y x t level l a = let b = a.beyond in texture_set os n y x t level (omega (arith, b, l)) a
 
 pub has_low : (os : Objects) (names : List Name) (name w h : ℕ) (pixel : ℕ → ℕ → Pixel) (n : ℕ) (y : Option Object) → n < 5 → Has os names name w h pixel → Has (set os n y) names name w h pixel
@@ -131,17 +131,17 @@ stored_kept os n f x w h pixel leaves a = record {
   picture = a.picture;
 }
 
-pub parameter_here : (os : Objects) (x : ℕ) (g : TextureValue → TextureValue) (t : TextureValue) (level : Option ℕ) → IsTexture os x t level →
-    IsTexture (set os x (with_texture (retextured g) (get_or os x None))) x (g t) level
+pub parameter_here : (os : Objects) (x : ℕ) (g : TextureValue → TextureValue) (t : TextureValue) (level : Option ℕ) → IsTextureAt os x t level →
+    IsTextureAt (set os x (with_texture (retextured g) (get_or os x None))) x (g t) level
 parameter_here os x g t level a = record { beyond = a.beyond; is = here os x (with_texture (retextured g)) _ a.is }
 
 -- a texture whose parameters may have changed, or not
 pub record Retextured (os : Objects) (x : ℕ) (g : TextureValue → TextureValue) (t : TextureValue) (level : Option ℕ) : Type 0 where
   pub texture : TextureValue
   pub nearest : IsNearest texture
-  pub is : IsTexture os x texture level
+  pub is : IsTextureAt os x texture level
 
-retextured_at : (os : Objects) (n : ℕ) (g : TextureValue → TextureValue) (x : ℕ) (t : TextureValue) (level : Option ℕ) → ((u : TextureValue) → IsNearest u → IsNearest (g u)) → IsNearest t → IsTexture os x t level →
+retextured_at : (os : Objects) (n : ℕ) (g : TextureValue → TextureValue) (x : ℕ) (t : TextureValue) (level : Option ℕ) → ((u : TextureValue) → IsNearest u → IsNearest (g u)) → IsNearest t → IsTextureAt os x t level →
     Retextured (set os n (with_texture (retextured g) (get_or os n None))) x g t level
 retextured_at os n g x t level keeps near a = elim (cases_eq n x) [
   | inl e ↦ record {
@@ -174,16 +174,16 @@ level_in : Option Object → Option ℕ
 level_in (Some (Texture x)) = get_or x.levels 0 None
 level_in o = None
 
-other_texture : (os : Objects) (n x : ℕ) (t u : TextureValue) (k : ℕ) → IsTexture os n t None → IsTexture os x u (Some k) → n ≢ x
+other_texture : (os : Objects) (n x : ℕ) (t u : TextureValue) (k : ℕ) → IsTextureAt os n t None → IsTextureAt os x u (Some k) → n ≢ x
 unfolding level_in
 other_texture os n x t u k a b e =
     let same : None ≡ Some k = ap level_in (sym a.is ∙ ap (λ m. get_or os m None) e ∙ b.is) in
     absurd cc
 
-pub level_here : (os : Objects) (x : ℕ) (t : TextureValue) (k : ℕ) → IsTexture os x t None → IsTexture (set os x (with_pixels 0 (Some k) (get_or os x None))) x t (Some k)
+pub level_here : (os : Objects) (x : ℕ) (t : TextureValue) (k : ℕ) → IsTextureAt os x t None → IsTextureAt (set os x (with_pixels 0 (Some k) (get_or os x None))) x t (Some k)
 level_here os x t k a = record { beyond = a.beyond; is = here os x (with_pixels 0 (Some k)) _ a.is }
 
-pub has_level : (os : Objects) (names : List Name) (name w h : ℕ) (pixel : ℕ → ℕ → Pixel) (n : ℕ) (t : TextureValue) (k : ℕ) → IsTexture os n t None →
+pub has_level : (os : Objects) (names : List Name) (name w h : ℕ) (pixel : ℕ → ℕ → Pixel) (n : ℕ) (t : TextureValue) (k : ℕ) → IsTextureAt os n t None →
     Has os names name w h pixel → Has (set os n (with_pixels 0 (Some k) (get_or os n None))) names name w h pixel
 has_level os names name w h pixel n t k none a = record {
   object = a.object;

@@ -10,14 +10,13 @@ use Rattle.pixel_formats.specs.declared.pixels.Pixel.{Pixel}
 use Rattle.pixel_rows.specs.Images.{blank, no_pixel}
 use Rattle.pixel_rows.proofs.Stored.{quantize-eight}
 use Rattle.egl_model.specs.Effects.{valued}
-use Rattle.egl_model.specs.EglCalls.{egl_effect}
 use Rattle.egl_model.specs.State.{State}
 use Rattle.egl_model.specs.Step.{done}
-use Rattle.egl_calls.specs.declared.kinds.EglKind.TheVariants.{GetDisplay, Initialize}
 use Rattle.scene_reader.specs.declared.items.Atlas.{Atlas}
 use Rattle.sprite_scene.specs.Calls.{create_context, create_pbuffer, enable, get_display, initialize, make_current, opening_calls, replace}
 use Rattle.sprite_scene.specs.Painted.{pixel_of}
 use Rattle.sprite_scene.specs.Runs.{opened}
+use Rattle.sprite_scene.proofs.LineCalls.{effect_of}
 use Rattle.sprite_scene.proofs.OpeningCalls.{Begun, context_step, current_goes, display_step, first_part, initialize_step, last_part, pbuffer_step, replace_goes, scissor_test_goes, second_part, texture_goes, third_part, with_context_made, with_pbuffer, idle}
 use Rattle.sprite_scene.proofs.Plays.{Plays, plays_one, plays_step, plays_then}
 use Rattle.sprite_scene.proofs.SmoothLaws.{no_pixel_bytes}
@@ -62,8 +61,8 @@ first_stage w h s a b g = record {
 pub opening_plays : (w h : ℕ) → w ≤ 2048 → h ≤ 2048 → Plays opened (opening_calls w h) (Stage w h None [] [])
 opening_plays w h a b =
     let Q = Stage w h None [] [] in
-    plays_step opened get_display (done (egl_effect opened 0 GetDisplay get_display)) opened _ Q display_step refl
-    (plays_step opened initialize (done (egl_effect opened 0 Initialize initialize)) (idle true [] [] 3) _ Q initialize_step refl
+    plays_step opened get_display (done (effect_of opened get_display)) opened _ Q display_step refl
+    (plays_step opened initialize (done (effect_of opened initialize)) (idle true [] [] 3) _ Q initialize_step refl
     (plays_step (idle true [] [] 3) (create_pbuffer w h) (done (valued (pos 3) (with_pbuffer w h))) (with_pbuffer w h) _ Q (pbuffer_step w h a b) refl
     (plays_step (with_pbuffer w h) create_context (done (valued (pos 4) (with_context_made w h))) (with_context_made w h) _ Q (context_step w h) refl
     (plays_then (with_context_made w h) make_current _ (Begun w h (first_part w h)) Q (current_goes w h) (λ s g.

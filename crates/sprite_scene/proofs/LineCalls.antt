@@ -4,16 +4,16 @@ use Rattle.std.specs.Option.{option_and_then, option_map}
 use Rattle.std.proofs.lemmas.Bool.{or_from}
 use Rattle.std.proofs.lemmas.List.{length-set}
 use Rattle.std.proofs.lemmas.Int.{ints}
+use Rattle.refusal_rows.specs.Rows.{AllOff}
 use Rattle.refusal_rows.proofs.RowLaws.{none_on}
 use Rattle.call_rules.proofs.TestLaws.{is_not_below}
 use Rattle.egl_calls.specs.Calls.{CallValue}
-use Rattle.egl_calls.specs.declared.kinds.Kind.TheVariants.{Gl}
+use Rattle.egl_calls.specs.declared.kinds.Kind.{Kind}
+use Rattle.egl_calls.specs.declared.kinds.Kind.TheVariants.{Egl, Gl, Own}
 use Rattle.egl_calls.specs.declared.kinds.GlKind.{GlKind}
-use Rattle.egl_calls.specs.declared.kinds.GlKind.TheVariants.{Scissor}
 use Rattle.egl_calls.specs.declared.errors.Outcome.TheVariants.{Done, Waiting}
 use Rattle.context_state.specs.Parts.{PartValue}
-use Rattle.context_state.specs.Calls as context_calls
-use Rattle.context_state.specs.Calls.{apply}
+use Rattle.context_state.specs.Calls.{after_rules, apply, changed}
 use Rattle.context_state.specs.Refusals.{context_rows, refusal}
 use Rattle.call_rules.proofs.GlLaws.{refused_not}
 use Rattle.pixel_formats.specs.declared.pixels.Pixel.{Pixel}
@@ -25,17 +25,36 @@ use Rattle.driver_objects.specs.declared.objects.Object.TheVariants.{Context}
 use Rattle.egl_model.specs.declared.records.ThreadRecord.{ThreadRecord}
 use Rattle.egl_model.specs.State.{State}
 use Rattle.egl_model.specs.Effects.{Effect, outcome_of, valued}
+use Rattle.egl_model.specs.EglCalls.{egl_effect, egl_refusal}
+use Rattle.egl_model.specs.OwnCalls.{own_effect}
 use Rattle.egl_model.specs.Currents.{current_context, part_of_context}
 use Rattle.egl_model.specs.GlCalls.{gl_refusal, gl_effect, applied, local_value}
 use Rattle.egl_model.specs.GlFacts.{gl_facts_of}
 use Rattle.egl_model.specs.Objects.{as_context, change_part, with_part}
 use Rattle.egl_model.specs.Step.{Stepped, done, step}
 use Rattle.egl_model.specs.Sweep.{bytes_in, live_bytes, sweep}
-use Rattle.model_laws.proofs.StepLaws.{gl_done, step_goes}
+use Rattle.model_laws.proofs.Steps.StepLaws.{gl_done, step_goes}
 use Rattle.sprite_scene.specs.Calls.{scissor}
 use Rattle.sprite_scene.proofs.Changes.{bytes-set, has_low, here, there}
 use Rattle.sprite_scene.proofs.Reaching.{has_swept, stands_swept}
 use Rattle.sprite_scene.proofs.Views.{Has, IsThread, Shows, Stands, View, context_with, settings}
+
+-- ---- A call of the thread 0, whose current context is the object 2, by its kind: that no row refuses it, and what it does.
+abbrev pub IsAllowed : Kind → State → CallValue → Type 0
+IsAllowed (Egl k) s c = egl_refusal s 0 k c ≡ None
+IsAllowed (Gl k) s c = gl_refusal s 0 2 k c ≡ None
+IsAllowed (Own k) s c = Unit {0}
+
+abbrev pub Passes : State → CallValue → Type 0
+Passes s c = IsAllowed c.kind s c
+
+abbrev pub effect_by : Kind → State → CallValue → Effect
+effect_by (Egl k) s c = egl_effect s 0 k c
+effect_by (Gl k) s c = gl_effect s 0 2 k c
+effect_by (Own k) s c = own_effect s 0 k c
+
+abbrev pub effect_of : State → CallValue → Effect
+effect_of s c = effect_by c.kind s c
 
 -- ---- A call that is done, and what holds behind it.
 pub record Goes (s : State) (c : CallValue) (P : State → Type 0) : Type 0 where
@@ -86,18 +105,19 @@ bytes_part os texture name p i names f w =
     bytes-set os 2 (with_part f (get_or os 2 None)) (Context (context_with texture name p)) w.context_at (ap (λ o. bytes_in (with_part f o)) w.context_at)
 
 -- ---- glScissor.
-scissor_rows : (x y : ℤ) (w h : ℕ) → refusal Scissor (scissor x y w h) ≡ None
-scissor_rows x y w h = none_on (context_rows Scissor (scissor x y w h)) (or_from _ _ (is_not_below (pos w) (pos 0) (grind (arith, ints))) (is_not_below (pos h) (pos 0) (grind (arith, ints))), tt)
+-- a call of the context's own state that no row refuses
+own_changed : (c : CallValue) (k : GlKind) (p : PartValue) → c.kind ≡ Gl k → AllOff (context_rows k c) → (after_rules (refusal k c) k c p).part ≡ changed k c p
+own_changed c k p h off = ap (λ o. (after_rules o k c p).part) (none_on (context_rows k c) off)
 
-scissor_none : (s : State) (x y : ℤ) (w h : ℕ) → gl_refusal s 0 2 Scissor (scissor x y w h) ≡ None
+scissor_none : (s : State) (x y : ℤ) (w h : ℕ) → Passes s (scissor x y w h)
 unfolding gl_refusal
-scissor_none s x y w h = refused_not (scissor x y w h) (gl_facts_of s 0 2 (scissor x y w h)) Scissor refl (or_from _ _ (is_not_below (pos w) (pos 0) (grind (arith, ints))) (is_not_below (pos h) (pos 0) (grind (arith, ints))), tt)
+scissor_none s x y w h = refused_not (scissor x y w h) (gl_facts_of s 0 2 (scissor x y w h)) _ refl (or_from _ _ (is_not_below (pos w) (pos 0) (grind (arith, ints))) (is_not_below (pos h) (pos 0) (grind (arith, ints))), tt)
 
 abbrev pub clipped : View → ℤ → ℤ → ℕ → ℕ → View
 clipped v x y w h = record v { clip = x ∷ y ∷ pos w ∷ pos h ∷ [] }
 
 scissored : (v : View) (x y : ℤ) (w h : ℕ) → (apply (scissor x y w h) (settings v)).part ≡ settings (clipped v x y w h)
-scissored v x y w h = ap (λ o. (context_calls.after_rules o Scissor (scissor x y w h) (settings v)).part) (scissor_rows x y w h)
+scissored v x y w h = own_changed (scissor x y w h) _ (settings v) refl (or_from _ _ (is_not_below (pos w) (pos 0) (grind (arith, ints))) (is_not_below (pos h) (pos 0) (grind (arith, ints))), tt)
 
 -- what holds of textures behind a call
 abbrev pub Keeps : State → View → State → Type 0
@@ -116,7 +136,7 @@ scissor_goes s v b x y w h t =
     let bytes = bytes_part s.objects v.texture v.name (settings v) v.target v.names (λ p. (apply c p).part) t.shows in
     let thread : IsThread a = record { is = t.thread.is; video = t.thread.video } in
     let stands : Stands a (clipped v x y w h) b = record { thread = thread; shows = shows; few = let f = t.few in omega (arith, bytes, f) } in
-    goes s Scissor c.args [] None (valued (local_value (part_of_context s 2) c) a) (Clipped s v b x y w h) t.thread (scissor_none s x y w h) refl refl (record {
+    goes s _ c.args [] None (valued (local_value (part_of_context s 2) c) a) (Clipped s v b x y w h) t.thread (scissor_none s x y w h) refl refl (record {
       stands = stands_swept a (clipped v x y w h) b stands;
       keeps = λ name k l pixel i. has_swept a v.texture v.name (settings (clipped v x y w h)) v.target v.names name k l pixel thread shows
           (has_low s.objects v.names name k l pixel 2 _ (omega arith) i);

@@ -13,18 +13,16 @@ use Rattle.call_rules.proofs.GlLaws.{refused_not as gl_refused_not}
 use Rattle.context_state.specs.Arguments.{may_enable}
 use Rattle.context_state.specs.Calls.{apply}
 use Rattle.egl_calls.specs.declared.kinds.GlKind.{GlKind}
-use Rattle.egl_calls.specs.declared.kinds.GlKind.TheVariants.{Enable, TexEnvx}
 use Rattle.egl_names.specs.declared.codes.TheConstants.{GL_SCISSOR_TEST, GL_TEXTURE_2D}
 use Rattle.egl_model.specs.Flushes.{flushed}
 use Rattle.egl_model.specs.GlCalls.{applied, gl_effect, local_value, gl_refusal}
 use Rattle.egl_model.specs.GlFacts.{gl_facts_of}
 use Rattle.egl_model.specs.Objects.{change_part}
-use Rattle.model_laws.proofs.PixelLaws.{live_bytes-swept}
-use Rattle.sprite_scene.proofs.LineCalls.{Goes, bytes_part, gl_call, goes, shows_part}
+use Rattle.model_laws.proofs.Pixels.PixelLaws.{live_bytes-swept}
+use Rattle.sprite_scene.proofs.LineCalls.{Goes, Passes, bytes_part, effect_of, gl_call, goes, shows_part}
 use Rattle.egl_calls.specs.Calls.{CallValue}
 use Rattle.egl_calls.specs.declared.kinds.Kind.TheVariants.{Egl}
 use Rattle.egl_calls.specs.declared.kinds.EglKind.{EglKind}
-use Rattle.egl_calls.specs.declared.kinds.EglKind.TheVariants.{GetDisplay, Initialize, CreatePbufferSurface, CreateContext, MakeCurrent}
 use Rattle.egl_calls.specs.declared.errors.EglError.TheVariants.{Success}
 use Rattle.attrib_lists.specs.Lists.{bad_place, value_of}
 use Rattle.attrib_lists.specs.Ranges.{is_allowed}
@@ -52,12 +50,12 @@ use Rattle.egl_model.specs.State.{State, capacity, initial, set_error}
 use Rattle.egl_model.specs.Step.{Stepped, done, step, step_by}
 use Rattle.egl_model.specs.Sweep.{held_by, live_bytes, roots, roots_of, sweep, swept}
 use Rattle.egl_model.specs.declared.records.ThreadRecord.{ThreadRecord}
-use Rattle.model_laws.proofs.Places.{initial_at}
-use Rattle.model_laws.proofs.StepLaws.{egl_done, step_goes}
+use Rattle.model_laws.proofs.References.Places.{initial_at}
+use Rattle.model_laws.proofs.Steps.StepLaws.{egl_done, step_goes}
 use Rattle.sprite_scene.specs.Calls.{create_context, create_pbuffer, enable, get_display, initialize, make_current, replace}
 use Rattle.sprite_scene.specs.Runs.{opened}
-use Rattle.model_laws.proofs.Slots.{in_left}
-use Rattle.model_laws.proofs.SweepLaws.{length-swept}
+use Rattle.model_laws.proofs.References.Slots.{in_left}
+use Rattle.model_laws.proofs.References.SweepLaws.{length-swept}
 use Rattle.sprite_scene.proofs.Reaching.{Led, edge, led_on, led_root, led_up, shows_swept, stays}
 use Rattle.sprite_scene.proofs.Views.{IsThread, Shows, context_with, drawing_record, group_with}
 
@@ -91,22 +89,22 @@ unfolding swept
 nothing_swept rs = refl
 
 -- ---- eglGetDisplay and eglInitialize.
-display_none : egl_refusal (idle false [] [] 3) 0 GetDisplay get_display ≡ None
+display_none : Passes (idle false [] [] 3) get_display
 unfolding egl_refusal
-display_none = refused_not get_display (facts_of (idle false [] [] 3) 0 get_display) GetDisplay refl tt
+display_none = refused_not get_display (facts_of (idle false [] [] 3) 0 get_display) _ refl tt
 
 swept_idle : (first : Bool) → sweep (set_error (idle first [] [] 3) 0 Success) ≡ idle first [] [] 3
 swept_idle first = ap sweep (still_idle first [] [] 3) ∙ ap (λ os. idle first os [] 3) (nothing_swept (roots (idle first [] [] 3)))
 
-pub display_step : step opened 0 get_display ≡ record { reply = done (egl_effect opened 0 GetDisplay get_display); state = opened }
-display_step = egl_stepped false [] [] 3 GetDisplay get_display refl display_none ∙ ap (λ s. record { reply = done (egl_effect opened 0 GetDisplay get_display); state = s }) (swept_idle false)
+pub display_step : step opened 0 get_display ≡ record { reply = done (effect_of opened get_display); state = opened }
+display_step = egl_stepped false [] [] 3 _ get_display refl display_none ∙ ap (λ s. record { reply = done (effect_of opened get_display); state = s }) (swept_idle false)
 
-initialize_none : egl_refusal (idle false [] [] 3) 0 Initialize initialize ≡ None
+initialize_none : Passes (idle false [] [] 3) initialize
 unfolding egl_refusal
-initialize_none = refused_not initialize (facts_of (idle false [] [] 3) 0 initialize) Initialize refl (refl, tt)
+initialize_none = refused_not initialize (facts_of (idle false [] [] 3) 0 initialize) _ refl (refl, tt)
 
-pub initialize_step : step opened 0 initialize ≡ record { reply = done (egl_effect opened 0 Initialize initialize); state = idle true [] [] 3 }
-initialize_step = egl_stepped false [] [] 3 Initialize initialize refl initialize_none ∙ ap (λ s. record { reply = done (egl_effect opened 0 Initialize initialize); state = s }) (swept_idle true)
+pub initialize_step : step opened 0 initialize ≡ record { reply = done (effect_of opened initialize); state = idle true [] [] 3 }
+initialize_step = egl_stepped false [] [] 3 _ initialize refl initialize_none ∙ ap (λ s. record { reply = done (effect_of opened initialize); state = s }) (swept_idle true)
 
 -- ---- What is led to from valid handles.
 led_handle : (s : State) (n : ℕ) → is_in n (map (λ h. h.object) s.handles) ≡ true → Led s 0 n
@@ -144,12 +142,12 @@ area_fits w h a b = let e = mul-le-mul {n₁ = w} {m₁ = h} {n₂ = 2048} {m₂
 pbuffer_size : (w h : ℕ) → w ≤ 2048 → h ≤ 2048 → surface_bytes (pos 4) (min w 2048) (min h 2048) ≡ w * h * 4
 pbuffer_size w h a b = rw (within_surface w a, within_surface h b) (ap (λ f. w * h * bytes_of f) config_format)
 
-pbuffer_none : (w h : ℕ) → w ≤ 2048 → h ≤ 2048 → egl_refusal (idle true [] [] 3) 0 CreatePbufferSurface (create_pbuffer w h) ≡ None
+pbuffer_none : (w h : ℕ) → w ≤ 2048 → h ≤ 2048 → Passes (idle true [] [] 3) (create_pbuffer w h)
 unfolding egl_refusal value_of bad_place live_bytes is_config is_allowed
 pbuffer_none w h a b =
     let e = pbuffer_size w h a b in
     let f = area_fits w h a b in
-    refused_not (create_pbuffer w h) (facts_of (idle true [] [] 3) 0 (create_pbuffer w h)) CreatePbufferSurface refl (
+    refused_not (create_pbuffer w h) (facts_of (idle true [] [] 3) 0 (create_pbuffer w h)) _ refl (
       refl,
       (
         refl,
@@ -172,7 +170,7 @@ pbuffer_none w h a b =
 abbrev pub two_objects : ℕ → ℕ → List (Option Object)
 two_objects w h = Some (surface_of w h) ∷ Some (target_of w h) ∷ []
 
-pbuffer_effect : (w h : ℕ) → w ≤ 2048 → h ≤ 2048 → egl_effect (idle true [] [] 3) 0 CreatePbufferSurface (create_pbuffer w h) ≡ valued (pos 3) (idle true (two_objects w h) (surface_handle ∷ []) 4)
+pbuffer_effect : (w h : ℕ) → w ≤ 2048 → h ≤ 2048 → effect_of (idle true [] [] 3) (create_pbuffer w h) ≡ valued (pos 3) (idle true (two_objects w h) (surface_handle ∷ []) 4)
 unfolding value_of
 pbuffer_effect w h a b =
     ap (λ n. valued (pos 3) (add_pbuffer (idle true [] [] 3) 1 (pos 4) n (min h 2048) false)) (within_surface w a)
@@ -189,7 +187,7 @@ pbuffer_led w h (suc (suc i)) l = absurd (omega (arith, l))
 
 pub pbuffer_step : (w h : ℕ) → w ≤ 2048 → h ≤ 2048 → step (idle true [] [] 3) 0 (create_pbuffer w h) ≡ record { reply = done (valued (pos 3) (with_pbuffer w h)); state = with_pbuffer w h }
 pbuffer_step w h a b =
-    egl_stepped true [] [] 3 CreatePbufferSurface (create_pbuffer w h) refl (pbuffer_none w h a b)
+    egl_stepped true [] [] 3 _ (create_pbuffer w h) refl (pbuffer_none w h a b)
     ∙ ap (λ (f : Effect). record { reply = done f; state = sweep (set_error f.state 0 Success) }) (pbuffer_effect w h a b)
     ∙ ap (λ s. record { reply = done (valued (pos 3) (with_pbuffer w h)); state = sweep s }) (still_idle true (two_objects w h) (surface_handle ∷ []) 4)
     ∙ ap (λ os. record { reply = done (valued (pos 3) (with_pbuffer w h)); state = idle true os (surface_handle ∷ []) 4 }) (all_led (with_pbuffer w h) (pbuffer_led w h))
@@ -204,9 +202,9 @@ five_objects w h p = Some (surface_of w h) ∷ Some (target_of w h) ∷ Some (Co
 abbrev pub with_context_made : ℕ → ℕ → State
 with_context_made w h = idle true (five_objects w h fresh) (surface_handle ∷ context_handle ∷ []) 5
 
-context_none : (w h : ℕ) → egl_refusal (with_pbuffer w h) 0 CreateContext create_context ≡ None
+context_none : (w h : ℕ) → Passes (with_pbuffer w h) create_context
 unfolding egl_refusal value_of bad_place is_config
-context_none w h = refused_not create_context (facts_of (with_pbuffer w h) 0 create_context) CreateContext refl (refl, (refl, (refl, (refl, (refl, (refl, (refl, (refl, (refl, tt)))))))))
+context_none w h = refused_not create_context (facts_of (with_pbuffer w h) 0 create_context) _ refl (refl, (refl, (refl, (refl, (refl, (refl, (refl, (refl, (refl, tt)))))))))
 
 context_led : (w h i : ℕ) → i < 5 → Led (with_context_made w h) 4 i
 context_led w h zero l = let s = with_context_made w h in up_from s 0 (led_up s 0 0 (led_handle s 0 refl))
@@ -218,7 +216,7 @@ context_led w h (suc (suc (suc (suc (suc i))))) l = absurd (omega (arith, l))
 
 pub context_step : (w h : ℕ) → step (with_pbuffer w h) 0 create_context ≡ record { reply = done (valued (pos 4) (with_context_made w h)); state = with_context_made w h }
 context_step w h =
-    egl_stepped true (two_objects w h) (surface_handle ∷ []) 4 CreateContext create_context refl (context_none w h)
+    egl_stepped true (two_objects w h) (surface_handle ∷ []) 4 _ create_context refl (context_none w h)
     ∙ ap (λ s. record { reply = done (valued (pos 4) (with_context_made w h)); state = sweep s }) (still_idle true (five_objects w h fresh) (surface_handle ∷ context_handle ∷ []) 5)
     ∙ ap (λ os. record { reply = done (valued (pos 4) (with_context_made w h)); state = idle true os (surface_handle ∷ context_handle ∷ []) 5 }) (all_led (with_context_made w h) (context_led w h))
 
@@ -239,10 +237,10 @@ surface_alone : is_surface_elsewhere quiet 0 0 ≡ false
 unfolding is_surface_elsewhere
 surface_alone = ap (list_any (has_surface 0)) no_other ∙ none_of (has_surface 0) capacity refl
 
-current_none : (w h : ℕ) → egl_refusal (with_context_made w h) 0 MakeCurrent make_current ≡ None
+current_none : (w h : ℕ) → Passes (with_context_made w h) make_current
 unfolding egl_refusal are_compatible attribute attribute_of
 current_none w h =
-    refused_not make_current (facts_of (with_context_made w h) 0 make_current) MakeCurrent refl
+    refused_not make_current (facts_of (with_context_made w h) 0 make_current) _ refl
     (refl, (refl, (refl, (refl, (refl, (refl, (refl, (context_alone, (or_from _ _ surface_alone surface_alone, tt)))))))))
 
 -- the part of a context that is current for the first time
@@ -276,7 +274,7 @@ is_drawing =
     ∙ ap (λ (r : ThreadRecord). record r { error = Success }) (get_or-set_same quiet 0 _ initial some)
     ∙ ap (λ (r : ThreadRecord). record r { error = Success; context = Some (record { object = 2; handle = 4 }); draw = Some (record { object = 0; handle = 3 }); read = Some (record { object = 0; handle = 3 }) }) first_record
 
-current_effect : (w h : ℕ) → egl_effect (with_context_made w h) 0 MakeCurrent make_current ≡ valued (pos 1) (record (with_current w h) { threads = bound_threads })
+current_effect : (w h : ℕ) → effect_of (with_context_made w h) make_current ≡ valued (pos 1) (record (with_current w h) { threads = bound_threads })
 unfolding change_part
 current_effect w h = ap (λ o. valued (pos 1) (flushed o (record (with_current w h) { threads = bound_threads }))) (ap (λ (r : ThreadRecord). option_map (λ b. b.object) r.context) first_record)
 
@@ -303,7 +301,7 @@ current_begun w h = record {
 
 pub current_goes : (w h : ℕ) → Goes (with_context_made w h) make_current (Begun w h (first_part w h))
 current_goes w h =
-    let all = egl_stepped true (five_objects w h fresh) (surface_handle ∷ context_handle ∷ []) 5 MakeCurrent make_current refl (current_none w h)
+    let all = egl_stepped true (five_objects w h fresh) (surface_handle ∷ context_handle ∷ []) 5 _ make_current refl (current_none w h)
     ∙ ap (λ (f : Effect). record { reply = done f; state = sweep (set_error f.state 0 Success) }) (current_effect w h) in
     record {
       done = ap (λ (x : Stepped). x.reply.outcome) all;
@@ -329,19 +327,19 @@ third_part w h = record (second_part w h) { is_texture_enabled = true }
 abbrev pub last_part : ℕ → ℕ → PartValue
 last_part w h = record (third_part w h) { is_scissor_enabled = true }
 
-replace_none : (s : State) → gl_refusal s 0 2 TexEnvx replace ≡ None
+replace_none : (s : State) → Passes s replace
 unfolding gl_refusal
-replace_none s = gl_refused_not replace (gl_facts_of s 0 2 replace) TexEnvx refl (refl, tt)
+replace_none s = gl_refused_not replace (gl_facts_of s 0 2 replace) _ refl (refl, tt)
 
 pub replace_goes : (w h : ℕ) (s : State) → Begun w h (first_part w h) s → Goes s replace (Begun w h (second_part w h))
-replace_goes w h s b = setting_goes w h (first_part w h) (second_part w h) TexEnvx replace.args s b (replace_none s) refl refl
+replace_goes w h s b = setting_goes w h (first_part w h) (second_part w h) _ replace.args s b (replace_none s) refl refl
 
-enable_none : (s : State) (cap : ℕ) → may_enable cap ≡ true → gl_refusal s 0 2 Enable (enable cap) ≡ None
+enable_none : (s : State) (cap : ℕ) → may_enable cap ≡ true → Passes s (enable cap)
 unfolding gl_refusal
-enable_none s cap h = gl_refused_not (enable cap) (gl_facts_of s 0 2 (enable cap)) Enable refl (ap not h, tt)
+enable_none s cap h = gl_refused_not (enable cap) (gl_facts_of s 0 2 (enable cap)) _ refl (ap not h, tt)
 
 pub texture_goes : (w h : ℕ) (s : State) → Begun w h (second_part w h) s → Goes s (enable GL_TEXTURE_2D) (Begun w h (third_part w h))
-texture_goes w h s b = setting_goes w h (second_part w h) (third_part w h) Enable (enable GL_TEXTURE_2D).args s b (enable_none s GL_TEXTURE_2D refl) refl refl
+texture_goes w h s b = setting_goes w h (second_part w h) (third_part w h) _ (enable GL_TEXTURE_2D).args s b (enable_none s GL_TEXTURE_2D refl) refl refl
 
 pub scissor_test_goes : (w h : ℕ) (s : State) → Begun w h (third_part w h) s → Goes s (enable GL_SCISSOR_TEST) (Begun w h (last_part w h))
-scissor_test_goes w h s b = setting_goes w h (third_part w h) (last_part w h) Enable (enable GL_SCISSOR_TEST).args s b (enable_none s GL_SCISSOR_TEST refl) refl refl
+scissor_test_goes w h s b = setting_goes w h (third_part w h) (last_part w h) _ (enable GL_SCISSOR_TEST).args s b (enable_none s GL_SCISSOR_TEST refl) refl refl

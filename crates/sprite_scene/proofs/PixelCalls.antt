@@ -8,7 +8,9 @@ use Rattle.std.proofs.lemmas.List.{length-set}
 use Rattle.std.proofs.Math.Seq.{get_or-append_seam}
 use Rattle.call_rules.proofs.TestLaws.{is_not_below, is_past, is_within}
 use Rattle.call_rules.proofs.GlLaws.{refused_not}
-use Rattle.egl_calls.specs.declared.kinds.GlKind.TheVariants.{DrawTexi, ReadPixels, TexImage2d}
+use Rattle.egl_calls.specs.Calls.{CallValue}
+use Rattle.egl_calls.specs.declared.kinds.Kind.{Kind}
+use Rattle.egl_calls.specs.declared.kinds.Kind.TheVariants.{Gl}
 use Rattle.egl_names.specs.declared.codes.TheConstants.{GL_FRAMEBUFFER_COMPLETE_OES}
 use Rattle.pixel_formats.specs.declared.formats.Format.TheVariants.{Rgba8888}
 use Rattle.pixel_formats.specs.declared.pixels.Pixel.{Pixel}
@@ -34,7 +36,7 @@ use Rattle.egl_model.specs.Drawing.{rows_of}
 use Rattle.egl_model.specs.Draws.{draw_into, drawn_rect, sampler, sampler_by, sampler_in, sampler_over, shape_in, shape_of}
 use Rattle.egl_model.specs.Effects.{valued}
 use Rattle.egl_model.specs.Framebuffers.{BoundFramebuffer, bound_framebuffer, current_framebuffer_name, framebuffer_name, is_complete as is_framebuffer_complete, window_framebuffer, window_status}
-use Rattle.egl_model.specs.GlCalls.{gl_refusal, gl_effect}
+use Rattle.egl_model.specs.GlCalls.{gl_refusal}
 use Rattle.egl_model.specs.GlFacts.{gl_facts_of}
 use Rattle.egl_model.specs.Objects.{as_storage, as_surface, as_texture, change_storage, storage_in, surface_in, texture_in, with_storage}
 use Rattle.egl_model.specs.declared.records.ThreadRecord.{ThreadRecord}
@@ -44,26 +46,26 @@ use Rattle.egl_calls.specs.declared.errors.Outcome.TheVariants.{Done}
 use Rattle.call_rules.specs.RenderbufferRules.{is_no_side}
 use Rattle.egl_model.specs.Sweep.{bytes_in, live_bytes}
 use Rattle.egl_model.specs.Textures.{change_pixels, image_bytes, new_level, specified, target_texture, unpack_alignment, with_pixels}
-use Rattle.model_laws.proofs.TextureCalls.{small}
+use Rattle.model_laws.proofs.Calls.TextureCalls.{small}
 use Rattle.scene_reader.specs.Items.{is_texture_side}
 use Rattle.scene_reader.specs.declared.items.ScaledPart.{ScaledPart}
 use Rattle.sprite_scene.specs.Calls.{draw_tex, read_all, tex_image}
 use Rattle.sprite_scene.proofs.Changes.{bytes-new, bytes-set, has_level, has_low, has_new, here, level_here, shows_high, shows_new, stored_kept, texture_new, there}
-use Rattle.sprite_scene.proofs.LineCalls.{Goes, Keeps, goes, part_is, stepped}
+use Rattle.sprite_scene.proofs.LineCalls.{Goes, Keeps, Passes, effect_of, goes, part_is, stepped}
 use Rattle.sprite_scene.proofs.Reaching.{has_swept, led_slot, stands_swept, stays-1}
 use Rattle.sprite_scene.proofs.SideLaws.{side_fits, side_range}
 use Rattle.sprite_scene.proofs.TextureCalls.{target_is}
-use Rattle.sprite_scene.proofs.Views.{Has, IsNearest, IsPicture, IsStored, IsTexture, Stands, View, context_of, one_level, settings}
+use Rattle.sprite_scene.proofs.Views.{Has, IsNearest, IsPicture, IsStored, IsTextureAt, Stands, View, context_of, one_level, settings}
 
 -- ---- glTexImage2D.
 bytes_are : (w h : ℕ) (texels : List ℕ) → w ≤ 1024 → h ≤ 1024 → image_bytes (tex_image w h texels) ≡ w * h * 4
 bytes_are w h texels a b = rw (small w a, small h b) refl
 
-image_none : (s : State) (w h : ℕ) (texels : List ℕ) → is_texture_side w ≡ true → is_texture_side h ≡ true → live_bytes s.objects + w * h * 4 ≤ s.video → gl_refusal s 0 2 TexImage2d (tex_image w h texels) ≡ None
+image_none : (s : State) (w h : ℕ) (texels : List ℕ) → is_texture_side w ≡ true → is_texture_side h ≡ true → live_bytes s.objects + w * h * 4 ≤ s.video → Passes s (tex_image w h texels)
 unfolding gl_refusal
 image_none s w h texels a b room =
     let e = bytes_are w h texels (side_range w a).high (side_range h b).high in
-    refused_not (tex_image w h texels) (gl_facts_of s 0 2 (tex_image w h texels)) TexImage2d refl
+    refused_not (tex_image w h texels) (gl_facts_of s 0 2 (tex_image w h texels)) _ refl
     (refl, (refl, (refl, (refl, (or_from _ _ (side_fits w a) (side_fits h b), (refl, (refl, (refl, (is_within s.video (live_bytes s.objects + image_bytes (tex_image w h texels)) (omega (arith, e, room)), tt)))))))))
 
 -- the image of the texels
@@ -75,7 +77,7 @@ unfolding loaded painted
 stored_bytes w h texels = refl
 
 image_effect : (s : State) (v : View) (b x w h : ℕ) (texels : List ℕ) → Stands s v b → v.texture ≡ Some x → 1 ≤ w → 1 ≤ h →
-    gl_effect s 0 2 TexImage2d (tex_image w h texels) ≡ valued (pos 0) (specified 0 (Some (stored (image_of w h texels))) (Some x) s)
+    effect_of s (tex_image w h texels) ≡ valued (pos 0) (specified 0 (Some (stored (image_of w h texels))) (Some x) s)
 image_effect s v b x w h texels k e a c =
     ap (λ n. valued (pos 0) (specified 0 (new_level (tex_image w h texels) n) (target_texture s 2) s)) (ap (λ p. option_map_or (λ q. q.unpack_alignment) p 4) (part_is s v b k))
     ∙ ap (λ l. valued (pos 0) (specified 0 l (target_texture s 2) s)) (cond-false ((w == 0) || (h == 0)) None (Some (stored (image_of w h texels))) (or_from _ _ (ne_eqb w 0 (omega (arith, a))) (ne_eqb h 0 (omega (arith, c)))))
@@ -87,7 +89,7 @@ pub record Made (s : State) (v : View) (b x w h : ℕ) (pixel : ℕ → ℕ → 
   pub has : Has a.objects v.names v.name w h pixel
   pub keeps : Keeps s v a
 
-pub image_goes : (s : State) (v : View) (b x w h : ℕ) (t : TextureValue) (texels : List ℕ) (pixel : ℕ → ℕ → Pixel) → Stands s v b → v.texture ≡ Some x → object_of v.name v.names ≡ Some x → IsTexture s.objects x t None → IsNearest t →
+pub image_goes : (s : State) (v : View) (b x w h : ℕ) (t : TextureValue) (texels : List ℕ) (pixel : ℕ → ℕ → Pixel) → Stands s v b → v.texture ≡ Some x → object_of v.name v.names ≡ Some x → IsTextureAt s.objects x t None → IsNearest t →
     is_texture_side w ≡ true → is_texture_side h ≡ true → b + w * h * 4 ≤ 1073741824 → IsPicture w h pixel (image_of w h texels) → Goes s (tex_image w h texels) (Made s v b x w h pixel)
 unfolding change_pixels
 image_goes s v b x w h t texels pixel k e named y near sw sh room picture =
@@ -120,7 +122,7 @@ image_goes s v b x w h t texels pixel k e named y near sw sh room picture =
       nearest = near;
       pixels = stored_kept more x f m w h pixel (λ i. refl) image;
     } in
-    goes s TexImage2d (tex_image w h texels).args [] (Some texels) (valued (pos 0) a) (Made s v b x w h pixel) k.thread (image_none s w h texels sw sh (omega (arith, few, room, video)))
+    goes s _ (tex_image w h texels).args [] (Some texels) (valued (pos 0) a) (Made s v b x w h pixel) k.thread (image_none s w h texels sw sh (omega (arith, few, room, video)))
     (image_effect s v b x w h texels k e (side_range w sw).low (side_range h sh).low) refl (record {
       stands = stands_swept a v (b + w * h * 4) after;
       has = has_swept a v.texture v.name (settings v) v.target v.names v.name w h pixel after.thread after.shows has;
@@ -198,15 +200,19 @@ sampler_found s v b w h pixel r a k e p q =
     ∙ sampler_is s.objects r a.object a.storage w h a.texture i a.pixels.is a.pixels.picture.width a.pixels.picture.height p q a.nearest
 
 -- ---- glDrawTexiOES.
-draw_none : (s : State) (v : View) (b : ℕ) (d : ScaledPart) → Stands s v b → 1 ≤ d.width → 1 ≤ d.height → gl_refusal s 0 2 DrawTexi (draw_tex d) ≡ None
+draw_none : (s : State) (v : View) (b : ℕ) (d : ScaledPart) → Stands s v b → 1 ≤ d.width → 1 ≤ d.height → Passes s (draw_tex d)
 unfolding gl_refusal
 draw_none s v b d k p q =
-    refused_not (draw_tex d) (gl_facts_of s 0 2 (draw_tex d)) DrawTexi refl
+    refused_not (draw_tex d) (gl_facts_of s 0 2 (draw_tex d)) _ refl
     (or_from _ _ (is_not_below (pos d.width) (pos 1) (grind (arith, ints, p))) (is_not_below (pos d.height) (pos 1) (grind (arith, ints, q))), (ap not (complete s v b k), tt))
 
--- the rectangle of a draw in fixed point
+-- the rectangle of a draw in fixed point, by its kind
+abbrev pub rect_by : Kind → CallValue → Rect
+rect_by (Gl k) c = drawn_rect k c
+rect_by k c = record { x = pos 0; y = pos 0; w = pos 0; h = pos 0 }
+
 abbrev pub fixed_rect : ScaledPart → Rect
-fixed_rect d = drawn_rect DrawTexi (draw_tex d)
+fixed_rect d = rect_by (draw_tex d).kind (draw_tex d)
 
 abbrev pub drawn_target : View → SamplerValue → ScaledPart → ImageValue
 drawn_target v z d = drawn_image (settings v) (Some z) (fixed_rect d) v.target
@@ -215,7 +221,7 @@ abbrev pub drawn_view : View → SamplerValue → ScaledPart → View
 drawn_view v z d = record v { target = drawn_target v z d }
 
 draw_effect : (s : State) (v : View) (b : ℕ) (d : ScaledPart) (z : SamplerValue) → Stands s v b → sampler s 2 (fixed_rect d) ≡ Some z →
-    gl_effect s 0 2 DrawTexi (draw_tex d) ≡ valued (pos 0) (draw_into (Some (settings v)) (Some 1) (Some z) (fixed_rect d) s)
+    effect_of s (draw_tex d) ≡ valued (pos 0) (draw_into (Some (settings v)) (Some 1) (Some z) (fixed_rect d) s)
 draw_effect s v b d z k e =
     ap (λ p. valued (pos 0) (draw_into p (bound_framebuffer s 0).draw (sampler s 2 (fixed_rect d)) (fixed_rect d) s)) (part_is s v b k)
     ∙ ap (λ (f : BoundFramebuffer). valued (pos 0) (draw_into (Some (settings v)) f.draw (sampler s 2 (fixed_rect d)) (fixed_rect d) s)) (framebuffer_is s v b k)
@@ -259,7 +265,7 @@ draw_goes s v b w h pixel cut d k a c p q dp dq =
       };
       few = omega (arith, few, bytes);
     } in
-    goes s DrawTexi (draw_tex d).args [] None (valued (pos 0) st) (Drawn s v b w h pixel cut d) k.thread (draw_none s v b d k dp dq)
+    goes s _ (draw_tex d).args [] None (valued (pos 0) st) (Drawn s v b w h pixel cut d) k.thread (draw_none s v b d k dp dq)
     (draw_effect s v b d z k (sampler_found s v b w h pixel (fixed_rect d) a k e p q)) refl (record {
       from = z;
       sampler = record {
@@ -284,10 +290,10 @@ draw_goes s v b w h pixel cut d k a c p q dp dq =
     some_is x y h = cc
 
 -- ---- glReadPixels of the whole target.
-read_none : (s : State) (v : View) (b w h : ℕ) → Stands s v b → w ≤ 2048 → h ≤ 2048 → gl_refusal s 0 2 ReadPixels (read_all w h) ≡ None
+read_none : (s : State) (v : View) (b w h : ℕ) → Stands s v b → w ≤ 2048 → h ≤ 2048 → Passes s (read_all w h)
 unfolding gl_refusal
 read_none s v b w h k p q =
-    refused_not (read_all w h) (gl_facts_of s 0 2 (read_all w h)) ReadPixels refl
+    refused_not (read_all w h) (gl_facts_of s 0 2 (read_all w h)) _ refl
     (or_from _ _ (side w p) (side h q), (refl, (refl, (ap not (complete s v b k), tt))))
   where
     side : (n : ℕ) → n ≤ 2048 → is_no_side (pos n) ≡ false
@@ -300,7 +306,7 @@ whole_target w h = record { x = pos 0; y = pos 0; w = pos w; h = pos h }
 pub read_goes : (s : State) (v : View) (b w h : ℕ) → Stands s v b → w ≤ 2048 → h ≤ 2048 →
     ((step s 0 (read_all w h)).reply.outcome ≡ Done) × ((step s 0 (read_all w h)).reply.bytes ≡ row_bytes v.target (whole_target w h) Rgba8888 4)
 read_goes s v b w h k p q =
-    let all = stepped s ReadPixels (read_all w h).args [] None k.thread (read_none s v b w h k p q) in (
+    let all = stepped s _ (read_all w h).args [] None k.thread (read_none s v b w h k p q) in (
       ap (λ (x : Stepped). x.reply.outcome) all,
       ap (λ (x : Stepped). x.reply.bytes) all
           ∙ ap (λ p. rows_of (read_all w h) (option_map_or (λ p. p.pack_alignment) p 4) (option_and_then (storage_in s.objects) (bound_framebuffer s 0).read)) (part_is s v b k)

@@ -1,8 +1,8 @@
 -- A sweep takes nothing of what a scene is drawn with.
-use Rattle.std.proofs.Common.{◌≡◌, ℕ, suc, cond, Bool, true, false, List, [], ◌∷◌, ◌++◌, length, refl, ap, ◌∙◌, arith, Option, None, Some, get_or}
+use Rattle.std.proofs.Common.{◌≡◌, ℕ, suc, cond, Bool, true, false, List, [], ◌∷◌, ◌++◌, refl, ap, ◌∙◌, arith, Option, None, Some, get_or}
 use Rattle.std.specs.Prelude.{◌==◌, option_to_list}
 use Rattle.std.specs.List.{find}
-use Rattle.std.proofs.lemmas.Bool.{eq-eqb}
+use Rattle.std.proofs.lemmas.Bool.{eq-eqb, or_left, or_right}
 use Rattle.std.proofs.lemmas.List.Folds.{list_any-append}
 use Rattle.share_group.specs.Groups.{edges_of}
 use Rattle.share_group.specs.Names.{is_of, object_in, object_of, objects_in}
@@ -20,14 +20,14 @@ use Rattle.driver_objects.specs.declared.objects.Object.TheVariants.{Context, Gr
 use Rattle.egl_model.specs.Graph.{is_in, marked}
 use Rattle.egl_model.specs.declared.records.ThreadRecord.{ThreadRecord}
 use Rattle.egl_model.specs.State.{State, object_at}
-use Rattle.egl_model.specs.Sweep.{edges_at, edges_in, held_by, live_bytes, roots, sweep, swept}
-use Rattle.model_laws.proofs.GraphLaws.{any_at, grows, is_in-flat_map, or_first, or_second}
-use Rattle.model_laws.proofs.LinkLaws.{root_marked, same_object}
-use Rattle.model_laws.proofs.PixelLaws.{live_bytes-swept}
-use Rattle.model_laws.proofs.Slots.{in_left, in_levels, in_right}
-use Rattle.model_laws.proofs.SweepLaws.{length-swept}
-use Rattle.model_laws.proofs.WholeSweep.{is_held}
-use Rattle.sprite_scene.proofs.Views.{Has, IsTexture, IsThread, Shows, Stands, View, context_with, group_with, one_level, settings}
+use Rattle.egl_model.specs.Sweep.{edges_at, edges_in, held_by, roots, sweep}
+use Rattle.model_laws.proofs.References.GraphLaws.{any_at, grows, is_in-flat_map}
+use Rattle.model_laws.proofs.References.LinkLaws.{root_marked, same_object}
+use Rattle.model_laws.proofs.Pixels.PixelLaws.{live_bytes-swept}
+use Rattle.model_laws.proofs.References.Slots.{in_left, in_levels, in_right}
+use Rattle.model_laws.proofs.References.SweepLaws.{length-swept}
+use Rattle.model_laws.proofs.References.WholeSweep.{is_held}
+use Rattle.sprite_scene.proofs.Views.{Has, IsTextureAt, IsThread, Shows, Stands, View, context_with, group_with, one_level, settings}
 
 -- what at most k references lead to, from what is valid or held by threads
 pub record Led (s : State) (k n : ℕ) : Type 0 where
@@ -35,7 +35,7 @@ pub record Led (s : State) (k n : ℕ) : Type 0 where
 
 next_marked : (rs : List ℕ) (edges : ℕ → List ℕ) (k m n : ℕ) → is_in m (marked rs edges k) ≡ true → is_in n (edges m) ≡ true → is_in n (marked rs edges (suc k)) ≡ true
 unfolding marked
-next_marked rs edges k m n h e = list_any-append (λ y. y == n) rs _ ∙ or_second _ _ (is_in-flat_map edges n (marked rs edges k) ∙ any_at (λ x. is_in n (edges x)) m (marked rs edges k) h e)
+next_marked rs edges k m n h e = list_any-append (λ y. y == n) rs _ ∙ or_right _ _ (is_in-flat_map edges n (marked rs edges k) ∙ any_at (λ x. is_in n (edges x)) m (marked rs edges k) h e)
 
 pub led_on : (s : State) (k m n : ℕ) → Led s k m → is_in n (edges_at s.objects m) ≡ true → Led s (suc k) n
 led_on s k m n l e = record { is = next_marked (roots s) (edges_at s.objects) k m n l.is e }
@@ -93,7 +93,7 @@ named_in n o [] h = no_object o h
 named_in n o (x ∷ xs) h = ap (is_in o) (objects_cons x xs) ∙ go (is_of n x) (named_in n o xs) h
   where
     go : (b : Bool) → (object_of n xs ≡ Some o → is_in o (objects_in xs) ≡ true) → object_in (cond b (Some x) (find (is_of n) xs)) ≡ Some o → is_in o (option_to_list x.object ++ objects_in xs) ≡ true
-    go true more e = in_left o (option_to_list x.object) (objects_in xs) (ap (λ z. is_in o (option_to_list z)) e ∙ or_first (o == o) false (eq-eqb o o refl))
+    go true more e = in_left o (option_to_list x.object) (objects_in xs) (ap (λ z. is_in o (option_to_list z)) e ∙ or_left (o == o) false (eq-eqb o o refl))
     go false more e = in_right o (option_to_list x.object) (objects_in xs) (more e)
 
 named_edge : (n o : ℕ) (xs : List Name) → object_of n xs ≡ Some o → is_in o (objects.edges_of (Group (group_with xs))) ≡ true
@@ -124,7 +124,7 @@ stands_swept s v b t =
     }
 
 pub texture_swept : (s : State) (c : ContextObject) (i : ImageValue) (names : List Name) (x : ℕ) (t : TextureValue) (level : Option ℕ) → IsThread s → Shows s.objects c i names →
-    get_or (context_slots c) 2 None ≡ Some x → IsTexture s.objects x t level → IsTexture (sweep s).objects x t level
+    get_or (context_slots c) 2 None ≡ Some x → IsTextureAt s.objects x t level → IsTextureAt (sweep s).objects x t level
 texture_swept s c i names x t level r w h y = record { beyond = y.beyond; is = stays-1 s x (led_slot s c i names 2 x r w h) ∙ y.is }
 
 pub has_swept : (s : State) (texture : Option ℕ) (bound : ℕ) (p : PartValue) (i : ImageValue) (names : List Name) (name w h : ℕ) (pixel : ℕ → ℕ → Pixel) →

@@ -9,7 +9,6 @@ use Rattle.std.proofs.Math.Seq.{get_or-append_seam}
 use Rattle.std.specs.Prelude.{unwrap_or}
 use Rattle.call_rules.proofs.TestLaws.{is_not_below}
 use Rattle.call_rules.proofs.GlLaws.{refused_not}
-use Rattle.egl_calls.specs.declared.kinds.GlKind.TheVariants.{BindTexture, TexParameterx, TexParameteriv}
 use Rattle.egl_names.specs.declared.codes.TheConstants.{GL_NEAREST, GL_TEXTURE_BINDING_2D, GL_TEXTURE_MAG_FILTER, GL_TEXTURE_MIN_FILTER}
 use Rattle.pixel_formats.specs.declared.pixels.Pixel.{Pixel}
 use Rattle.pixel_rows.specs.Images.{ImageValue}
@@ -26,7 +25,7 @@ use Rattle.driver_objects.specs.declared.targets.BindTarget.TheVariants.{Texture
 use Rattle.egl_model.specs.Bindings.{bound_at, bound_named, bound_object, named_at}
 use Rattle.egl_model.specs.Contexts.{new_texture}
 use Rattle.egl_model.specs.Effects.{valued}
-use Rattle.egl_model.specs.GlCalls.{gl_refusal, gl_effect}
+use Rattle.egl_model.specs.GlCalls.{gl_refusal}
 use Rattle.egl_model.specs.GlFacts.{gl_facts_of}
 use Rattle.egl_model.specs.Names.{group_of, object_named, with_name_of}
 use Rattle.egl_model.specs.Objects.{as_context, as_group, change_context, change_group, change_texture, with_context, with_group, with_texture}
@@ -35,10 +34,10 @@ use Rattle.egl_model.specs.Sweep.{bytes_in, live_bytes, sweep}
 use Rattle.egl_model.specs.Textures.{set_crop, set_parameter, target_texture}
 use Rattle.sprite_scene.specs.Calls.{bind_texture, crop, set_nearest}
 use Rattle.sprite_scene.proofs.Changes.{bytes-new, bytes-set, has_low, has_named, has_new, has_parameter, here, parameter_here, retextured, shows_high, shows_new, texture_low, there}
-use Rattle.sprite_scene.proofs.LineCalls.{Goes, Keeps, goes}
+use Rattle.sprite_scene.proofs.LineCalls.{Goes, Keeps, Passes, effect_of, goes}
 use Rattle.sprite_scene.proofs.NameLaws.{object_put_other}
 use Rattle.sprite_scene.proofs.Reaching.{has_swept, stands_swept, texture_swept}
-use Rattle.sprite_scene.proofs.Views.{Has, IsNearest, IsTexture, Shows, Stands, View, context_of, group_with, settings}
+use Rattle.sprite_scene.proofs.Views.{Has, IsNearest, IsTextureAt, Shows, Stands, View, context_of, group_with, settings}
 
 -- ---- What a name has.
 group_is : (s : State) (v : View) (b : ℕ) → Stands s v b → group_of s 2 ≡ 3
@@ -81,19 +80,19 @@ binding_has : (os : List (Option Object)) (names : List Name) (x bound name w h 
 unfolding change_context
 binding_has os names x bound name w h pixel a = has_low _ names name w h pixel 2 _ (omega arith) (has_low os names name w h pixel 2 _ (omega arith) a)
 
-binding_texture : (os : List (Option Object)) (x bound y : ℕ) (t : TextureValue) (level : Option ℕ) → IsTexture os y t level → IsTexture (bound_object texture_target 2 (Some x) bound os) y t level
+binding_texture : (os : List (Option Object)) (x bound y : ℕ) (t : TextureValue) (level : Option ℕ) → IsTextureAt os y t level → IsTextureAt (bound_object texture_target 2 (Some x) bound os) y t level
 unfolding change_context
 binding_texture os x bound y t level a = texture_low _ 2 _ y t level (omega arith) (texture_low os 2 _ y t level (omega arith) a)
 
 -- ---- glBindTexture of a name that has a texture.
-bind_none : (s : State) (name : ℕ) → gl_refusal s 0 2 BindTexture (bind_texture name) ≡ None
+bind_none : (s : State) (name : ℕ) → Passes s (bind_texture name)
 unfolding gl_refusal
-bind_none s name = refused_not (bind_texture name) (gl_facts_of s 0 2 (bind_texture name)) BindTexture refl (refl, (is_not_below (pos name) (pos 0) (grind (arith, ints)), tt))
+bind_none s name = refused_not (bind_texture name) (gl_facts_of s 0 2 (bind_texture name)) _ refl (refl, (is_not_below (pos name) (pos 0) (grind (arith, ints)), tt))
 
 abbrev pub bound_state : State → ℕ → ℕ → State
 bound_state s x name = record s { objects = bound_object texture_target 2 (Some x) name s.objects }
 
-bind_effect : (s : State) (v : View) (b name : ℕ) → Stands s v b → 0 < name → gl_effect s 0 2 BindTexture (bind_texture name) ≡ valued (pos 0) (bound_named texture_target 3 2 name (object_of name v.names) s)
+bind_effect : (s : State) (v : View) (b name : ℕ) → Stands s v b → 0 < name → effect_of s (bind_texture name) ≡ valued (pos 0) (bound_named texture_target 3 2 name (object_of name v.names) s)
 bind_effect s v b name t some =
     ap (valued (pos 0)) (cond-false (name == 0) _ _ (ne_eqb name 0 (omega arith))
     ∙ ap (λ o. bound_named texture_target (group_of s 2) 2 name o s) (named_is s v b name t)
@@ -122,7 +121,7 @@ bound_swept s v b x name t =
 
 pub bind_goes : (s : State) (v : View) (b x name : ℕ) → Stands s v b → 0 < name → object_of name v.names ≡ Some x → Goes s (bind_texture name) (Bound s v b x name)
 bind_goes s v b x name t some h =
-    goes s BindTexture (bind_texture name).args [] None (valued (pos 0) (bound_state s x name)) (Bound s v b x name) t.thread (bind_none s name)
+    goes s _ (bind_texture name).args [] None (valued (pos 0) (bound_state s x name)) (Bound s v b x name) t.thread (bind_none s name)
     (bind_effect s v b name t some ∙ ap (λ o. valued (pos 0) (bound_named texture_target 3 2 name o s)) h) refl (bound_swept s v b x name t)
 
 -- ---- glBindTexture of a new name.
@@ -165,7 +164,7 @@ naming_has os names new name w h pixel ne a =
     has_low _ (with_new names new (length os)) name w h pixel 3 _ (omega arith)
     (has_new os (with_new names new (length os)) name w h pixel new_texture (has_named os names name w h pixel (with_new names new (length os)) (object_put_other name new (length os) names ne) a))
 
-naming_texture : (os : List (Option Object)) (name : ℕ) → 5 ≤ length os → IsTexture (named_anew name os) (length os) fresh None
+naming_texture : (os : List (Option Object)) (name : ℕ) → 5 ≤ length os → IsTextureAt (named_anew name os) (length os) fresh None
 unfolding change_group
 naming_texture os name l =
     texture_low (os ++ Some new_texture ∷ []) 3 _ (length os) fresh None (omega arith) (record { beyond = l; is = get_or-append_seam os (Some new_texture) [] None })
@@ -177,7 +176,7 @@ with_texture_named v name x = record v { texture = Some x; name = name; names = 
 pub record Making (s : State) (v : View) (b name : ℕ) (t : TextureValue) (a : State) : Type 0 where
   pub object : ℕ
   pub stands : Stands a (with_texture_named v name object) b
-  pub texture : IsTexture a.objects object t None
+  pub texture : IsTextureAt a.objects object t None
   pub keeps : (other w h : ℕ) (pixel : ℕ → ℕ → Pixel) → name ≢ other → Has s.objects v.names other w h pixel → Has a.objects (with_new v.names name object) other w h pixel
 
 pub bind_new_goes : (s : State) (v : View) (b name : ℕ) → Stands s v b → 0 < name → object_of name v.names ≡ None → Goes s (bind_texture name) (Making s v b name fresh)
@@ -195,7 +194,7 @@ bind_new_goes s v b name t some h =
     let a = bound_state m x name in
     let after : Stands a u b = bound_stands m vm b x name middle in
     let made = binding_texture m.objects x name x fresh None (naming_texture s.objects name t.shows.long) in
-    goes s BindTexture (bind_texture name).args [] None (valued (pos 0) a) (Making s v b name fresh) t.thread (bind_none s name)
+    goes s _ (bind_texture name).args [] None (valued (pos 0) a) (Making s v b name fresh) t.thread (bind_none s name)
     (bind_effect s v b name t some ∙ ap (λ o. valued (pos 0) (bound_named texture_target 3 2 name o s)) h) refl (record {
       object = x;
       stands = stands_swept a u b after;
@@ -214,13 +213,13 @@ KeepsNearest g = (u : TextureValue) → IsNearest u → IsNearest (g u)
 
 pub record Changed (s : State) (v : View) (b x : ℕ) (t : TextureValue) (level : Option ℕ) (a : State) : Type 0 where
   pub stands : Stands a v b
-  pub texture : IsTexture a.objects x t level
+  pub texture : IsTextureAt a.objects x t level
   pub keeps : Keeps s v a
 
 abbrev pub changed_state : State → ℕ → (TextureValue → TextureValue) → State
 changed_state s x g = record s { objects = change_texture (retextured g) x s.objects }
 
-changed_swept : (s : State) (v : View) (b x : ℕ) (g : TextureValue → TextureValue) (t : TextureValue) (level : Option ℕ) → KeepsNearest g → Stands s v b → v.texture ≡ Some x → IsTexture s.objects x t level →
+changed_swept : (s : State) (v : View) (b x : ℕ) (g : TextureValue → TextureValue) (t : TextureValue) (level : Option ℕ) → KeepsNearest g → Stands s v b → v.texture ≡ Some x → IsTextureAt s.objects x t level →
     Changed s v b x (g t) level (sweep (changed_state s x g))
 unfolding change_texture
 changed_swept s v b x g t level near k h y =
@@ -245,25 +244,25 @@ shrunk t = record t { min_filter = Nearest }
 abbrev pub grown : TextureValue → TextureValue
 grown t = record t { mag_filter = MagNearest }
 
-shrunk_none : (s : State) → gl_refusal s 0 2 TexParameterx (set_nearest GL_TEXTURE_MIN_FILTER) ≡ None
+shrunk_none : (s : State) → Passes s (set_nearest GL_TEXTURE_MIN_FILTER)
 unfolding gl_refusal
-shrunk_none s = refused_not (set_nearest GL_TEXTURE_MIN_FILTER) (gl_facts_of s 0 2 (set_nearest GL_TEXTURE_MIN_FILTER)) TexParameterx refl (refl, (refl, tt))
+shrunk_none s = refused_not (set_nearest GL_TEXTURE_MIN_FILTER) (gl_facts_of s 0 2 (set_nearest GL_TEXTURE_MIN_FILTER)) _ refl (refl, (refl, tt))
 
-grown_none : (s : State) → gl_refusal s 0 2 TexParameterx (set_nearest GL_TEXTURE_MAG_FILTER) ≡ None
+grown_none : (s : State) → Passes s (set_nearest GL_TEXTURE_MAG_FILTER)
 unfolding gl_refusal
-grown_none s = refused_not (set_nearest GL_TEXTURE_MAG_FILTER) (gl_facts_of s 0 2 (set_nearest GL_TEXTURE_MAG_FILTER)) TexParameterx refl (refl, (refl, tt))
+grown_none s = refused_not (set_nearest GL_TEXTURE_MAG_FILTER) (gl_facts_of s 0 2 (set_nearest GL_TEXTURE_MAG_FILTER)) _ refl (refl, (refl, tt))
 
-pub shrunk_goes : (s : State) (v : View) (b x : ℕ) (t : TextureValue) (level : Option ℕ) → Stands s v b → v.texture ≡ Some x → IsTexture s.objects x t level →
+pub shrunk_goes : (s : State) (v : View) (b x : ℕ) (t : TextureValue) (level : Option ℕ) → Stands s v b → v.texture ≡ Some x → IsTextureAt s.objects x t level →
     Goes s (set_nearest GL_TEXTURE_MIN_FILTER) (Changed s v b x (shrunk t) level)
 shrunk_goes s v b x t level k h y =
-    goes s TexParameterx (set_nearest GL_TEXTURE_MIN_FILTER).args [] None (valued (pos 0) (changed_state s x shrunk)) (Changed s v b x (shrunk t) level) k.thread (shrunk_none s)
+    goes s _ (set_nearest GL_TEXTURE_MIN_FILTER).args [] None (valued (pos 0) (changed_state s x shrunk)) (Changed s v b x (shrunk t) level) k.thread (shrunk_none s)
     (ap (λ o. valued (pos 0) (set_parameter GL_TEXTURE_MIN_FILTER GL_NEAREST o s)) (target_is s v b x k h)) refl
     (changed_swept s v b x shrunk t level (λ u i. record { filter = refl; across = i.across; up = i.up }) k h y)
 
-pub grown_goes : (s : State) (v : View) (b x : ℕ) (t : TextureValue) (level : Option ℕ) → Stands s v b → v.texture ≡ Some x → IsTexture s.objects x t level →
+pub grown_goes : (s : State) (v : View) (b x : ℕ) (t : TextureValue) (level : Option ℕ) → Stands s v b → v.texture ≡ Some x → IsTextureAt s.objects x t level →
     Goes s (set_nearest GL_TEXTURE_MAG_FILTER) (Changed s v b x (grown t) level)
 grown_goes s v b x t level k h y =
-    goes s TexParameterx (set_nearest GL_TEXTURE_MAG_FILTER).args [] None (valued (pos 0) (changed_state s x grown)) (Changed s v b x (grown t) level) k.thread (grown_none s)
+    goes s _ (set_nearest GL_TEXTURE_MAG_FILTER).args [] None (valued (pos 0) (changed_state s x grown)) (Changed s v b x (grown t) level) k.thread (grown_none s)
     (ap (λ o. valued (pos 0) (set_parameter GL_TEXTURE_MAG_FILTER GL_NEAREST o s)) (target_is s v b x k h)) refl
     (changed_swept s v b x grown t level (λ u i. record { filter = i.filter; across = i.across; up = i.up }) k h y)
 
@@ -271,13 +270,13 @@ grown_goes s v b x t level k h y =
 abbrev pub cropped : List ℤ → TextureValue → TextureValue
 cropped xs t = record t { crop = xs }
 
-crop_none : (s : State) (u v w h : ℕ) → gl_refusal s 0 2 TexParameteriv (crop u v w h) ≡ None
+crop_none : (s : State) (u v w h : ℕ) → Passes s (crop u v w h)
 unfolding gl_refusal
-crop_none s u v w h = refused_not (crop u v w h) (gl_facts_of s 0 2 (crop u v w h)) TexParameteriv refl (refl, (refl, (refl, tt)))
+crop_none s u v w h = refused_not (crop u v w h) (gl_facts_of s 0 2 (crop u v w h)) _ refl (refl, (refl, (refl, tt)))
 
-pub crop_goes : (s : State) (o : View) (b x : ℕ) (t : TextureValue) (level : Option ℕ) (u v w h : ℕ) → Stands s o b → o.texture ≡ Some x → IsTexture s.objects x t level →
+pub crop_goes : (s : State) (o : View) (b x : ℕ) (t : TextureValue) (level : Option ℕ) (u v w h : ℕ) → Stands s o b → o.texture ≡ Some x → IsTextureAt s.objects x t level →
     Goes s (crop u v w h) (Changed s o b x (cropped (crop_of (pos u) (pos v) (pos w) (pos h)) t) level)
 crop_goes s o b x t level u v w h k e y =
-    goes s TexParameteriv (crop u v w h).args (crop u v w h).list None (valued (pos 0) (changed_state s x (cropped (crop_of (pos u) (pos v) (pos w) (pos h))))) (Changed s o b x (cropped (crop_of (pos u) (pos v) (pos w) (pos h)) t) level) k.thread (crop_none s u v w h)
+    goes s _ (crop u v w h).args (crop u v w h).list None (valued (pos 0) (changed_state s x (cropped (crop_of (pos u) (pos v) (pos w) (pos h))))) (Changed s o b x (cropped (crop_of (pos u) (pos v) (pos w) (pos h)) t) level) k.thread (crop_none s u v w h)
     (ap (λ z. valued (pos 0) (set_crop (crop u v w h).list z s)) (target_is s o b x k e)) refl
     (changed_swept s o b x (cropped (crop_of (pos u) (pos v) (pos w) (pos h))) t level (λ u i. record { filter = i.filter; across = i.across; up = i.up }) k e y)

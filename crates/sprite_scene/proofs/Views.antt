@@ -121,7 +121,7 @@ pub record IsPicture (w h : ℕ) (pixel : ℕ → ℕ → Pixel) (i : ImageValue
   pub each : (x y : ℕ) → x < w → y < h → pixel_at i x y ≡ pixel x y
 
 -- the texture that is an object
-pub record IsTexture (os : List (Option Object)) (object : ℕ) (t : TextureValue) (level : Option ℕ) : Type 0 where
+pub record IsTextureAt (os : List (Option Object)) (object : ℕ) (t : TextureValue) (level : Option ℕ) : Type 0 where
   pub beyond : 5 ≤ object
   pub is : get_or os object None ≡ Some (Texture (record { texture = t; levels = one_level level }))
 
@@ -138,6 +138,6 @@ pub record Has (os : List (Option Object)) (names : List Name) (name w h : ℕ) 
   pub storage : ℕ
   pub texture : TextureValue
   pub named : object_of name names ≡ Some object
-  pub textured : IsTexture os object texture (Some storage)
+  pub textured : IsTextureAt os object texture (Some storage)
   pub nearest : IsNearest texture
   pub pixels : IsStored os storage w h pixel

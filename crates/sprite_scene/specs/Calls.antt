@@ -3,9 +3,9 @@ use Rattle.std.specs.Prelude.{ℕ, ◌+◌, ℤ, pos, ◌&&◌, nat_lt, if◌the
 use Rattle.egl_calls.specs.Calls.{CallValue}
 use Rattle.egl_calls.specs.declared.kinds.Kind.{Kind}
 use Rattle.egl_calls.specs.declared.kinds.Kind.TheVariants.{Egl, Gl}
-use Rattle.egl_calls.specs.declared.kinds.EglKind.TheVariants.{GetDisplay, Initialize, CreatePbufferSurface, CreateContext, MakeCurrent}
-use Rattle.egl_calls.specs.declared.kinds.GlKind.TheVariants.{Enable, TexEnvx, Scissor, BindTexture, TexParameterx, TexParameteriv, TexImage2d, DrawTexi, ReadPixels}
-use Rattle.egl_names.specs.declared.codes.TheConstants.{EGL_WIDTH, EGL_HEIGHT, GL_NEAREST, GL_REPLACE, GL_RGBA, GL_SCISSOR_TEST, GL_TEXTURE_2D, GL_TEXTURE_CROP_RECT_OES, GL_TEXTURE_ENV, GL_TEXTURE_ENV_MODE, GL_TEXTURE_MAG_FILTER, GL_TEXTURE_MIN_FILTER, GL_UNSIGNED_BYTE}
+use Rattle.egl_calls.specs.declared.kinds.EglKind.TheVariants.{CreatePbufferSurface}
+use Rattle.egl_calls.specs.declared.kinds.GlKind.TheVariants.{Enable, Scissor, BindTexture, TexParameterx, TexParameteriv, TexImage2d, DrawTexi, ReadPixels}
+use Rattle.egl_names.specs.declared.codes.TheConstants.{EGL_WIDTH, EGL_HEIGHT, GL_NEAREST, GL_RGBA, GL_SCISSOR_TEST, GL_TEXTURE_2D, GL_TEXTURE_CROP_RECT_OES, GL_TEXTURE_MAG_FILTER, GL_TEXTURE_MIN_FILTER, GL_UNSIGNED_BYTE}
 use Rattle.pixel_formats.specs.declared.pixels.Pixel.{Pixel}
 use Rattle.pixel_rows.specs.Images.{no_pixel}
 use Rattle.scene_reader.specs.Items.{atlas_with, least_power}
@@ -16,6 +16,7 @@ use Rattle.scene_reader.specs.declared.items.Item.TheVariants.{Atlas as AtlasIte
 use Rattle.scene_reader.specs.declared.items.Part.{Part}
 use Rattle.scene_reader.specs.declared.items.ScaledPart.{ScaledPart}
 use Rattle.sprite_scene.specs.Draws.{tiles}
+use Rattle.sprite_scene.specs.declared.drawing.TheConstants.{CREATE_CONTEXT, GET_DISPLAY, INITIALIZE, MAKE_CURRENT, REPLACE}
 use Rattle.sprite_scene.specs.Painted.{picture}
 use Rattle.sprite_scene.specs.Samples.{smooth_at}
 
@@ -27,31 +28,35 @@ numbers a b c d e f g h = a ∷ b ∷ c ∷ d ∷ e ∷ f ∷ g ∷ h ∷ []
 abbrev pub plain : Kind → List ℤ → CallValue
 plain kind args = record { kind = kind; args = args; list = []; bytes = None }
 
+-- one that is the same in each scene
+abbrev pub fixed : Kind × List ℤ → CallValue
+fixed c = plain c.0 c.1
+
 abbrev pub listed : Kind → List ℤ → List ℤ → CallValue
 listed kind args list = record { kind = kind; args = args; list = list; bytes = None }
 
 -- ---- Display 1, and a surface and a context of the config whose components have 8 bits, the handles 3 and 4.
 abbrev pub get_display : CallValue
-get_display = plain (Egl GetDisplay) (numbers (pos 0) (pos 0) (pos 0) (pos 0) (pos 0) (pos 0) (pos 0) (pos 0))
+get_display = fixed GET_DISPLAY
 
 abbrev pub initialize : CallValue
-initialize = plain (Egl Initialize) (numbers (pos 1) (pos 0) (pos 0) (pos 0) (pos 0) (pos 0) (pos 0) (pos 0))
+initialize = fixed INITIALIZE
 
 abbrev pub create_pbuffer : ℕ → ℕ → CallValue
 create_pbuffer w h = listed (Egl CreatePbufferSurface) (numbers (pos 1) (pos 4) (pos 0) (pos 0) (pos 0) (pos 0) (pos 0) (pos 0)) (pos EGL_WIDTH ∷ pos w ∷ pos EGL_HEIGHT ∷ pos h ∷ [])
 
 abbrev pub create_context : CallValue
-create_context = plain (Egl CreateContext) (numbers (pos 1) (pos 4) (pos 0) (pos 0) (pos 0) (pos 0) (pos 0) (pos 0))
+create_context = fixed CREATE_CONTEXT
 
 abbrev pub make_current : CallValue
-make_current = plain (Egl MakeCurrent) (numbers (pos 1) (pos 3) (pos 3) (pos 4) (pos 0) (pos 0) (pos 0) (pos 0))
+make_current = fixed MAKE_CURRENT
 
 abbrev pub context_calls : ℕ → ℕ → List CallValue
 context_calls w h = get_display ∷ initialize ∷ create_pbuffer w h ∷ create_context ∷ make_current ∷ []
 
 -- ---- Textures replace what is there, inside the scissor box.
 abbrev pub replace : CallValue
-replace = plain (Gl TexEnvx) (numbers (pos GL_TEXTURE_ENV) (pos GL_TEXTURE_ENV_MODE) (pos GL_REPLACE) (pos 0) (pos 0) (pos 0) (pos 0) (pos 0))
+replace = fixed REPLACE
 
 abbrev pub enable : ℕ → CallValue
 enable cap = plain (Gl Enable) (numbers (pos cap) (pos 0) (pos 0) (pos 0) (pos 0) (pos 0) (pos 0) (pos 0))

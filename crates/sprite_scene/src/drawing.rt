@@ -1,7 +1,7 @@
 //! The calls of a scene.
 ghost use Rattle.std.specs.Prelude.{◌≡◌, ◌∷◌, ◌++◌, ◌≤◌, ◌<◌, [], OnOk};
 ghost use Rattle.egl_calls.specs.Ranges.{AreArguments, IsNumber};
-ghost use Rattle.egl_calls.specs.declared.kinds.Kind.TheVariants.{Egl, Gl};
+ghost use Rattle.egl_calls.specs.declared.kinds.Kind.TheVariants.{Gl};
 ghost use Rattle.sprite_scene.specs.Calls as values;
 
 use crate::call_lists::{Calls, listed, plain};
@@ -26,6 +26,41 @@ const CONFIG: i64 = 4;
 
 const TEXTURE_2D: i64 = GL_TEXTURE_2D as i64;
 
+/// A call without a list and bytes that is the same in each scene: its kind and its numbers. The definition of a scene's calls reads them here.
+type FixedCall = (Kind, [i64; 8]);
+
+const GET_DISPLAY: FixedCall = (Kind::Egl(EglKind::GetDisplay), [0; 8]);
+
+const INITIALIZE: FixedCall = (
+    Kind::Egl(EglKind::Initialize),
+    [DISPLAY, 0, 0, 0, 0, 0, 0, 0],
+);
+
+const CREATE_CONTEXT: FixedCall = (
+    Kind::Egl(EglKind::CreateContext),
+    [DISPLAY, CONFIG, 0, 0, 0, 0, 0, 0],
+);
+
+const MAKE_CURRENT: FixedCall = (
+    Kind::Egl(EglKind::MakeCurrent),
+    [DISPLAY, SURFACE, SURFACE, CONTEXT, 0, 0, 0, 0],
+);
+
+/// Textures replace what is there.
+const REPLACE: FixedCall = (
+    Kind::Gl(GlKind::TexEnvx),
+    [
+        GL_TEXTURE_ENV as i64,
+        GL_TEXTURE_ENV_MODE as i64,
+        GL_REPLACE as i64,
+        0,
+        0,
+        0,
+        0,
+        0,
+    ],
+);
+
 /// The texels of the bound texture.
 fn image(alloc: Global, w: u32, h: u32, texels: Payload) -> Call
     ensures { result ≡ values.tex_image w h texels }
@@ -48,11 +83,11 @@ fn image(alloc: Global, w: u32, h: u32, texels: Payload) -> Call
 }
 
 impl Calls {
-    fn push_egl(&mut self, alloc: Global, kind: EglKind, args: [i64; 8]) -> Result<(), NoMemory>
-        requires { AreArguments (Egl kind) 0 args }
-        ensures { OnOk result (self.new ≡ self.old ++ values.plain (Egl kind) args ∷ []) }
+    fn push_fixed(&mut self, alloc: Global, call: FixedCall) -> Result<(), NoMemory>
+        requires { AreArguments call.0 0 call.1 }
+        ensures { OnOk result (self.new ≡ self.old ++ values.fixed call ∷ []) }
     {
-        self.push(plain(alloc, Kind::Egl(kind), args))
+        self.push(plain(alloc, call.0, call.1))
     }
 
     fn push_gl(&mut self, alloc: Global, kind: GlKind, args: [i64; 8]) -> Result<(), NoMemory>
@@ -66,8 +101,8 @@ impl Calls {
     fn push_context(&mut self, alloc: Global, w: u32, h: u32) -> Result<(), NoMemory>
         ensures { OnOk result (self.new ≡ self.old ++ values.context_calls w h) }
     {
-        self.push_egl(alloc, EglKind::GetDisplay, [0; 8])?;
-        self.push_egl(alloc, EglKind::Initialize, [DISPLAY, 0, 0, 0, 0, 0, 0, 0])?;
+        self.push_fixed(alloc, GET_DISPLAY)?;
+        self.push_fixed(alloc, INITIALIZE)?;
         let sides = [
             EGL_WIDTH as i64,
             i64::from(w),
@@ -76,12 +111,8 @@ impl Calls {
         ];
         let args = [DISPLAY, CONFIG, 0, 0, 0, 0, 0, 0];
         self.push(listed(alloc, Kind::Egl(EglKind::CreatePbufferSurface), args, sides)?)?;
-        self.push_egl(alloc, EglKind::CreateContext, args)?;
-        self.push_egl(
-            alloc,
-            EglKind::MakeCurrent,
-            [DISPLAY, SURFACE, SURFACE, CONTEXT, 0, 0, 0, 0],
-        )
+        self.push_fixed(alloc, CREATE_CONTEXT)?;
+        self.push_fixed(alloc, MAKE_CURRENT)
     }
 
     /// The calls before all items: textures replace what is there, inside the scissor box.
@@ -89,17 +120,7 @@ impl Calls {
         ensures { OnOk result (self.new ≡ self.old ++ values.opening_calls w h) }
     {
         self.push_context(alloc, w, h)?;
-        let environment = [
-            GL_TEXTURE_ENV as i64,
-            GL_TEXTURE_ENV_MODE as i64,
-            GL_REPLACE as i64,
-            0,
-            0,
-            0,
-            0,
-            0,
-        ];
-        self.push_gl(alloc, GlKind::TexEnvx, environment)?;
+        self.push_fixed(alloc, REPLACE)?;
         self.push_gl(alloc, GlKind::Enable, [TEXTURE_2D, 0, 0, 0, 0, 0, 0, 0])?;
         self.push_gl(
             alloc,

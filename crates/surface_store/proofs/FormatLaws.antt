@@ -1,8 +1,8 @@
 -- The formats of the eight configs, and of a number that is no config's id.
-use Rattle.std.proofs.Common.{◌≡◌, ℕ, ℤ, pos, negsuc, ◌<◌, ◌≤◌, ◌≤ℤ◌, Option, None, Some, Bool, true, false, ◌&&◌, ◌∙◌, zero, suc, refl, ap, arith}
+use Rattle.std.proofs.Common.{◌≡◌, ℕ, ℤ, pos, negsuc, ◌<◌, ◌≤◌, ◌≤ℤ◌, Option, None, Some, true, false, ◌∙◌, zero, suc, refl, ap, arith}
 use Rattle.std.specs.Prelude.{◌==◌, ◌||◌, if◌then◌else◌}
 use Rattle.std.specs.Option.{option_map, option_and_then}
-use Rattle.std.proofs.lemmas.Bool.{false≢true}
+use Rattle.std.proofs.lemmas.Bool.{false≢true, and_parts}
 use Rattle.std.proofs.lemmas.Bool.Decides.{nat_tests, Decides-int_eq}
 use Rattle.egl_calls.specs.Ranges.{unsigned}
 use Rattle.egl_names.specs.declared.codes.TheConstants.{EGL_RED_SIZE, EGL_GREEN_SIZE, EGL_BLUE_SIZE, EGL_ALPHA_SIZE}
@@ -78,10 +78,6 @@ same_numbers : (x y : Option ℤ) → is_same x y ≡ true → x ≡ y
 same_numbers (Some x) (Some y) h = ap Some ((Decides-int_eq x y).0 h)
 same_numbers (Some x) None h = absurd (false≢true h)
 same_numbers None y h = absurd (false≢true h)
-
-and_parts : (a b : Bool) → (a && b) ≡ true → (a ≡ true) × (b ≡ true)
-and_parts true b h = (refl, h)
-and_parts false b h = absurd (false≢true h)
 
 pub alike : (first second : ℤ) → are_compatible first second ≡ true → format_of first ≡ format_of second
 unfolding are_compatible format_of

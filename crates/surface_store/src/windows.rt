@@ -5,6 +5,7 @@ ghost use Rattle.pixel_rows.specs.Images.{blank};
 ghost use Rattle.surface_store.specs.Windows as values;
 
 use egl_calls::NoMemory;
+use egl_calls::limits::{LAST_WINDOW, LONGEST_SIDE};
 use pixel_formats::{Format, Pixel};
 use pixel_rows::{Image, Mask, Rect, zeroes_whole};
 use std::alloc::Global;
@@ -12,12 +13,6 @@ use std::marker::Model;
 
 /// The most windows that may be declared.
 pub const MOST_WINDOWS: usize = 64;
-
-/// The largest id of a window.
-const LAST_ID: i64 = 2_147_483_647;
-
-/// The longest side of a window, in pixels.
-const LONGEST_SIDE: u32 = 2_048;
 
 /// A declared window: its id, and how many pixels a row has and how many rows there are.
 #[derive(Clone, Copy, Debug, PartialEq, Eq, Drop)]
@@ -32,11 +27,11 @@ fn is_spec(spec: WindowSpec) -> bool
     ensures { result ≡ values.is_spec spec }
 {
     1 <= spec.id
-        && spec.id <= LAST_ID
+        && spec.id <= LAST_WINDOW as i64
         && 1 <= spec.w
-        && spec.w <= LONGEST_SIDE
+        && spec.w as u64 <= LONGEST_SIDE
         && 1 <= spec.h
-        && spec.h <= LONGEST_SIDE
+        && spec.h as u64 <= LONGEST_SIDE
 }
 
 /// Whether a window of a list has an id.

@@ -9,7 +9,7 @@ ghost use Rattle.call_table.specs.Roles.{lets_go};
 ghost use Rattle.call_table.specs.Rows.{egl_role, gl_role, named_kind};
 ghost use Rattle.table_laws.specs.Places.{egl_takes_place, gl_takes_place, is_inner, own_takes_place};
 
-/// The calls whose role lets go are eglTerminate, the four eglDestroy calls, eglWaitClient, eglReleaseThread, glFlush, glFinish and the four glDelete calls: for these and a Halt a token keeps a place in the journal, so that they need no memory. The end of a wait, whose place its beginning keeps, and a Halt are the kinds that have no row.
+/// For the calls whose role lets go and for a Halt a token keeps a place in the journal, so that they need no memory. Those calls are eglTerminate, the four eglDestroy calls, eglWaitClient, eglReleaseThread, glFlush, glFinish and the four glDelete calls. The end of a wait, whose place its beginning keeps, and a Halt are the kinds that have no row.
 pub fn kinds_that_take_a_place_are_these()
     ensures egl { (k : EglKinds) → lets_go (egl_role k) ≡ egl_takes_place k }
     ensures gl { (k : GlKinds) → lets_go (gl_role k) ≡ gl_takes_place k }

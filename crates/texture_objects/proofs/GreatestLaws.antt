@@ -1,6 +1,6 @@
 -- The greatest number that passes a test, and runs of numbers that all pass.
 use Rattle.std.proofs.Common.{◌≡◌, ℕ, zero, suc, ◌+◌, ◌-◌, ◌<◌, ◌≤◌, Bool, true, false, ◌&&◌, cond, refl, sym, ap, ◌∙◌, arith, inl, inr}
-use Rattle.std.proofs.lemmas.Bool.{cases_order, false≢true}
+use Rattle.std.proofs.lemmas.Bool.{cases_order, false≢true, and_parts, and_from}
 use Rattle.texture_objects.specs.Greatest.{IsGreatest, greatest}
 use Rattle.texture_objects.specs.Levels.{each_passes}
 
@@ -77,14 +77,6 @@ unfolding each_passes
 each-next test start zero h = absurd (omega arith)
 each-next test start (suc count) h = ap (λ m. test start && each_passes test (start + 1) m) (less_one count)
 
-pub and_parts : (a b : Bool) → (a && b) ≡ true → (a ≡ true) × (b ≡ true)
-and_parts true b h = (refl, h)
-and_parts false b h = absurd (false≢true h)
-
-pub and_both : (a b : Bool) → a ≡ true → b ≡ true → (a && b) ≡ true
-and_both true b e f = f
-and_both false b e f = e
-
 pub each-passes : (test : ℕ → Bool) (start count : ℕ) → each_passes test start count ≡ true → (k : ℕ) → start ≤ k → k < start + count → test k ≡ true
 unfolding each_passes
 each-passes test start zero h k l m = absurd (omega arith)
@@ -103,7 +95,7 @@ pub all-pass : (test : ℕ → Bool) (start count : ℕ) → ((k : ℕ) → star
 unfolding each_passes
 all-pass test start zero h = refl
 all-pass test start (suc count) h =
-    and_both (test start) (each_passes test (start + 1) count) (h start (omega arith) (omega arith))
+    and_from (test start) (each_passes test (start + 1) count) (h start (omega arith) (omega arith))
     (all-pass test (start + 1) count (λ k l m. h k (omega arith) (omega arith)))
 
 -- ---- Loops over the numbers from 1 up to a last one.

@@ -3,9 +3,10 @@ use Rattle.std.proofs.Common.{◌≡◌, ℕ, zero, suc, ◌+◌, ◌-◌, ◌*�
 use Rattle.std.specs.Prelude.{nat_le}
 use Rattle.std.proofs.Math.Nat.{pow-succ'}
 use Rattle.std.proofs.Math.Pow.{pow_mono}
-use Rattle.std.proofs.lemmas.Bool.{cases_order, false≢true}
+use Rattle.std.proofs.lemmas.Bool.{cases_order, false≢true, and_parts, and_from}
 use Rattle.std.proofs.lemmas.Bool.Decides.{nat_tests}
 use Rattle.std.proofs.lemmas.List.{get_or_past}
+use Rattle.egl_calls.proofs.Truths.{implied}
 use Rattle.pixel_formats.specs.declared.formats.Format.{Format}
 use Rattle.pixel_formats.specs.declared.formats.Format.TheVariants.{Rgb565, Rgb888, Rgba8888, Rgba4444, Rgba5551, A8, L8, La88}
 use Rattle.texture_objects.specs.Greatest.{IsGreatest, greatest}
@@ -16,7 +17,7 @@ use Rattle.texture_objects.specs.Textures.{TextureValue}
 use Rattle.texture_objects.specs.declared.levels.Shape.{Shape}
 use Rattle.texture_objects.specs.declared.levels.Sides.{Sides}
 use Rattle.texture_objects.specs.declared.parameters.MinFilter.{MinFilter}
-use Rattle.texture_objects.proofs.GreatestLaws.{all-pass, and_both, and_parts, each-next, each-passes, greatest-holds, greatest-is, greatest-within}
+use Rattle.texture_objects.proofs.GreatestLaws.{all-pass, each-next, each-passes, greatest-holds, greatest-is, greatest-within}
 
 -- ---- The logarithm.
 doubled : (r : ℕ) → 2 ^ (r + 1) ≡ 2 * 2 ^ r
@@ -127,17 +128,13 @@ same_shape s t h =
     shape-same s.format t.format s.w t.w s.h t.h (same_format s.format t.format inner.0) (equal s.w t.w inner.1) (equal s.h t.h outer.1)
 
 pub same-self : (s : Shape) → is_same_shape s s ≡ true
-same-self s = and_both (is_same_format s.format s.format && (s.w == s.w)) (s.h == s.h) (and_both (is_same_format s.format s.format) (s.w == s.w) (self (place_of s.format)) (self s.w)) (self s.h)
+same-self s = and_from (is_same_format s.format s.format && (s.w == s.w)) (s.h == s.h) (and_from (is_same_format s.format s.format) (s.w == s.w) (self (place_of s.format)) (self s.w)) (self s.h)
 
 stored-is : (o : Option Shape) (s : Shape) → is_stored o s ≡ true → o ≡ Some s
 stored-is None s h = absurd (false≢true h)
 stored-is (Some r) s h = ap (λ x. Some x) (same_shape r s h)
 
 -- ---- Completeness.
-rest_of_or : (a b : Bool) → (not a || b) ≡ true → a ≡ true → b ≡ true
-rest_of_or true b h e = h
-rest_of_or false b h e = absurd (false≢true e)
-
 or_of_rest : (a b : Bool) → (a ≡ true → b ≡ true) → (not a || b) ≡ true
 or_of_rest true b f = f refl
 or_of_rest false b f = refl
@@ -148,7 +145,7 @@ complete-parts t levels (Some base) e h = record {
   base = base;
   stored = e;
   mipmaps = λ u k l m. stored-is (level_at levels k) (mipmap_of base k)
-      (each-passes (λ j. is_stored (level_at levels j) (mipmap_of base j)) 1 (last_level base) (rest_of_or (uses_mipmaps t.min_filter) (has_mipmaps levels base) h u) k l (omega arith));
+      (each-passes (λ j. is_stored (level_at levels j) (mipmap_of base j)) 1 (last_level base) (implied (uses_mipmaps t.min_filter) (has_mipmaps levels base) h u) k l (omega arith));
 }
 
 parts-complete : (t : TextureValue) (levels : List (Option Shape)) → IsComplete t levels → is_complete t levels ≡ true
@@ -180,7 +177,7 @@ pub level-stored : (filter : MinFilter) (levels : List (Option Shape)) (base : S
 level-stored filter levels base zero e h u l = rw e refl
 level-stored filter levels base (suc k) e h u l =
     some-stored (level_at levels (suc k)) (mipmap_of base (suc k))
-    (each-passes (λ j. is_stored (level_at levels j) (mipmap_of base j)) 1 (last_level base) (rest_of_or (uses_mipmaps filter) (has_mipmaps levels base) h u) (suc k) (omega arith) (omega arith))
+    (each-passes (λ j. is_stored (level_at levels j) (mipmap_of base j)) 1 (last_level base) (implied (uses_mipmaps filter) (has_mipmaps levels base) h u) (suc k) (omega arith) (omega arith))
 
 no_storage : (o : Option Shape) → IsSome o → o ≡ None → ⊥
 no_storage o s e = let none : IsSome {T = Shape} None = subst (λ x. IsSome x) e s in false≢true none

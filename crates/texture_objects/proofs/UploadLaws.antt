@@ -1,9 +1,10 @@
 -- The laws of uploads.
-use Rattle.std.proofs.Common.{◌≡◌, ℕ, ℤ, pos, negsuc, ◌-◌, ◌*◌, ◌<◌, ◌≤◌, Bool, true, false, ◌&&◌, cond, List, [], Option, None, refl, sym, ap, ◌∙◌, arith}
+use Rattle.std.proofs.Common.{◌≡◌, ℕ, ℤ, pos, negsuc, ◌-◌, ◌*◌, ◌<◌, ◌≤◌, true, cond, List, [], Option, None, refl, sym, ap, ◌∙◌, arith}
 use Rattle.std.proofs.Math.Path.{fun_ext}
 use Rattle.std.proofs.lemmas.Bool.Decides.{nat_tests}
 use Rattle.std.proofs.lemmas.Int.{ints}
 use Rattle.std.proofs.lemmas.List.{length-replicate}
+use Rattle.std.proofs.lemmas.Bool.{and_from}
 use Rattle.egl_calls.specs.Calls.{CallValue}
 use Rattle.egl_calls.specs.Ranges.{unsigned}
 use Rattle.pixel_formats.specs.Formats.{base_of}
@@ -38,12 +39,8 @@ in-span : (z : ℤ) (k : ℕ) → k < unsigned z → is_in_span (pos 0) z k ≡ 
 in-span (pos n) k h = grind (arith, nat_tests, ints)
 in-span (negsuc n) k h = absurd (omega arith)
 
-in-both : (a b : Bool) → a ≡ true → b ≡ true → (a && b) ≡ true
-in-both true b e f = f
-in-both false b e f = e
-
 in-whole : (c : CallValue) (x y : ℕ) → x < unsigned (signed c 3) → y < unsigned (signed c 4) → is_in (whole_rect c) x y ≡ true
-in-whole c x y k l = in-both _ _ (in-span (signed c 3) x k) (in-span (signed c 4) y l)
+in-whole c x y k l = and_from _ _ (in-span (signed c 3) x k) (in-span (signed c 4) y l)
 
 side-within : (z : ℤ) → IsSide z → unsigned z ≤ 2048
 side-within (pos n) s = let high = s.high in omega (arith, ints)

@@ -13,7 +13,7 @@ pub fn answers_what_is_set()
     ensures { laws.AnswersWhatIsSet }
 {}
 
-/// The other parameters are as they were, and so is the crop rectangle.
+/// After a parameter is set the others are as they were, and so is the crop rectangle.
 pub fn keeps_other_parameters()
     ensures { laws.KeepsOtherParameters }
 {}

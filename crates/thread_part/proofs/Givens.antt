@@ -1,8 +1,9 @@
 -- What is known of calls that give pixels and that no rule refuses.
-use Rattle.std.proofs.Common.{◌≡◌, ℕ, ◌<◌, ◌≤◌, ℤ, pos, negsuc, ◌≤ℤ◌, Bool, true, false, ◌||◌, refl, arith}
+use Rattle.std.proofs.Common.{◌≡◌, ℕ, ◌<◌, ◌≤◌, ℤ, pos, negsuc, ◌≤ℤ◌, false, arith}
 use Rattle.std.specs.Prelude.{int_lt}
 use Rattle.std.proofs.lemmas.Bool.{ltb-false}
 use Rattle.std.proofs.lemmas.Int.{ints}
+use Rattle.egl_calls.proofs.Truths.{neither_first, neither_second}
 use Rattle.egl_calls.specs.Calls.{CallValue}
 use Rattle.egl_calls.specs.Arguments.{number, signed}
 use Rattle.egl_calls.specs.Ranges.{unsigned}
@@ -12,27 +13,19 @@ use Rattle.call_rules.specs.GlAllowed.{CopyAllowed, ImageAllowed}
 use Rattle.call_rules.specs.TextureRules.{is_no_level_side}
 use Rattle.call_rules.specs.declared.gl_facts.GlFacts.{GlFacts}
 use Rattle.driver_objects.specs.Storages.{IsCopiedSide}
-use Rattle.model_laws.proofs.TextureCalls.{side_few}
+use Rattle.model_laws.proofs.Calls.TextureCalls.{side_few}
 use Rattle.texture_objects.specs.Uploads.{IsImageCall, IsSide}
 
 not_negative : (z : ℤ) → int_lt z (pos 0) ≡ false → pos 0 ≤ℤ z
 not_negative (pos n) h = omega (arith, ints)
 not_negative (negsuc n) h = absurd (cc)
 
-first_false : (a b : Bool) → (a || b) ≡ false → a ≡ false
-first_false true b h = h
-first_false false b h = refl
-
-pub second_false : (a b : Bool) → (a || b) ≡ false → b ≡ false
-second_false true b h = absurd (cc)
-second_false false b h = h
-
 high_side : (z : ℤ) → unsigned z ≤ 1024 → z ≤ℤ pos 1024
 high_side (pos n) h = omega (arith, ints, h)
 high_side (negsuc n) h = omega (arith, ints)
 
 side : (level : ℕ) (z : ℤ) → is_no_level_side level z ≡ false → IsSide z
-side level z h = record { low = not_negative z (first_false _ _ (first_false _ _ h)); high = high_side z (side_few level z h) }
+side level z h = record { low = not_negative z (neither_first _ _ (neither_first _ _ h)); high = high_side z (side_few level z h) }
 
 copied_side : (z : ℤ) → IsSide z → IsCopiedSide z
 copied_side z h = record { low = h.low; high = h.high }
@@ -46,7 +39,7 @@ pub image_call : (c : CallValue) (f : GlFacts) → c.kind ≡ Gl TexImage2d → 
 image_call c f h a = record { kind = h; form = a.form; width = side _ (signed c 3) a.width; height = side _ (signed c 4) a.height }
 
 pub level_below : (c : CallValue) (f : GlFacts) → ImageAllowed c f → number c 1 < 11
-level_below c f a = level_few (signed c 1) (second_false _ _ a.level)
+level_below c f a = level_few (signed c 1) (neither_second _ _ a.level)
 
 -- ---- glCopyTexImage2D.
 pub copied_wide : (c : CallValue) (f : GlFacts) → CopyAllowed c f → IsCopiedSide (signed c 5)
@@ -56,4 +49,4 @@ pub copied_high : (c : CallValue) (f : GlFacts) → CopyAllowed c f → IsCopied
 copied_high c f a = copied_side _ (side _ (signed c 6) a.height)
 
 pub copied_below : (c : CallValue) (f : GlFacts) → CopyAllowed c f → number c 1 < 11
-copied_below c f a = level_few (signed c 1) (second_false _ _ a.level)
+copied_below c f a = level_few (signed c 1) (neither_second _ _ a.level)

@@ -24,8 +24,8 @@ use Rattle.egl_model.specs.Drawing.{clears_colour}
 use Rattle.egl_model.specs.Parts.{Own, Private}
 use Rattle.model_laws.specs.Late.{drawing, drawn_own, drawn_part}
 use Rattle.model_laws.specs.Local.{LocalEffect, after_rules, by_kind, cleared_locally, egl_locally, egl_value, facts_locally, gl_locally, gl_with, in_wait, local_refusal, locally, locally_by, object_locally, part_after}
-use Rattle.model_laws.proofs.KeptNames.{applied_names}
-use Rattle.model_laws.proofs.Setters.{KeepsForm, form-cleared, form-drawn}
+use Rattle.model_laws.proofs.Calls.KeptNames.{applied_names}
+use Rattle.model_laws.proofs.Changes.Setters.{KeepsForm, form-cleared, form-drawn}
 use Rattle.thread_part.specs.Private.{HasContext, HasNoSurfaces, HasSurfaces, IsAllOrNothing, IsSurfaceImage, names_bound}
 use Rattle.thread_part.proofs.AllOrNothing.{none_of}
 

@@ -9,7 +9,7 @@ use Rattle.journal_text.proofs.WordLaws.{From, decimal_numeral, from_all, from_a
 use Rattle.scene_trace.proofs.Spaced.{AreWords, line_first, words_spaced}
 use Rattle.trace_gen.specs.Draws.{drawn, state_after}
 use Rattle.trace_gen.specs.Generated.{by_thread, clear_line, closing_lines, color_line, current_line, digit, draw_line, generated, hex, image_line, kind_line, making_lines, numbered, opening_lines, others, parameter_lines, part_lines, post_line, random_line, random_lines, scissor_line, sides, state_behind, swap_line, texture_lines, two, window_line}
-use Rattle.trace_gen.specs.declared.thread_lines.Part.TheVariants.{Closing, Making, Opening, Post, Window}
+use Rattle.trace_gen.specs.declared.thread_lines.Part.TheVariants.{Closing, Making, Opening, Handover, Window}
 use Rattle.trace_reader.proofs.StepLaws.{behind_first}
 use Rattle.trace_reader.specs.Assigned.{assigned_names}
 use Rattle.trace_reader.specs.Grammar.{head_then, read_on, trace, trace_with, with_lines}
@@ -146,7 +146,7 @@ after n threads seed =
     ++ (flat_map (part_lines Making) (others threads)
     ++ (flat_map (part_lines Opening) (range_with_len 0 threads)
     ++ (random_lines n threads seed
-    ++ (flat_map (part_lines Post) (others threads)
+    ++ (flat_map (part_lines Handover) (others threads)
     ++ (flat_map (part_lines Closing) (others threads) ++ codes "0 eglSwapBuffers $d $s0\n")))))
 
 after_formed : (n threads seed : ℕ) → 0 < threads → threads ≤ 16 → formed true (after n threads seed) ≡ true
@@ -154,13 +154,13 @@ unfolding after
 after_formed n threads seed h l =
     let last = codes "0 eglSwapBuffers $d $s0\n" in
     let closing = flat_map (part_lines Closing) (others threads) ++ last in
-    let post = flat_map (part_lines Post) (others threads) ++ closing in
+    let post = flat_map (part_lines Handover) (others threads) ++ closing in
     let random = random_lines n threads seed ++ post in
     let opening = flat_map (part_lines Opening) (range_with_len 0 threads) ++ random in
     many_formed (part_lines Making) (λ t rest k. making_formed t rest k) 1 (threads - 1) opening (omega (arith, h, l))
     ∙ many_formed (part_lines Opening) (λ t rest k. opening_formed t rest k) 0 threads random (omega (arith, l))
     ∙ random_formed n threads seed post h l
-    ∙ many_formed (part_lines Post) (λ t rest k. post_formed t rest k) 1 (threads - 1) closing (omega (arith, h, l))
+    ∙ many_formed (part_lines Handover) (λ t rest k. post_formed t rest k) 1 (threads - 1) closing (omega (arith, h, l))
     ∙ many_formed (part_lines Closing) (λ t rest k. closing_formed t rest k) 1 (threads - 1) last (omega (arith, h, l))
 
 behind_is : (n threads seed : ℕ) → behind n threads seed ++ 10 ∷ [] ≡ flat_map (part_lines Window) (range_with_len 1 threads) ++ after n threads seed

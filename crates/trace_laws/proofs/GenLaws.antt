@@ -9,7 +9,7 @@ use Rattle.journal_text.proofs.WordLaws.{From, decimal_numeral, from_all, from_a
 use Rattle.scene_trace.proofs.Spaced.{AreWords, line_first, words_spaced}
 use Rattle.trace_gen.specs.Draws.{drawn, state_after}
 use Rattle.trace_gen.specs.Generated.{by_thread, clear_line, closing_lines, color_line, current_line, digit, draw_line, generated, hex, image_line, kind_line, making_lines, numbered, opening_lines, others, parameter_lines, part_lines, post_line, random_line, random_lines, scissor_line, sides, state_behind, swap_line, texture_lines, two, window_line}
-use Rattle.trace_gen.specs.declared.thread_lines.Part.TheVariants.{Closing, Making, Opening, Post, Window}
+use Rattle.trace_gen.specs.declared.thread_lines.Part.TheVariants.{Closing, Making, Opening, Handover, Window}
 use Rattle.trace_reader.proofs.NumeralLaws.{numeral_within}
 use Rattle.trace_reader.proofs.StepLaws.{behind_first}
 use Rattle.trace_reader.specs.Assigned.{assigned_names}
@@ -172,7 +172,7 @@ behind n threads seed =
     ++ (flat_map (part_lines Making) (others threads)
     ++ (flat_map (part_lines Opening) (range_with_len 0 threads)
     ++ (random_lines n threads seed
-    ++ (flat_map (part_lines Post) (others threads)
+    ++ (flat_map (part_lines Handover) (others threads)
     ++ (flat_map (part_lines Closing) (others threads) ++ codes "0 eglSwapBuffers $d $s0"))))))
 
 unfoldable pub header_text : ℕ → List ℕ
@@ -187,7 +187,7 @@ unfolding behind
 behind_fed n threads seed h l =
     let last = codes "0 eglSwapBuffers $d $s0" in
     let closing = flat_map (part_lines Closing) (others threads) ++ last in
-    let post = flat_map (part_lines Post) (others threads) ++ closing in
+    let post = flat_map (part_lines Handover) (others threads) ++ closing in
     let random = random_lines n threads seed ++ post in
     let opening = flat_map (part_lines Opening) (range_with_len 0 threads) ++ random in
     let making = flat_map (part_lines Making) (others threads) ++ opening in
@@ -195,7 +195,7 @@ behind_fed n threads seed h l =
     let b = many_fed (part_lines Making) 3 (λ t rest k. (let e = making_fed t rest k in omega (arith, e))) 1 (threads - 1) opening (omega (arith, h, l)) in
     let d = many_fed (part_lines Opening) 7 (λ t rest k. (let e = opening_fed t rest k in omega (arith, e))) 0 threads random (omega (arith, l)) in
     let r = random_fed n threads seed post h l in
-    let p = many_fed (part_lines Post) 1 (λ t rest k. (let e = post_fed t rest k in omega (arith, e))) 1 (threads - 1) closing (omega (arith, h, l)) in
+    let p = many_fed (part_lines Handover) 1 (λ t rest k. (let e = post_fed t rest k in omega (arith, e))) 1 (threads - 1) closing (omega (arith, h, l)) in
     let q = many_fed (part_lines Closing) 3 (λ t rest k. (let e = closing_fed t rest k in omega (arith, e))) 1 (threads - 1) last (omega (arith, h, l)) in
     omega (arith, a, b, d, r, p, q)
 

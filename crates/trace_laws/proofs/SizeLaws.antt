@@ -19,7 +19,7 @@ use Rattle.surface_store.specs.Windows.{WindowValue, are_distinct, is_spec, open
 use Rattle.surface_store.specs.declared.windows.WindowSpec.{WindowSpec}
 use Rattle.egl_model.specs.State.{State, opening}
 use Rattle.egl_model.specs.Sweep.{census}
-use Rattle.model_laws.proofs.StepKeeps.{windows-replay}
+use Rattle.model_laws.proofs.Steps.StepKeeps.{windows-replay}
 use Rattle.model_laws.specs.Swaps.{form_of, forms}
 use Rattle.journal_text.specs.Written.{HasNumber}
 use Rattle.trace_check.specs.Recordings.{IsSized}

@@ -3,6 +3,7 @@ pub mod TurnLaws
 pub mod HistoryLaws
 pub mod SearchLaws
 pub mod PlayLaws
+pub mod DistinctLaws
 pub mod OrderLaws
 pub mod OutcomeLaws
 pub mod FoundLaws

@@ -2,6 +2,7 @@
 use Rattle.std.proofs.Common.{◌≡◌, ◌⊎◌, ℕ, zero, suc, ◌+◌, ◌-◌, ◌<◌, ◌≤◌, Bool, true, false, not, List, [], ◌∷◌, ◌++◌, length, append_assoc, refl, sym, ap, ◌∙◌, subst, arith, inl, inr}
 use Rattle.std.proofs.lemmas.List.{map-append}
 use Rattle.std.specs.Prelude.{map, filter, cond, if◌then◌else◌}
+use Rattle.std.proofs.lemmas.Bool.{not-true}
 use Rattle.trace_outcomes.specs.Outcomes.{OutcomeValue, agrees_at, in_order, key_of, rising}
 use Rattle.trace_outcomes.specs.Plays.{IsAmong, AreDistinct, AreRising, RiseByDifference, difference_from}
 use Rattle.trace_outcomes.proofs.AmongLaws.{among_back, among_either, among_front, among_passing, passing_among}
@@ -15,10 +16,6 @@ alike first place os = filter (agrees_at first place) os
 
 abbrev behind : OutcomeValue → ℕ → ℕ → List OutcomeValue → List OutcomeValue
 behind first place more os = rising first (place + 1) more (alike first place os)
-
-not_true_is : (b : Bool) → not b ≡ true → b ≡ false
-not_true_is true h = absurd (let f : false ≡ true = h in cc)
-not_true_is false h = refl
 
 -- ---- The same ones.
 rising_among : (first : OutcomeValue) (more place : ℕ) (x : OutcomeValue) (os : List OutcomeValue) → IsAmong x (rising first place more os) → IsAmong x os
@@ -129,7 +126,7 @@ distinct_rising first (suc more) place os d =
         let pa = among_passing (λ o. not (agrees_at first place o)) a.outcome os a.among in
         let pb = among_passing (agrees_at first place) b.outcome os (rising_among first more (place + 1) b.outcome (alike first place os) b.among) in
         let one : a.outcome ≡ b.outcome = one_of_key a.outcome b.outcome os d pa.among pb.among (a.same ∙ sym b.same) in
-        let both : true ≡ false = sym pb.passes ∙ sym (ap (agrees_at first place) one) ∙ not_true_is (agrees_at first place a.outcome) pa.passes in
+        let both : true ≡ false = sym pb.passes ∙ sym (ap (agrees_at first place) one) ∙ not-true (agrees_at first place a.outcome) pa.passes in
         cc
 
 pub ordered_distinct : (os : List OutcomeValue) → AreDistinct (map key_of os) → AreDistinct (map key_of (in_order os))
@@ -176,7 +173,7 @@ rising_rises first (suc more) place os =
     (λ x y i j. omega (arith, here x i, from_place first (suc more) place y))
   where
     here : (x : OutcomeValue) → IsAmong x (apart first place os) → difference_from first place (suc more) x ≡ place
-    here x i = ap (λ (b : Bool). if b then difference_from first (place + 1) more x else place) (not_true_is (agrees_at first place x) (among_passing (λ o. not (agrees_at first place o)) x os i).passes)
+    here x i = ap (λ (b : Bool). if b then difference_from first (place + 1) more x else place) (not-true (agrees_at first place x) (among_passing (λ o. not (agrees_at first place o)) x os i).passes)
 
     later : (x : OutcomeValue) → IsAmong x (behind first place more os) → difference_from first place (suc more) x ≡ difference_from first (place + 1) more x
     later x i = ap (λ (b : Bool). if b then difference_from first (place + 1) more x else place) (among_passing (agrees_at first place) x os (rising_among first more (place + 1) x (alike first place os) i)).passes

@@ -5,6 +5,7 @@ use Rattle.std.proofs.lemmas.Bool.Decides.{nat_tests}
 use Rattle.std.proofs.lemmas.List.{append-nil}
 use Rattle.std.specs.Prelude.{◌==◌, filter, find, cond, if◌then◌else◌}
 use Rattle.std.specs.List.{list_all}
+use Rattle.egl_calls.proofs.Truths.{and_first, and_second}
 use Rattle.egl_calls.specs.Errors.{is_waiting}
 use Rattle.egl_calls.specs.declared.entries.Entry.{Entry}
 use Rattle.egl_model.specs.State.{State}
@@ -24,7 +25,7 @@ use Rattle.trace_model.proofs.FollowsLaws.{all_follow}
 use Rattle.trace_model.proofs.OutcomeLaws.{over, no_entry}
 use Rattle.trace_model.proofs.RestLaws.{able_is}
 use Rattle.trace_model.proofs.SerialLaws.{state_more}
-use Rattle.trace_model.proofs.TurnLaws.{and_first, and_second, turn_at}
+use Rattle.trace_model.proofs.TurnLaws.{turn_at}
 use Rattle.trace_check.proofs.HoldsLaws.{Plays, no_plays, plays_more}
 use Rattle.trace_check.proofs.RunLaws.{is_next}
 use Rattle.trace_outcomes.specs.Histories.{able_threads, after, branches, histories_from, histories}

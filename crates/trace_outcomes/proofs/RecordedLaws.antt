@@ -4,6 +4,7 @@ use Rattle.std.proofs.lemmas.List.{append-nil}
 use Rattle.std.proofs.lemmas.Slice.Eq.{bytes_eq-Decides}
 use Rattle.std.specs.Prelude.{codes, if◌then◌else◌, is_some}
 use Rattle.std.specs.Str.{bytes_eq}
+use Rattle.std.proofs.lemmas.Bool.{and_parts}
 use Rattle.egl_calls.specs.declared.entries.Entry.{Entry}
 use Rattle.trace_reader.specs.Order.{IsTrace}
 use Rattle.trace_reader.specs.Traces.{TraceValue}
@@ -133,10 +134,6 @@ holding_holds : (v : Verdict) → is_holding v ≡ true → v ≡ Holds
 holding_holds Holds h = refl
 holding_holds (Differs place expected found) h = absurd (let f : false ≡ true = h in cc)
 holding_holds (Incomplete thread line) h = absurd (let f : false ≡ true = h in cc)
-
-both : (a b : Bool) → (a && b) ≡ true → (a ≡ true) × (b ≡ true)
-both true b h = (refl, h)
-both false b h = absurd (let f : false ≡ true = h in cc)
 
 -- ---- A recording that holds.
 -- its entries are those of a journal, behind which the other lines hold
@@ -296,7 +293,7 @@ module _ (t : TraceValue) (is : IsTrace t) where
   recorded_is : (ls : List RecordedLine) (journal : List Entry) → walked t [] (entries_in ls) ≡ Some journal → is_recorded t ls journal ≡ true → IsRecorded t ls (outcome_of t journal)
   unfolding is_recorded
   recorded_is ls journal w r =
-      let tests = both (are_same (told_lines t.lines (entries_in ls)) (told_lines t.lines (map line_of_entry journal))) (is_holding (behind_entries t journal (1 + entry_count ls) (rest_in ls))) r in
+      let tests = and_parts (are_same (told_lines t.lines (entries_in ls)) (told_lines t.lines (map line_of_entry journal))) (is_holding (behind_entries t journal (1 + entry_count ls) (rest_in ls))) r in
       let lines = holding_holds (behind_entries t journal (1 + entry_count ls) (rest_in ls)) tests.1 in
       let go = walked_plays (entries_in ls) [] journal (no_plays t) w in
       let play = play_of t journal go.plays in

@@ -11,10 +11,11 @@ ghost use Rattle.trace_outcomes.specs.Outcomes.{OutcomeValue, key_of, outcomes};
 ghost use Rattle.trace_outcomes.specs.Recordings.{AreAlike, HaveOneOutcome, IsRecorded, recorded_outcome};
 ghost use Rattle.trace_outcomes.specs.Plays.{IsAmong, IsHistory, HasOutcome, IsListed, AreDistinct, RiseByDifference};
 
-/// The histories are exactly the journals that play the trace to the end of all its threads, or until none can go on.
+/// The histories are exactly the journals that play the trace to the end of all its threads, or until none can go on, and no two of them are the same.
 pub fn histories_are_all_plays()
     ensures sound { (t : TraceValue) (journal : List Entry) → IsTrace t → IsAmong journal (histories t) → IsHistory t journal }
     ensures complete { (t : TraceValue) (journal : List Entry) → IsTrace t → IsHistory t journal → IsAmong journal (histories t) }
+    ensures once { (t : TraceValue) → AreDistinct (histories t) }
 {}
 
 /// Each outcome that is listed is that of a history, whose order it has; each history has one of them; no two of them are alike; and those behind the first rise by the first line that they answer otherwise than it.

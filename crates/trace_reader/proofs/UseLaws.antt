@@ -6,10 +6,11 @@ use Rattle.std.proofs.lemmas.List.Elements.{All-nil, All-cons, All-append}
 use Rattle.std.specs.Prelude.{if◌then◌else◌}
 use Rattle.std.specs.List.{list_any, list_all}
 use Rattle.std.specs.Option.{option_map}
+use Rattle.egl_calls.proofs.Truths.{neither_first, neither_second, and_first, and_second, and_true}
 use Rattle.egl_calls.specs.Calls.{CallValue}
 use Rattle.egl_calls.specs.declared.kinds.Kind.{Kind}
 use Rattle.call_table.specs.declared.forms.Form.{Form}
-use Rattle.call_table.specs.declared.forms.Form.TheVariants.{Number, NumberOrVariable, PostNumber, Timeout, AttributeList, NumberList, NameList, Payload}
+use Rattle.call_table.specs.declared.forms.Form.TheVariants.{Number, Config, NumberOrVariable, PostNumber, Timeout, AttributeList, NumberList, NameList, Payload}
 use Rattle.trace_reader.specs.declared.arguments.Argument.{Argument}
 use Rattle.trace_reader.specs.declared.arguments.Argument.TheVariants.{Value, Listed, Given}
 use Rattle.trace_reader.specs.declared.references.Used.{Used}
@@ -44,6 +45,7 @@ in_items names place listed (w ∷ ws) h =
 
 of_argument : (names : List (List ℕ)) (place listed : ℕ) (f : Form) (w : List ℕ) → place_behind place f ≤ 8 → is_list f ≡ false → All (HasItsPlace listed) (argument_references names place f w)
 of_argument names place listed Number w h n = All-nil (HasItsPlace listed)
+of_argument names place listed Config w h n = All-nil (HasItsPlace listed)
 of_argument names place listed NumberOrVariable w h n = at_one names false place listed w (omega (arith, h))
 of_argument names place listed PostNumber w h n = All-nil (HasItsPlace listed)
 of_argument names place listed Timeout w h n = All-nil (HasItsPlace listed)
@@ -53,21 +55,13 @@ of_argument names place listed NameList w h n = absurd (false≢true (sym n))
 of_argument names place listed Payload w h n = All-nil (HasItsPlace listed)
 
 -- ---- Arguments without a list.
-neither_left : (a b : Bool) → (a || b) ≡ false → a ≡ false
-neither_left true b h = absurd (false≢true (sym h))
-neither_left false b h = refl
-
-neither_right : (a b : Bool) → (a || b) ≡ false → b ≡ false
-neither_right true b h = absurd (false≢true (sym h))
-neither_right false b h = h
-
 listless : (kind : Kind) (names : List (List ℕ)) (place listed : ℕ) (fs : List Form) (ws : List (List ℕ)) → are_placed kind place fs ≡ true → list_any is_list fs ≡ false → All (HasItsPlace listed) (references names place fs ws)
 listless kind names place listed [] ws p n = All-nil (HasItsPlace listed)
 listless kind names place listed (f ∷ fs) [] p n = All-nil (HasItsPlace listed)
 listless kind names place listed (f ∷ fs) (w ∷ ws) p n =
     All-append (HasItsPlace listed) (argument_references names place f w) (references names (place_behind place f) fs ws)
-    (of_argument names place listed f w (place_within kind place f fs p) (neither_left (is_list f) (list_any is_list fs) n))
-    (listless kind names (place_behind place f) listed fs ws (next_placed kind place (place_behind place f) f fs p refl) (neither_right (is_list f) (list_any is_list fs) n))
+    (of_argument names place listed f w (place_within kind place f fs p) (neither_first (is_list f) (list_any is_list fs) n))
+    (listless kind names (place_behind place f) listed fs ws (next_placed kind place (place_behind place f) f fs p refl) (neither_second (is_list f) (list_any is_list fs) n))
 
 -- the first of some arguments and the others
 record Parted (f : Form) (w : List ℕ) (fs : List Form) (ws : List (List ℕ)) (given : List Argument) : Type 0 where
@@ -101,6 +95,7 @@ by_payload (Some said) a list h = let e : Given said ≡ a = cc in ap (λ (x : A
 
 no_list : (f : Form) (w : List ℕ) (a : Argument) (list : List ℤ) → argument_of f w ≡ Some a → is_list f ≡ false → list_behind list (a ∷ []) ≡ list
 no_list Number w a list h n = by_value (argument_number w) a list h
+no_list Config w a list h n = by_value (argument_number w) a list h
 no_list NumberOrVariable w a list h n = by_value (item_number true w) a list h
 no_list PostNumber w a list h n = by_value (post_number w) a list h
 no_list Timeout w a list h n = by_value (timeout_number w) a list h
@@ -119,8 +114,8 @@ same_list (f ∷ fs) [] given list h n = absurd (let o : Option (List Argument) 
 same_list (f ∷ fs) (w ∷ ws) given list h n =
     let p = parted f w fs ws given h in
     ap (list_behind list) (sym p.joined) ∙ list_more list p.one p.more
-    ∙ ap (λ (zs : List ℤ). list_behind zs p.more) (no_list f w p.one list p.first (neither_left (is_list f) (list_any is_list fs) n))
-    ∙ same_list fs ws p.more list p.others (neither_right (is_list f) (list_any is_list fs) n)
+    ∙ ap (λ (zs : List ℤ). list_behind zs p.more) (no_list f w p.one list p.first (neither_first (is_list f) (list_any is_list fs) n))
+    ∙ same_list fs ws p.more list p.others (neither_second (is_list f) (list_any is_list fs) n)
 
 -- ---- The numbers of a list of names.
 more_long : (o : Option ℤ) (rest : Option (List ℤ)) (n : ℕ) (zs : List ℤ) → ((ys : List ℤ) → rest ≡ Some ys → length ys ≡ n) → with_item o rest ≡ Some zs → length zs ≡ n + 1
@@ -145,14 +140,6 @@ by_names w a list None e h = absurd (let n : Option Argument = None in let g : n
 by_names w a list (Some zs) e h = let g : Listed zs ≡ a = cc in list_long w zs e ∙ ap (λ (x : Argument). length (list_behind list (x ∷ []))) g
 
 -- ---- All arguments.
-first_of : (a b : Bool) → (a && b) ≡ true → a ≡ true
-first_of true b h = refl
-first_of false b h = h
-
-second_of : (a b : Bool) → (a && b) ≡ true → b ≡ true
-second_of true b h = h
-second_of false b h = absurd (false≢true h)
-
 alone : (b : Bool) → (not true || not b) ≡ true → b ≡ false
 alone true h = absurd (false≢true h)
 alone false h = refl
@@ -161,6 +148,7 @@ alone false h = refl
 of_form : (kind : Kind) (names : List (List ℕ)) (place : ℕ) (f : Form) (w : List ℕ) (fs : List Form) (ws : List (List ℕ)) (a : Argument) (more : List Argument) (list : List ℤ) → argument_of f w ≡ Some a → arguments_of fs ws ≡ Some more → place_behind place f ≤ 8 → (not (is_list f) || not (list_any is_list fs)) ≡ true →
     All (HasItsPlace (length (list_behind (list_behind list (a ∷ [])) more))) (argument_references names place f w)
 of_form kind names place Number w fs ws a more list h g p o = of_argument names place _ Number w p refl
+of_form kind names place Config w fs ws a more list h g p o = of_argument names place _ Config w p refl
 of_form kind names place NumberOrVariable w fs ws a more list h g p o = of_argument names place _ NumberOrVariable w p refl
 of_form kind names place PostNumber w fs ws a more list h g p o = of_argument names place _ PostNumber w p refl
 of_form kind names place Timeout w fs ws a more list h g p o = of_argument names place _ Timeout w p refl
@@ -181,8 +169,8 @@ of_arguments kind names place (f ∷ fs) (w ∷ ws) given list h p o =
     let same : list_behind (list_behind list (q.one ∷ [])) q.more ≡ list_behind list given = sym (list_more list q.one q.more) ∙ ap (list_behind list) q.joined in
     let P : List ℤ → Type 0 = λ zs. All (HasItsPlace (length zs)) (argument_references names place f w ++ references names (place_behind place f) fs ws) in
     subst P same (All-append (HasItsPlace _) (argument_references names place f w) (references names (place_behind place f) fs ws)
-    (of_form kind names place f w fs ws q.one q.more list q.first q.others (place_within kind place f fs p) (first_of (not (is_list f) || not (list_any is_list fs)) (have_one_list fs) o))
-    (of_arguments kind names (place_behind place f) fs ws q.more (list_behind list (q.one ∷ [])) q.others (next_placed kind place (place_behind place f) f fs p refl) (second_of (not (is_list f) || not (list_any is_list fs)) (have_one_list fs) o)))
+    (of_form kind names place f w fs ws q.one q.more list q.first q.others (place_within kind place f fs p) (and_first (not (is_list f) || not (list_any is_list fs)) (have_one_list fs) o))
+    (of_arguments kind names (place_behind place f) fs ws q.more (list_behind list (q.one ∷ [])) q.others (next_placed kind place (place_behind place f) f fs p refl) (and_second (not (is_list f) || not (list_any is_list fs)) (have_one_list fs) o)))
 
 of_call : (kind : Kind) (names : List (List ℕ)) (fs : List Form) (ws : List (List ℕ)) (call : CallValue) (o : Option (List Argument)) → arguments_of fs ws ≡ o → Some call ≡ option_map (call_with kind) o → are_placed kind 0 fs ≡ true → have_one_list fs ≡ true → All (HasItsPlace (length call.list)) (references names 0 fs ws)
 of_call kind names fs ws call None e h p o = absurd (let n : Option CallValue = None in let g : Some call ≡ n = h in cc)
@@ -204,10 +192,6 @@ and_assoc : (a b c : Bool) → ((a && b) && c) ≡ (a && (b && c))
 and_assoc true b c = refl
 and_assoc false b c = refl
 
-and_nothing : (a : Bool) → (a && true) ≡ a
-and_nothing true = refl
-and_nothing false = refl
-
 pub more_items : (names : List (List ℕ)) (uses uses' before : List Reference) (place n : ℕ) (ws : List (List ℕ)) (w : List ℕ) → (n < length ws) × (w ≡ get_or ws n w) → uses' ≡ uses ++ reference_at names true place w → uses ++ item_references names place (drop n ws) ≡ before → uses' ++ item_references names (place + 1) (drop (n + 1) ws) ≡ before
 more_items names uses uses' before place n ws w h u e =
     ap (λ (rs : List Reference). rs ++ item_references names (place + 1) (drop (n + 1) ws)) u
@@ -228,7 +212,7 @@ pub no_more_items : (names : List (List ℕ)) (uses before : List Reference) (pl
 no_more_items names uses before place n ws h e = sym (append-nil uses) ∙ sym (ap (λ (rs : List Reference). uses ++ rs) (at_drop_all (item_references names place) ws n (omega (arith, h)))) ∙ e
 
 pub none_unknown : (names : List (List ℕ)) (known : Bool) (n : ℕ) (ws : List (List ℕ)) (all : Bool) → n ≡ length ws → (known && list_all (is_known names) (drop n ws)) ≡ all → known ≡ all
-none_unknown names known n ws all h e = sym (and_nothing known) ∙ sym (ap (λ (b : Bool). known && b) (at_drop_all (list_all (is_known names)) ws n (omega (arith, h)))) ∙ e
+none_unknown names known n ws all h e = sym (and_true known) ∙ sym (ap (λ (b : Bool). known && b) (at_drop_all (list_all (is_known names)) ws n (omega (arith, h)))) ∙ e
 
 -- one that is unknown, and one that is known
 with_false : (a : Bool) → false ≡ (a && false)
@@ -239,4 +223,4 @@ pub turned_off : (known known' b one : Bool) → known' ≡ false → b ≡ fals
 turned_off known known' b one e f g = e ∙ with_false known ∙ ap (λ (x : Bool). known && x) (sym f ∙ g)
 
 pub kept : (known known' b one : Bool) → known' ≡ known → b ≡ true → b ≡ one → known' ≡ (known && one)
-kept known known' b one e f g = e ∙ sym (and_nothing known) ∙ ap (λ (x : Bool). known && x) (sym f ∙ g)
+kept known known' b one e f g = e ∙ sym (and_true known) ∙ ap (λ (x : Bool). known && x) (sym f ∙ g)

@@ -121,6 +121,7 @@ fn push_references(
             }
         }
         Form::Number
+        | Form::Config
         | Form::PostNumber
         | Form::Timeout
         | Form::AttributeList
@@ -136,7 +137,8 @@ fn place_behind(place: u32, form: Form) -> u32
     ensures near { result ≤ place + 1 }
 {
     match form {
-        Form::Number | Form::NumberOrVariable | Form::PostNumber | Form::Timeout => place + 1,
+        Form::Number | Form::Config | Form::NumberOrVariable | Form::PostNumber | Form::Timeout =>
+            place + 1,
         Form::AttributeList | Form::NumberList | Form::NameList | Form::Payload => place,
     }
 }

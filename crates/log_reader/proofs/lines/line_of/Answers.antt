@@ -35,7 +35,7 @@ returns-then-not-takes_config-clause-line c =
     let thread : thread_of c.args.threads (word_at ws 0) ≡ Ok c.in-Ok.thread = ap (thread_of c.args.threads) (sym c.word_at.ensures) ∙ sym c.in-Ok.ensures.value in
     let named : Some s ≡ call_named (call_word ws) = c.in-Some.ensures.value ∙ ap call_named c.call.ensures in
     let inside : is_in_logs c.in-Some.kind ≡ true = sym c.is_in_logs.ensures ∙ c.if-not-is_in_logs.false in
-    let plain : takes_config c.in-Some.kind ≡ false = sym c.takes_config.ensures ∙ c.if-not-takes_config.true in
+    let plain : takes_config c.in-Some.forms.now ≡ false = sym c.takes_config.ensures ∙ c.if-not-takes_config.true in
     let P : Result Line Reason → Type 0 = λ r. GivesLine c.line_in.result r in
     subst P
     (ap (λ (o : Option (List ℕ)). line o (map (λ (w : Bor (List ℕ)). w.now) c.arguments-arguments.result.now)) c.target-target.ensures
@@ -51,7 +51,7 @@ returns-clause-line c =
     let thread : thread_of c.args.threads (word_at ws 0) ≡ Ok c.in-Ok.thread = ap (thread_of c.args.threads) (sym c.word_at.ensures) ∙ sym c.in-Ok.ensures.value in
     let named : Some s ≡ call_named (call_word ws) = c.in-Some.ensures.value ∙ ap call_named c.call.ensures in
     let inside : is_in_logs c.in-Some.kind ≡ true = sym c.is_in_logs.ensures ∙ c.if-not-is_in_logs.false in
-    let config : takes_config c.in-Some.kind ≡ true = sym c.takes_config.ensures ∙ c.if-not-takes_config.false in
+    let config : takes_config c.in-Some.forms.now ≡ true = sym c.takes_config.ensures ∙ c.if-not-takes_config.false in
     let forms : c.deref.result.now ≡ with_variable c.in-Some.forms.now = c.deref.ensures.value ∙ c.in-Ok-with_variable.ensures in
     let P : Result Line Reason → Type 0 = λ r. GivesLine c.line_in-2.result r in
     subst P

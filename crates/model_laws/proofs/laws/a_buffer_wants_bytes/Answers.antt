@@ -1,4 +1,4 @@
-use Rattle.model_laws.proofs.BufferLaws.{buffer_wants_bytes, data_is_refused}
+use Rattle.model_laws.proofs.Pixels.BufferLaws.{buffer_wants_bytes, data_is_refused}
 use Rattle.model_laws.proofs.laws.a_buffer_wants_bytes.Goals as goal
 
 pub returns : goal.returns

@@ -1,6 +1,6 @@
 use Rattle.std.proofs.Common.{true, false}
-use Rattle.model_laws.proofs.WaitOutcomes.{by_tests, is_satisfied}
-use Rattle.model_laws.proofs.WaitWords.{satisfied_after, satisfied_before, unsatisfied_after, waits, waits_for_none}
+use Rattle.model_laws.proofs.Waits.WaitOutcomes.{by_tests, is_satisfied}
+use Rattle.model_laws.proofs.Waits.WaitWords.{satisfied_after, satisfied_before, unsatisfied_after, waits, waits_for_none}
 use Rattle.model_laws.proofs.laws.a_client_wait_is_satisfied_waits_or_expires.Goals as goal
 
 pub returns-clause-flush : goal.returns-clause-flush

@@ -1,4 +1,4 @@
-use Rattle.model_laws.proofs.FirstUse.{keeps_sides, takes_none, takes_sides}
+use Rattle.model_laws.proofs.Handles.FirstUse.{keeps_sides, takes_none, takes_sides}
 use Rattle.model_laws.proofs.laws.a_context_takes_the_sides_of_its_first_surface.Goals as goal
 
 pub returns-clause-sides : goal.returns-clause-sides

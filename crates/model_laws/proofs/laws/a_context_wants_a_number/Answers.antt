@@ -1,4 +1,4 @@
-use Rattle.model_laws.proofs.WantLaws.{context_is_refused, context_wants_number}
+use Rattle.model_laws.proofs.Pixels.WantLaws.{context_is_refused, context_wants_number}
 use Rattle.model_laws.proofs.laws.a_context_wants_a_number.Goals as goal
 
 pub returns-clause-faultless : goal.returns-clause-faultless

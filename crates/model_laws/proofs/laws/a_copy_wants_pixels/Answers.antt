@@ -1,4 +1,4 @@
-use Rattle.model_laws.proofs.TextureLaws.{copy_is_refused, copy_wants_pixels}
+use Rattle.model_laws.proofs.Pixels.TextureLaws.{copy_is_refused, copy_wants_pixels}
 use Rattle.model_laws.proofs.laws.a_copy_wants_pixels.Goals as goal
 
 pub returns : goal.returns

@@ -1,4 +1,4 @@
-use Rattle.model_laws.proofs.NameLaws.{deleted_name_is_free}
+use Rattle.model_laws.proofs.Names.NameLaws.{deleted_name_is_free}
 use Rattle.model_laws.proofs.laws.a_deleted_name_is_free.Goals as goal
 
 pub returns : goal.returns

@@ -1,4 +1,4 @@
-use Rattle.model_laws.proofs.DeletionLaws.{deleted_is_unbound}
+use Rattle.model_laws.proofs.Names.DeletionLaws.{deleted_is_unbound}
 use Rattle.model_laws.proofs.laws.a_deleted_object_is_unbound.Goals as goal
 
 pub returns : goal.returns

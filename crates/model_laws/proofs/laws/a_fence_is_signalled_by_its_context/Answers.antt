@@ -1,4 +1,4 @@
-use Rattle.model_laws.proofs.FenceLaws.{flush_leaves, flush_signals, gone_signals, unsignalled_there}
+use Rattle.model_laws.proofs.Waits.FenceLaws.{flush_leaves, flush_signals, gone_signals, unsignalled_there}
 use Rattle.model_laws.proofs.laws.a_fence_is_signalled_by_its_context.Goals as goal
 
 pub returns-clause-ended : goal.returns-clause-ended

@@ -1,4 +1,4 @@
-use Rattle.model_laws.proofs.TextureLaws.{copied_level_alone, copied_pixels_alone, level_alone, pixels_alone}
+use Rattle.model_laws.proofs.Pixels.TextureLaws.{copied_level_alone, copied_pixels_alone, level_alone, pixels_alone}
 use Rattle.model_laws.proofs.laws.a_level_is_given_alone.Goals as goal
 
 pub returns-clause-levels : goal.returns-clause-levels

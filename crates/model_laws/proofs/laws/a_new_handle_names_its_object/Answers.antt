@@ -1,5 +1,5 @@
-use Rattle.model_laws.proofs.NewHandleLaws.{answers_number, gets_handle, undone_stays}
-use Rattle.model_laws.proofs.StepKeeps.{next-step}
+use Rattle.model_laws.proofs.Handles.NewHandleLaws.{answers_number, gets_handle, undone_stays}
+use Rattle.model_laws.proofs.Steps.StepKeeps.{next-step}
 use Rattle.model_laws.proofs.laws.a_new_handle_names_its_object.Goals as goal
 
 pub returns-clause-handle : goal.returns-clause-handle

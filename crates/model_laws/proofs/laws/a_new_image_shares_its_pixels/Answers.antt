@@ -1,5 +1,5 @@
-use Rattle.model_laws.proofs.NewHandleLaws.{image_gets_storage}
-use Rattle.model_laws.proofs.SiblingLaws.{destroying_changes_nothing, image_changes_nothing}
+use Rattle.model_laws.proofs.Handles.NewHandleLaws.{image_gets_storage}
+use Rattle.model_laws.proofs.Pixels.SiblingLaws.{destroying_changes_nothing, image_changes_nothing}
 use Rattle.model_laws.proofs.laws.a_new_image_shares_its_pixels.Goals as goal
 
 pub returns-clause-created : goal.returns-clause-created

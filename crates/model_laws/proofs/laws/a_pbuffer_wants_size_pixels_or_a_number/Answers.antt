@@ -1,4 +1,4 @@
-use Rattle.model_laws.proofs.WantLaws.{pbuffer_is_refused, pbuffer_wants_something}
+use Rattle.model_laws.proofs.Pixels.WantLaws.{pbuffer_is_refused, pbuffer_wants_something}
 use Rattle.model_laws.proofs.laws.a_pbuffer_wants_size_pixels_or_a_number.Goals as goal
 
 pub returns-clause-faultless : goal.returns-clause-faultless

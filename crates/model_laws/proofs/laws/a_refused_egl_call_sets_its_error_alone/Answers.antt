@@ -1,4 +1,4 @@
-use Rattle.model_laws.proofs.RefusalLaws.{other-set_error, record_of-set_error, refused_egl_reply, refused_egl_state, rest-set_error}
+use Rattle.model_laws.proofs.Steps.RefusalLaws.{other-set_error, record_of-set_error, refused_egl_reply, refused_egl_state, rest-set_error}
 use Rattle.model_laws.proofs.laws.a_refused_egl_call_sets_its_error_alone.Goals as goal
 
 pub returns-clause-reply : goal.returns-clause-reply

@@ -1,4 +1,4 @@
-use Rattle.model_laws.proofs.RefusalLaws.{note_error-first, note_error-later, note_error-others, note_error-rest, refused_gl_reply, refused_gl_state}
+use Rattle.model_laws.proofs.Steps.RefusalLaws.{note_error-first, note_error-later, note_error-others, note_error-rest, refused_gl_reply, refused_gl_state}
 use Rattle.model_laws.proofs.laws.a_refused_gl_call_sets_its_error_alone.Goals as goal
 
 pub returns-clause-reply : goal.returns-clause-reply

@@ -1,4 +1,4 @@
-use Rattle.model_laws.proofs.RenderbufferLaws.{renderbuffer_wants_pixels, storage_is_refused}
+use Rattle.model_laws.proofs.Pixels.RenderbufferLaws.{renderbuffer_wants_pixels, storage_is_refused}
 use Rattle.model_laws.proofs.laws.a_renderbuffer_wants_pixels.Goals as goal
 
 pub returns : goal.returns

@@ -1,4 +1,4 @@
-use Rattle.model_laws.proofs.WantLaws.{refusal_of_reply, reply_of_refusal, gl_refusal_of_reply, reply_of_gl_refusal, egl_is_done, gl_is_done}
+use Rattle.model_laws.proofs.Pixels.WantLaws.{refusal_of_reply, reply_of_refusal, gl_refusal_of_reply, reply_of_gl_refusal, egl_is_done, gl_is_done}
 use Rattle.model_laws.proofs.laws.a_reply_tells_its_refusal.Goals as goal
 
 pub returns-clause-egl : goal.returns-clause-egl

@@ -1,4 +1,4 @@
-use Rattle.model_laws.proofs.StatusLaws.{answers_bare, answers_complete, answers_lacking, answers_surfaceless, answers_unfit, answers_unlike, answers_window, bare_if, complete_if, lacking_if, unfit_if, unlike_if}
+use Rattle.model_laws.proofs.Names.StatusLaws.{answers_bare, answers_complete, answers_lacking, answers_surfaceless, answers_unfit, answers_unlike, answers_window, bare_if, complete_if, lacking_if, unfit_if, unlike_if}
 use Rattle.model_laws.proofs.laws.a_status_tells_what_is_attached.Goals as goal
 
 pub returns-clause-complete : goal.returns-clause-complete

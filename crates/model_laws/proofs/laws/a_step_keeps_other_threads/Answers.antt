@@ -1,4 +1,4 @@
-use Rattle.model_laws.proofs.StepKeeps.{keeps-step}
+use Rattle.model_laws.proofs.Steps.StepKeeps.{keeps-step}
 use Rattle.model_laws.proofs.laws.a_step_keeps_other_threads.Goals as goal
 
 pub returns-clause-others : goal.returns-clause-others

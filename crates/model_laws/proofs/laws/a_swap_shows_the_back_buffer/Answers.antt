@@ -1,4 +1,4 @@
-use Rattle.model_laws.proofs.SwapLaws.{back_emptied, back_preserved, back_stays_whole, front_shows, has_back, none_shows, others_show}
+use Rattle.model_laws.proofs.Windows.SwapLaws.{back_emptied, back_preserved, back_stays_whole, front_shows, has_back, none_shows, others_show}
 use Rattle.model_laws.proofs.laws.a_swap_shows_the_back_buffer.Goals as goal
 
 pub returns-clause-there : goal.returns-clause-there

@@ -1,6 +1,6 @@
 use Rattle.egl_model.specs.State.{State}
 use Rattle.egl_model.specs.Sweep.{roots}
-use Rattle.model_laws.proofs.SweepLaws.{has_object-sweep, length-swept, object_at-sweep, reached-sweep}
+use Rattle.model_laws.proofs.References.SweepLaws.{has_object-sweep, length-swept, object_at-sweep, reached-sweep}
 use Rattle.model_laws.proofs.laws.a_sweep_keeps_what_is_reached.Goals as goal
 
 pub returns-clause-object : goal.returns-clause-object

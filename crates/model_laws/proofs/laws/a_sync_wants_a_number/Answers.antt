@@ -1,4 +1,4 @@
-use Rattle.model_laws.proofs.NewSyncLaws.{sync_is_refused, sync_wants_number}
+use Rattle.model_laws.proofs.Waits.NewSyncLaws.{sync_is_refused, sync_wants_number}
 use Rattle.model_laws.proofs.laws.a_sync_wants_a_number.Goals as goal
 
 pub returns-clause-faultless : goal.returns-clause-faultless

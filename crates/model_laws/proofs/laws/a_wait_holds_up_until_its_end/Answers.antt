@@ -1,4 +1,4 @@
-use Rattle.model_laws.proofs.RefusalLaws.{held_up, no_wait, still_waits, wait_ends}
+use Rattle.model_laws.proofs.Steps.RefusalLaws.{held_up, no_wait, still_waits, wait_ends}
 use Rattle.model_laws.proofs.laws.a_wait_holds_up_until_its_end.Goals as goal
 
 pub returns-clause-held_up : goal.returns-clause-held_up

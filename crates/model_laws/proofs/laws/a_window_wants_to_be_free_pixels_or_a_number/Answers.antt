@@ -1,4 +1,4 @@
-use Rattle.model_laws.proofs.WantedWindows.{window_is_refused, window_wants_something}
+use Rattle.model_laws.proofs.Pixels.WantedWindows.{window_is_refused, window_wants_something}
 use Rattle.model_laws.proofs.laws.a_window_wants_to_be_free_pixels_or_a_number.Goals as goal
 
 pub returns-clause-faultless : goal.returns-clause-faultless

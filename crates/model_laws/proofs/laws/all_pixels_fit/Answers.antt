@@ -1,5 +1,5 @@
-use Rattle.model_laws.proofs.PixelLaws.{live_bytes-created_context, live_bytes-created_pbuffer, live_bytes-created_window}
-use Rattle.model_laws.proofs.StepKeeps.{keeps-step, sound-history}
+use Rattle.model_laws.proofs.Pixels.PixelLaws.{live_bytes-created_context, live_bytes-created_pbuffer, live_bytes-created_window}
+use Rattle.model_laws.proofs.Steps.StepKeeps.{keeps-step, sound-history}
 use Rattle.model_laws.proofs.laws.all_pixels_fit.Goals as goal
 
 pub returns-clause-pbuffer : goal.returns-clause-pbuffer

@@ -1,4 +1,4 @@
-use Rattle.model_laws.proofs.WantLaws.{image_is_refused, image_wants_number}
+use Rattle.model_laws.proofs.Pixels.WantLaws.{image_is_refused, image_wants_number}
 use Rattle.model_laws.proofs.laws.an_image_wants_a_number.Goals as goal
 
 pub returns-clause-faultless : goal.returns-clause-faultless

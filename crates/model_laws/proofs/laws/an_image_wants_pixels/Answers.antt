@@ -1,4 +1,4 @@
-use Rattle.model_laws.proofs.TextureLaws.{image_is_refused, image_wants_pixels}
+use Rattle.model_laws.proofs.Pixels.TextureLaws.{image_is_refused, image_wants_pixels}
 use Rattle.model_laws.proofs.laws.an_image_wants_pixels.Goals as goal
 
 pub returns : goal.returns

@@ -1,4 +1,4 @@
-use Rattle.model_laws.proofs.WantLaws.{creations_answer}
+use Rattle.model_laws.proofs.Pixels.WantLaws.{creations_answer}
 use Rattle.model_laws.proofs.laws.creations_alone_want.Goals as goal
 
 pub returns : goal.returns

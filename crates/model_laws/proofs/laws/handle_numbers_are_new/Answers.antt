@@ -1,4 +1,4 @@
-use Rattle.model_laws.proofs.StepKeeps.{handles-replay, keeps-step}
+use Rattle.model_laws.proofs.Steps.StepKeeps.{handles-replay, keeps-step}
 use Rattle.model_laws.proofs.laws.handle_numbers_are_new.Goals as goal
 
 pub returns-clause-step : goal.returns-clause-step

@@ -1,5 +1,5 @@
-use Rattle.model_laws.proofs.DestroyLaws.{handle_removed, others_stay}
-use Rattle.model_laws.proofs.StepKeeps.{kept-step}
+use Rattle.model_laws.proofs.Handles.DestroyLaws.{handle_removed, others_stay}
+use Rattle.model_laws.proofs.Steps.StepKeeps.{kept-step}
 use Rattle.model_laws.proofs.laws.handles_stay_valid.Goals as goal
 
 pub returns-clause-other_calls : goal.returns-clause-other_calls

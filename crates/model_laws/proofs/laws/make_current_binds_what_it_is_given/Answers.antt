@@ -1,4 +1,4 @@
-use Rattle.model_laws.proofs.CurrentLaws.{context_is_bound, draw_is_bound, handles_stay, no_draw, no_read, none_current, read_is_bound, waits_for_nothing}
+use Rattle.model_laws.proofs.Handles.CurrentLaws.{context_is_bound, draw_is_bound, handles_stay, no_draw, no_read, none_current, read_is_bound, waits_for_nothing}
 use Rattle.model_laws.proofs.laws.make_current_binds_what_it_is_given.Goals as goal
 
 pub returns-clause-released : goal.returns-clause-released

@@ -1,4 +1,4 @@
-use Rattle.model_laws.proofs.StepKeeps.{sound-history, sound-opening, sound-step}
+use Rattle.model_laws.proofs.Steps.StepKeeps.{sound-history, sound-opening, sound-step}
 use Rattle.model_laws.proofs.laws.names_lead_to_objects_of_their_kind.Goals as goal
 
 pub returns-clause-opening : goal.returns-clause-opening

@@ -1,5 +1,5 @@
 use Rattle.egl_model.specs.State.{opening}
-use Rattle.model_laws.proofs.LitterLaws.{no_litter-opening, no_litter-replay, no_litter-step, no_litter-sweep}
+use Rattle.model_laws.proofs.References.LitterLaws.{no_litter-opening, no_litter-replay, no_litter-step, no_litter-sweep}
 use Rattle.model_laws.proofs.laws.no_litter_is_left.Goals as goal
 
 pub returns-clause-sweep : goal.returns-clause-sweep

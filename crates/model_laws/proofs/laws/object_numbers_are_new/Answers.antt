@@ -1,4 +1,4 @@
-use Rattle.model_laws.proofs.StepKeeps.{keeps-step, objects-replay}
+use Rattle.model_laws.proofs.Steps.StepKeeps.{keeps-step, objects-replay}
 use Rattle.model_laws.proofs.laws.object_numbers_are_new.Goals as goal
 
 pub returns-clause-step : goal.returns-clause-step

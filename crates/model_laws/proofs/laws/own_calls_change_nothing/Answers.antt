@@ -1,4 +1,4 @@
-use Rattle.model_laws.proofs.RefusalLaws.{own_state}
+use Rattle.model_laws.proofs.Steps.RefusalLaws.{own_state}
 use Rattle.model_laws.proofs.laws.own_calls_change_nothing.Goals as goal
 
 pub returns : goal.returns

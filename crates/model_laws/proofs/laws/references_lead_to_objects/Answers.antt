@@ -1,5 +1,5 @@
-use Rattle.model_laws.proofs.LinkLaws.{chains_are_short}
-use Rattle.model_laws.proofs.StepKeeps.{sound-opening, sound-step}
+use Rattle.model_laws.proofs.References.LinkLaws.{chains_are_short}
+use Rattle.model_laws.proofs.Steps.StepKeeps.{sound-opening, sound-step}
 use Rattle.model_laws.proofs.laws.references_lead_to_objects.Goals as goal
 
 pub returns-clause-opening : goal.returns-clause-opening

@@ -1,4 +1,4 @@
-use Rattle.model_laws.proofs.HistoryLaws.{IsLegalFrom-append, replay_from-append}
+use Rattle.model_laws.proofs.Steps.HistoryLaws.{IsLegalFrom-append, replay_from-append}
 use Rattle.model_laws.proofs.laws.replay_goes_on.Goals as goal
 
 pub returns-clause-state : goal.returns-clause-state

@@ -1,4 +1,4 @@
-use Rattle.model_laws.proofs.SiblingLaws.{level_copied_alone, level_given_alone, renderbuffer_stored_alone, renderbuffer_targeted_alone, texture_targeted_alone}
+use Rattle.model_laws.proofs.Pixels.SiblingLaws.{level_copied_alone, level_given_alone, renderbuffer_stored_alone, renderbuffer_targeted_alone, texture_targeted_alone}
 use Rattle.model_laws.proofs.laws.siblings_keep_their_pixels.Goals as goal
 
 pub returns-clause-given : goal.returns-clause-given

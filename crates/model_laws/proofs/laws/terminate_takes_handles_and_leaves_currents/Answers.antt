@@ -1,4 +1,4 @@
-use Rattle.model_laws.proofs.DisplayLaws.{context_stays, draw_stays, no_handle_left, read_stays}
+use Rattle.model_laws.proofs.Handles.DisplayLaws.{context_stays, draw_stays, no_handle_left, read_stays}
 use Rattle.model_laws.proofs.laws.terminate_takes_handles_and_leaves_currents.Goals as goal
 
 pub returns-clause-handles : goal.returns-clause-handles

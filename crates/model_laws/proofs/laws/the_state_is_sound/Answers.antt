@@ -1,5 +1,5 @@
 use Rattle.egl_model.specs.State.{opening}
-use Rattle.model_laws.proofs.StepKeeps.{sound-opening, sound-replay, sound-step}
+use Rattle.model_laws.proofs.Steps.StepKeeps.{sound-opening, sound-replay, sound-step}
 use Rattle.model_laws.proofs.laws.the_state_is_sound.Goals as goal
 
 pub returns-clause-opening : goal.returns-clause-opening

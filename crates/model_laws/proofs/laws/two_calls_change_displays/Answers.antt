@@ -1,6 +1,6 @@
-use Rattle.model_laws.proofs.DisplayLaws.{flag_off, flag_on, other_off, other_on}
-use Rattle.model_laws.proofs.FrameLaws.{turns_no_flag}
-use Rattle.model_laws.proofs.StepKeeps.{flags-step}
+use Rattle.model_laws.proofs.Handles.DisplayLaws.{flag_off, flag_on, other_off, other_on}
+use Rattle.model_laws.proofs.Steps.FrameLaws.{turns_no_flag}
+use Rattle.model_laws.proofs.Steps.StepKeeps.{flags-step}
 use Rattle.model_laws.proofs.laws.two_calls_change_displays.Goals as goal
 
 pub returns-clause-first : goal.returns-clause-first

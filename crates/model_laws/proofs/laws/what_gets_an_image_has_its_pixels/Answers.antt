@@ -1,4 +1,4 @@
-use Rattle.model_laws.proofs.ImageLaws.{base_of_image, levels_of_image, pixels_of_image, sides_of_image}
+use Rattle.model_laws.proofs.Pixels.ImageLaws.{base_of_image, levels_of_image, pixels_of_image, sides_of_image}
 use Rattle.model_laws.proofs.laws.what_gets_an_image_has_its_pixels.Goals as goal
 
 pub returns-clause-base : goal.returns-clause-base

@@ -1,5 +1,5 @@
 use Rattle.egl_model.specs.State.{opening}
-use Rattle.model_laws.proofs.StepKeeps.{keeps-step, windows-replay}
+use Rattle.model_laws.proofs.Steps.StepKeeps.{keeps-step, windows-replay}
 use Rattle.model_laws.proofs.laws.windows_keep_their_sides.Goals as goal
 
 pub returns-clause-step : goal.returns-clause-step

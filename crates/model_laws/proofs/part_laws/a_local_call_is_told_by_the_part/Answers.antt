@@ -1,4 +1,4 @@
-use Rattle.model_laws.proofs.Framing.{local_as_step, part-local}
+use Rattle.model_laws.proofs.Steps.Framing.{local_as_step, part-local}
 use Rattle.model_laws.proofs.part_laws.a_local_call_is_told_by_the_part.Goals as goal
 
 pub returns-clause-step : goal.returns-clause-step

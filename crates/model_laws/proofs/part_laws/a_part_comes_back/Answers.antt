@@ -1,4 +1,4 @@
-use Rattle.model_laws.proofs.Returns.{census-hide, hide-local, own-hide, part_back}
+use Rattle.model_laws.proofs.Parts.Returns.{census-hide, hide-local, own-hide, part_back}
 use Rattle.model_laws.proofs.part_laws.a_part_comes_back.Goals as goal
 
 pub returns-clause-taken : goal.returns-clause-taken

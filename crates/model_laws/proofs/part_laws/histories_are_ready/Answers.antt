@@ -1,8 +1,8 @@
 use Rattle.std.proofs.Common.{arith}
 use Rattle.std.proofs.lemmas.List.{length-replicate}
 use Rattle.egl_model.specs.State.{capacity, initial}
-use Rattle.model_laws.proofs.Framing.{ready-step}
-use Rattle.model_laws.proofs.StepKeeps.{sound-opening}
+use Rattle.model_laws.proofs.Steps.Framing.{ready-step}
+use Rattle.model_laws.proofs.Steps.StepKeeps.{sound-opening}
 use Rattle.model_laws.proofs.part_laws.histories_are_ready.Goals as goal
 
 pub returns-clause-opening : goal.returns-clause-opening

@@ -1,8 +1,8 @@
 use Rattle.egl_model.specs.Parts.{part_of}
 use Rattle.model_laws.specs.Local.{is_local, locally, part_after}
 use Rattle.model_laws.specs.Frame.{IsReady}
-use Rattle.model_laws.proofs.Framing.{has_frame}
-use Rattle.model_laws.proofs.LateEntry.{late_entry}
+use Rattle.model_laws.proofs.Steps.Framing.{has_frame}
+use Rattle.model_laws.proofs.Parts.LateEntry.{late_entry}
 use Rattle.model_laws.proofs.part_laws.local_calls_may_come_late.Goals as goal
 
 pub returns : goal.returns

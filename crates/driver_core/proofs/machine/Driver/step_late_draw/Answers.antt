@@ -1,9 +1,8 @@
 use Rattle.std.proofs.Common.{◌∙◌, ap, refl, sym, subst, Option}
 use Rattle.egl_calls.specs.Calls.{CallValue}
-use Rattle.egl_calls.specs.declared.kinds.Kind.TheVariants.{Gl}
 use Rattle.egl_model.specs.State.{State}
 use Rattle.egl_model.specs.Step.{Stepped}
-use Rattle.model_laws.proofs.LateDraws.{late_has_context, late_refused}
+use Rattle.model_laws.proofs.Parts.LateDraws.{late_has_context, late_refused}
 use Rattle.driver_core.specs.LateDraws.{IsLeft, drawn_late}
 use Rattle.driver_core.specs.Machine.{Machine}
 use Rattle.driver_core.specs.declared.drawings.Drawing.{Drawing}

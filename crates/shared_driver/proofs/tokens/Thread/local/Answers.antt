@@ -4,7 +4,7 @@ use Rattle.std.proofs.lemmas.Bool.{and_parts}
 use Rattle.egl_calls.specs.declared.entries.Entry.{Entry}
 use Rattle.egl_model.specs.History.{replay_from}
 use Rattle.model_laws.specs.Local.{is_local}
-use Rattle.model_laws.proofs.OwnedPixels.{draw_owned}
+use Rattle.model_laws.proofs.Parts.OwnedPixels.{draw_owned}
 use Rattle.egl_model.specs.Parts.{Private, part_of}
 use Rattle.egl_model.specs.Step.{step}
 use Rattle.turn_lock.specs.Passes.{view_of}

@@ -1,0 +1,13 @@
+pub mod KeptNames
+pub mod GlCalls
+pub mod NameCalls
+pub mod TextureCalls
+pub mod BufferCalls
+pub mod RenderbufferCalls
+pub mod FramebufferCalls
+pub mod DrawCalls
+pub mod CopyCalls
+pub mod ImageCalls
+pub mod EglCalls
+pub mod WindowCalls
+pub mod SyncCalls

@@ -1,0 +1,12 @@
+pub mod LinkedSteps
+pub mod Moves
+pub mod CurrentMoves
+pub mod WholeMoves
+pub mod FrameMoves
+pub mod Writes
+pub mod FullMoves
+pub mod PutMoves
+pub mod Keeps
+pub mod Setters
+pub mod NewObjects
+pub mod LinkSetters

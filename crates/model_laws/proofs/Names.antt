@@ -1,0 +1,4 @@
+pub mod NameLaws
+pub mod DeletionLaws
+pub mod DetachLaws
+pub mod StatusLaws

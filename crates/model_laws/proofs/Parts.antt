@@ -1,0 +1,9 @@
+pub mod Puts
+pub mod BoundFramebuffers
+pub mod PutWhole
+pub mod OtherParts
+pub mod Locals
+pub mod LateEntry
+pub mod Returns
+pub mod LateDraws
+pub mod OwnedPixels

@@ -1,0 +1,11 @@
+pub mod GraphLaws
+pub mod Held
+pub mod SweepLaws
+pub mod LitterLaws
+pub mod LinkLaws
+pub mod NamedObjects
+pub mod Holders
+pub mod Places
+pub mod Slots
+pub mod WholeSweep
+pub mod RefLaws

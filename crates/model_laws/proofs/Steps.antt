@@ -1,0 +1,9 @@
+pub mod HistoryLaws
+pub mod StepLaws
+pub mod Ways
+pub mod FrameLaws
+pub mod RefusalLaws
+pub mod Blinds
+pub mod StepKeeps
+pub mod StepPut
+pub mod Framing

@@ -1,0 +1,4 @@
+pub mod WaitWords
+pub mod WaitOutcomes
+pub mod NewSyncLaws
+pub mod FenceLaws

@@ -1,0 +1,3 @@
+pub mod WindowUses
+pub mod WindowForms
+pub mod SwapLaws
