@@ -20,8 +20,8 @@ HERE = os.path.dirname(os.path.abspath(__file__))
 sys.path.insert(0, os.path.join(os.path.dirname(HERE), "bench"))
 from all_outcomes import HANDLES, MAKING, outcomes_of
 
-# How long the threads of a run may take, and all runs of a test; and how many runs there are where each may wait so long.
-SECONDS, LIMIT, WAITING_RUNS = 10, 3_600, 50
+# How long the threads of a run may take where they may stall, and where they may not, as a busy machine can be late; how long all runs of a test; and how many runs there are where each may stall.
+SECONDS, PATIENT_SECONDS, LIMIT, WAITING_RUNS = 10, 120, 7_200, 50
 NOT_PLAYED = ("census", "readFront", "readBuffer")
 
 
@@ -41,10 +41,10 @@ def is_played(line):
     return line.call not in NOT_PLAYED
 
 
-def played(driver, trace, runs):
+def played(driver, trace, runs, seconds):
     """The head of the log, and of each run its lines."""
     try:
-        ran = subprocess.run([driver.player, "--seconds", str(SECONDS), "--free", str(runs)], input=trace.encode(), capture_output=True, env=driver.surroundings, timeout=LIMIT)
+        ran = subprocess.run([driver.player, "--seconds", str(seconds), "--free", str(runs)], input=trace.encode(), capture_output=True, env=driver.surroundings, timeout=LIMIT)
     except (OSError, subprocess.TimeoutExpired) as fault:
         raise NotPlayed(str(fault))
     if ran.returncode:
@@ -127,7 +127,7 @@ def held_litmus(driver, oracle, waivers, path, runs):
         text = file.read()
     name, found = os.path.basename(path).removesuffix(".trace"), outcomes_of(text)
     may_stall = any(history.is_stalled() for history in found.found.values())
-    head, each = played(driver, text, min(runs, WAITING_RUNS) if may_stall else runs)
+    head, each = played(driver, text, min(runs, WAITING_RUNS), SECONDS) if may_stall else played(driver, text, runs, PATIENT_SECONDS)
     seen, kept = Counter(), {}
     for rows in each:
         outcome = outcome_of(found.trace, rows)

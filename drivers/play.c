@@ -374,7 +374,7 @@ static void dawdle(unsigned *random) {
 }
 
 // The lines of a thread, each as soon as it has all that it waits for; only what stands around a call is done by turns.
-static void *work_free(void *argument) {
+static _Noreturn void *work_free(void *argument) {
     struct worker *worker = argument;
     unsigned random = (unsigned)(worker->number + 1) * 2654435761u ^ (unsigned)getpid() * 40503u;
     pthread_mutex_lock(&turn);
@@ -396,8 +396,8 @@ static void *work_free(void *argument) {
     }
     ended++;
     pthread_cond_broadcast(&returned);
-    pthread_mutex_unlock(&turn);
-    return NULL;
+    // A thread that is over would take along what a driver keeps of it, and no line says so.
+    for (;;) pthread_cond_wait(&returned, &turn);
 }
 
 // Plays the trace once: the lines stand in the order in which they were done. Where threads don't come to their ends, those that are left
